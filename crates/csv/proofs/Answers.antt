@@ -1,0 +1,78 @@
+-- Each promise of `src/` is met by one answer only.
+use Prim.Native.Nat.{ℕ, suc, _+_, _-_, _≤_, _<_}
+use native.Mathlib.Nat.{le-refl}
+use native.Mathlib.Omega.{arith}
+use mathlib.Core.Path.{_≡_, refl, sym, ap, subst, _∙_}
+use mathlib.Core.List.{List, [], _∷_, _++_}
+use lib.ListN.{length, take, drop, length-drop}
+use lib.Seq.{length-take-le}
+use Rattle.csv.specs.Rfc4180.{COMMA, CR, LF, Cell, Field, File, Readable, Stop, at-end, at-comma, at-row}
+use Rattle.decides.specs.Decides.{Decides}
+use Rattle.csv.specs.Answer.{part, FieldTo, FieldAt}
+use Rattle.csv.specs.declared.Ended.{Ended}
+use Rattle.csv.specs.declared.Ended.the-variants.{Comma, Row, End, Bad}
+use Rattle.csv.proofs.Unique.{nil-cons, heads, stop-halts, field-unique, file-unique}
+use Rattle.csv.proofs.Parts.{part-rest, past}
+
+-- a text has one reading
+pub one-reading : (s : List ℕ) (rs qs : List (List Cell)) → File s rs → File s qs → rs ≡ qs
+one-reading s rs qs p q = file-unique p q refl
+
+module _ (s : List ℕ) (at : ℕ) where
+  part-length : (e : ℕ) → e ≤ length s → length (part at e s) ≡ e - at
+  part-length e h = length-take-le (e - at) (drop at s) (rw length-drop (omega arith))
+
+  -- two fields at one place end at one place
+  one-end : (e d : ℕ) → FieldTo s at e → FieldTo s at d → Stop (drop e s) → Stop (drop d s) → e ≡ d
+  one-end e d p q h k =
+      let u = field-unique (p .field) (q .field) (stop-halts h) (stop-halts k) (sym (part-rest s at e (p .from)) ∙ part-rest s at d (q .from)) in
+      let n : e - at ≡ d - at = sym (part-length e (p .within)) ∙ ap length (u .0) ∙ part-length d (q .within) in
+      let f = p .from in
+      let g = q .from in
+      omega arith
+
+  stops : {l t : List ℕ} → Stop t → l ≡ t → Stop l
+  stops h e = subst Stop (sym e) h
+
+  end-stops : Stop (drop (length s) s)
+  end-stops = stops at-end (past s (length s) (le-refl (length s)))
+
+  not-here : {e : ℕ} {t : List ℕ} → Stop t → FieldTo s at e → drop e s ≡ t → FieldAt s at Bad → ⊥
+  not-here {e} h p k b = b (part at e s) (p .content) (drop e s) (p .field) (stops h k) (part-rest s at e (p .from))
+
+  comma-row : (e d : ℕ) → FieldAt s at (Comma e) → FieldAt s at (Row d) → ⊥
+  comma-row e d p q =
+      let n = one-end e d (p .0) (q .0) (stops at-comma (p .1)) (stops at-row (q .1)) in
+      let z : COMMA ≡ CR = heads (sym (p .1) ∙ ap (λ (i : ℕ). drop i s) n ∙ q .1) in
+      omega arith
+
+  comma-end : (e : ℕ) → FieldAt s at (Comma e) → FieldAt s at End → ⊥
+  comma-end e p q =
+      let n = one-end e (length s) (p .0) q (stops at-comma (p .1)) end-stops in
+      nil-cons (sym (past s e (omega arith)) ∙ p .1)
+
+  row-end : (e : ℕ) → FieldAt s at (Row e) → FieldAt s at End → ⊥
+  row-end e p q =
+      let n = one-end e (length s) (p .0) q (stops at-row (p .1)) end-stops in
+      nil-cons (sym (past s e (omega arith)) ∙ p .1)
+
+  end-bad : FieldAt s at End → FieldAt s at Bad → ⊥
+  end-bad p b = not-here at-end p (past s (length s) (le-refl (length s))) b
+
+  pub one-ended : (a b : Ended) → FieldAt s at a → FieldAt s at b → a ≡ b
+  one-ended (Comma e) (Comma d) p q = ap Comma (one-end e d (p .0) (q .0) (stops at-comma (p .1)) (stops at-comma (q .1)))
+  one-ended (Comma e) (Row d) p q = absurd (comma-row e d p q)
+  one-ended (Comma e) End p q = absurd (comma-end e p q)
+  one-ended (Comma e) Bad p q = absurd (not-here at-comma (p .0) (p .1) q)
+  one-ended (Row e) (Comma d) p q = absurd (comma-row d e q p)
+  one-ended (Row e) (Row d) p q = ap Row (one-end e d (p .0) (q .0) (stops at-row (p .1)) (stops at-row (q .1)))
+  one-ended (Row e) End p q = absurd (row-end e p q)
+  one-ended (Row e) Bad p q = absurd (not-here at-row (p .0) (p .1) q)
+  one-ended End (Comma d) p q = absurd (comma-end d q p)
+  one-ended End (Row d) p q = absurd (row-end d q p)
+  one-ended End End p q = refl
+  one-ended End Bad p q = absurd (end-bad p q)
+  one-ended Bad (Comma d) p q = absurd (not-here at-comma (q .0) (q .1) p)
+  one-ended Bad (Row d) p q = absurd (not-here at-row (q .0) (q .1) p)
+  one-ended Bad End p q = absurd (end-bad q p)
+  one-ended Bad Bad p q = refl

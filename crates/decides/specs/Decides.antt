@@ -1,0 +1,41 @@
+-- What a yes-or-no answer says, and the laws by which callers use one.
+use Prim.Native.Nat.{ℕ}
+use native.Mathlib.Omega.{arith}
+use mathlib.Core.Path.{_≡_, refl}
+use mathlib.Core.Bool.{Bool, true, false, not, _&&_}
+
+-- the answer true says P, and false says that P does not hold
+abbrev pub Decides : Bool → Type 0 → Type 0
+Decides true P = P
+Decides false P = P → ⊥
+
+pub decided : {P : Type 0} (r : Bool) → r ≡ true → Decides r P → P
+decided true e h = h
+decided false e h = let z : _≡_ {A = ℕ} 0 1 = cc in absurd (omega arith)
+
+pub refuted : {P : Type 0} (r : Bool) → r ≡ false → Decides r P → P → ⊥
+refuted true e h p = let z : _≡_ {A = ℕ} 0 1 = cc in omega arith
+refuted false e h p = h p
+
+-- a yes-or-no promise has one answer
+pub decides-one : (P : Type 0) (a b : Bool) → Decides a P → Decides b P → a ≡ b
+decides-one P true true p q = refl
+decides-one P true false p q = absurd (q p)
+decides-one P false true p q = absurd (p q)
+decides-one P false false p q = refl
+
+-- the same answer for what holds exactly where P does
+pub decides-same : {P Q : Type 0} (r : Bool) → (P → Q) → (Q → P) → Decides r P → Decides r Q
+decides-same true f g p = f p
+decides-same false f g n = λ q. n (g q)
+
+-- the opposite answer for the opposite
+pub decides-not : (P : Type 0) (r : Bool) → Decides r P → Decides (not r) (P → ⊥)
+decides-not P true p = λ n. n p
+decides-not P false n = n
+
+-- two answers together
+pub decides-both : (P Q : Type 0) (r t : Bool) → Decides r P → Decides t Q → Decides (r && t) (P × Q)
+decides-both P Q true true p q = (p, q)
+decides-both P Q true false p n = λ w. n (w .1)
+decides-both P Q false t n q = λ w. n (w .0)

@@ -1,0 +1,14 @@
+-- `rounding::down` meets its contract: division rounds down.
+use borrow.Author.Needs.{needs}
+use Rattle.rounding.proofs.Laws.{down-div}
+use Rattle.rounding.proofs.down.Statement.{statement}
+use Rattle.rounding.proofs.down.Tie as tie
+
+div-result : tie.Need-div-result
+div-result c = search needs
+
+returns : tie.Need-returns
+returns c = down-div (c .args .a) (c .args .b) (c .pre)
+
+pub down-spec : {M : Type 1} → statement M
+down-spec = tie.close (tie.spec div-result returns)
