@@ -115,6 +115,10 @@ field-unique {t} {u} (quoted {s = r} p) (quoted {s} q) ht hu e =
     let h = escaped-unique p q (closing-halts (ht .no-quote)) (closing-halts (hu .no-quote)) e′ in
     (ap (λ (x : List ℕ). DQUOTE ∷ x ++ DQUOTE ∷ []) (h .0), h .1, tails (h .2))
 
+-- a stretch has one content
+pub content-unique : {r c d : List ℕ} → Field r c → Field r d → c ≡ d
+content-unique p q = field-unique p q (stop-halts at-end) (stop-halts at-end) refl .1
+
 -- what may follow a row: nothing, or a CRLF
 pub data RowStop : List ℕ → Type 0 where
   row-end : RowStop []

@@ -17,6 +17,10 @@ pub refuted : {P : Type 0} (r : Bool) → r ≡ false → Decides r P → P → 
 refuted true e h p = let z : _≡_ {A = ℕ} 0 1 = cc in omega arith
 refuted false e h p = h p
 
+-- no answer is both
+pub not-both : {r : Bool} → r ≡ true → r ≡ false → ⊥
+not-both p q = let z : _≡_ {A = ℕ} 0 1 = cc in omega arith
+
 -- a yes-or-no promise has one answer
 pub decides-one : (P : Type 0) (a b : Bool) → Decides a P → Decides b P → a ≡ b
 decides-one P true true p q = refl

@@ -1,0 +1,3 @@
+pub mod Content
+pub mod Names
+pub mod Numbers

@@ -1,0 +1,85 @@
+-- Document 01, the job book: the table of kinds, as data. Each kind, how it is written, what it is to its job, and its columns n1 to n6.
+use Prim.Native.Nat.{ℕ}
+use mathlib.Core.List.{List, [], _∷_}
+use Rattle.fields.specs.Numbers.{absent}
+use Rattle.kinds.specs.declared.Kind.{Kind}
+use Rattle.kinds.specs.declared.Kind.the-variants.{B, S, C, E, DL, EP, LL, LF, CF, WC, BU, TM, EX, WL, SF}
+use Rattle.kinds.specs.declared.Role.{Role}
+use Rattle.kinds.specs.declared.Role.the-variants.{Base, Scour, Clearance, Load}
+use Rattle.kinds.specs.declared.Column.{Column}
+use Rattle.kinds.specs.declared.Column.the-variants.{Empty, Filled, Signed}
+use Rattle.kinds.specs.declared.Columns.{Columns}
+use Rattle.kinds.specs.declared.Numbers.{Numbers}
+
+abbrev pub six : Column → Column → Column → Column → Column → Column → Columns
+six a b c d e f = record { n1 = a; n2 = b; n3 = c; n4 = d; n5 = e; n6 = f }
+
+-- V kN, down positive; x mm; H kN; y mm; phase
+abbrev pub load-columns : Columns
+load-columns = six (Signed 50000 50000) (Signed 30000 30000) (Signed 50000 50000) (Filled 0 60000) (Filled 0 2) Empty
+
+-- the columns of each kind, with their ranges:
+-- B: width B mm; length L mm; allowable pressure kN/m²; friction, thousandths; strata, 0 soil, 1 rock
+-- S: Q l/s; catchment km²; silt factor, thousandths; waterway W mm; reach; foundation depth mm below flood
+-- C: velocity mm/s; area A and obstructed area a, tenths of m²; underside and flood level mm
+-- E: soil; slope; height mm; length mm; phase
+abbrev pub columns : Kind → Columns
+columns B = six (Filled 500 30000) (Filled 500 60000) (Filled 1 10000) (Filled 1 1000) (Filled 0 1) Empty
+columns S = six (Filled 1 50000000) (Filled 1 3000000) (Filled 100 3000) (Filled 1000 1300000) (Filled 1 5) (Filled 0 200000)
+columns C = six (Filled 0 10000) (Filled 1 100000) (Filled 1 100000) (Signed 500000 9000000) (Signed 500000 9000000) Empty
+columns E = six (Filled 1 5) (Filled 1 5) (Filled 1 15000) (Filled 1 60000) (Filled 0 2) Empty
+columns DL = load-columns
+columns EP = load-columns
+columns LL = load-columns
+columns LF = load-columns
+columns CF = load-columns
+columns WC = load-columns
+columns BU = load-columns
+columns TM = load-columns
+columns EX = load-columns
+columns WL = load-columns
+columns SF = load-columns
+
+-- how a kind is written
+abbrev pub letters : Kind → List ℕ
+letters B = 0x42 ∷ []
+letters S = 0x53 ∷ []
+letters C = 0x43 ∷ []
+letters E = 0x45 ∷ []
+letters DL = 0x44 ∷ 0x4C ∷ []
+letters EP = 0x45 ∷ 0x50 ∷ []
+letters LL = 0x4C ∷ 0x4C ∷ []
+letters LF = 0x4C ∷ 0x46 ∷ []
+letters CF = 0x43 ∷ 0x46 ∷ []
+letters WC = 0x57 ∷ 0x43 ∷ []
+letters BU = 0x42 ∷ 0x55 ∷ []
+letters TM = 0x54 ∷ 0x4D ∷ []
+letters EX = 0x45 ∷ 0x58 ∷ []
+letters WL = 0x57 ∷ 0x4C ∷ []
+letters SF = 0x53 ∷ 0x46 ∷ []
+
+-- what a row of a kind is to its job; load rows are E and the last line of the table
+abbrev pub role : Kind → Role
+role B = Base
+role S = Scour
+role C = Clearance
+role E = Load
+role DL = Load
+role EP = Load
+role LL = Load
+role LF = Load
+role CF = Load
+role WC = Load
+role BU = Load
+role TM = Load
+role EX = Load
+role WL = Load
+role SF = Load
+
+-- the phase of a load row, 0 service, 1 erection, 2 both, stands in n5
+abbrev pub phase : Kind → Numbers → ℕ
+phase k n = n .n5 .size
+
+-- the numbers of no row
+abbrev pub blank-numbers : Numbers
+blank-numbers = record { n1 = absent; n2 = absent; n3 = absent; n4 = absent; n5 = absent; n6 = absent }
