@@ -1,0 +1,31 @@
+-- The cells of a row mean one row, and where a text has a reading a place in it has one answer.
+use Prim.Native.Nat.{ℕ}
+use mathlib.Core.Path.{_≡_, refl, sym, ap, subst, _∙_}
+use mathlib.Core.List.{List}
+use Rattle.csv.specs.Rfc4180.{Cell}
+use Rattle.kinds.specs.Table.{columns}
+use Rattle.kinds.specs.declared.Columns.{Columns}
+use Rattle.kinds.specs.declared.Kind.{Kind}
+use Rattle.kinds.specs.declared.Numbers.{Numbers}
+use Rattle.kinds.proofs.Letters.{letters-one}
+use Rattle.kinds.proofs.Answers.{means-one}
+use Rattle.rows.specs.Form.{BookRow, content, Six, Form}
+
+six-one : (c : Columns) (cs : List Cell) (m n : Numbers) → Six c cs m → Six c cs n → m ≡ n
+six-one c cs m n p q =
+    let a = means-one (c .n1) (content cs 3) (m .n1) (n .n1) (p .n1) (q .n1) in
+    let b = means-one (c .n2) (content cs 4) (m .n2) (n .n2) (p .n2) (q .n2) in
+    let d = means-one (c .n3) (content cs 5) (m .n3) (n .n3) (p .n3) (q .n3) in
+    let e = means-one (c .n4) (content cs 6) (m .n4) (n .n4) (p .n4) (q .n4) in
+    let f = means-one (c .n5) (content cs 7) (m .n5) (n .n5) (p .n5) (q .n5) in
+    let g = means-one (c .n6) (content cs 8) (m .n6) (n .n6) (p .n6) (q .n6) in
+    λ i. record { n1 = a i; n2 = b i; n3 = d i; n4 = e i; n5 = f i; n6 = g i }
+
+pub form-one : {cs : List Cell} {a b : BookRow} → Form cs a → Form cs b → a ≡ b
+form-one {cs} {a} {b} f g =
+    let m = f .member .1 ∙ sym (g .member .1) in
+    let j = f .job .1 ∙ sym (g .job .1) in
+    let k = letters-one (a .keyed .row .kind) (b .keyed .row .kind) (sym (f .kind) ∙ g .kind) in
+    let n = six-one (columns (b .keyed .row .kind)) cs (a .keyed .row .numbers) (b .keyed .row .numbers) (subst (λ (x : Kind). Six (columns x) cs (a .keyed .row .numbers)) k (f .numbers)) (g .numbers) in
+    let t = f .note ∙ sym (g .note) in
+    λ i. record { keyed = record { key = record { member = m i; job = j i }; row = record { kind = k i; numbers = n i } }; note = t i }

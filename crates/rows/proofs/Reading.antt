@@ -1,0 +1,96 @@
+-- What is found of a cell's stretch holds of the cell's content: the stretch is a field, and a field has one content.
+use Prim.Native.Nat.{ℕ, _+_, _≤_, _<_}
+use native.Mathlib.Omega.{arith}
+use mathlib.Core.Path.{_≡_, refl, sym, ap, subst, _∙_}
+use mathlib.Core.Bool.{Bool, true, false}
+use mathlib.Core.List.{List, [], _∷_}
+use lib.ListN.{length, getD, drop}
+use Rattle.csv.specs.Rfc4180.{Cell, Field, File}
+use Rattle.csv.proofs.Unique.{content-unique}
+use Rattle.cells.specs.Cells.{no-cell, Stretch, offset, RowIs, RowAt, CellAt}
+use Rattle.cells.specs.declared.Cells.{Cells}
+use Rattle.cells.proofs.Fields.{row-fields}
+use Rattle.fields.specs.Names.{ContentNamed, NameIn, named, NameAt}
+use Rattle.fields.specs.Numbers.{EntryIn, EntryAt}
+use Rattle.fields.specs.declared.Name.{Name}
+use Rattle.fields.specs.declared.NameRead.{NameRead}
+use Rattle.fields.specs.declared.Entry.{Entry}
+use Rattle.fields.specs.declared.Entered.the-variants.{Is, Wrong}
+use Rattle.kinds.specs.Table.{columns, letters}
+use Rattle.kinds.specs.Form.{Means, KindAt}
+use Rattle.kinds.specs.declared.Column.{Column}
+use Rattle.kinds.specs.declared.Columns.{Columns}
+use Rattle.kinds.specs.declared.Kind.{Kind}
+use Rattle.kinds.specs.declared.KindRead.the-variants.{Known, Unknown}
+use Rattle.kinds.specs.declared.Numbers.{Numbers}
+use Rattle.kinds.proofs.Letters.{letters-one}
+use Rattle.rows.specs.Form.{BookRow, raw, content, Six, Form}
+use Rattle.rows.specs.Answer.{TenAt, no-row, formed, FormedAt, RowSeen}
+use Rattle.rows.specs.declared.Formed.{Formed}
+use Rattle.rows.specs.declared.Keyed.{Keyed}
+
+module _ {s : List ℕ} {c : Cells} {cs : List Cell} (t : TenAt s c cs) where
+  -- a cell's stretch is a field of its content
+  module _ (k : ℕ) (r : List ℕ) (h : k < 10) (a : CellAt s c k r) where
+    pub cell-field : Field r (content cs k)
+    cell-field =
+        let w = t .stands k h in
+        let p = w .starts in
+        let q = w .ends in
+        let e : r ≡ raw cs k = a .there (record { few = h; order = omega arith; within = w .within }) ∙ w .is in
+        subst (λ (l : List ℕ). Field l (content cs k)) (sym e) (t .field k h)
+
+    -- so the content is what the stretch was found to be
+    pub cell-name : (n : NameRead) → n .good ≡ true → NameAt r n → ContentNamed true (content cs k) (n .name)
+    cell-name n g p =
+        let w : NameIn r (n .name) = subst (λ (b : Bool). named b r (n .name)) g p in
+        let e = content-unique (w .field) cell-field in
+        subst (λ (l : List ℕ). ContentNamed true l (n .name)) e (w .is, w .held)
+
+    pub cell-no-name : (n : NameRead) → n .good ≡ false → NameAt r n → (m : Name) → ContentNamed true (content cs k) m → ⊥
+    cell-no-name n g p m w =
+        let q = subst (λ (b : Bool). named b r (n .name)) g p in
+        q .0 m (record { content = content cs k; field = cell-field; is = w .0; held = w .1 })
+
+    pub cell-kind : (kind : Kind) → KindAt r (Known kind) → content cs k ≡ letters kind
+    cell-kind kind p = content-unique cell-field p
+
+    pub cell-no-kind : KindAt r Unknown → (kind : Kind) → content cs k ≡ letters kind → ⊥
+    cell-no-kind p kind e = p kind (subst (λ (l : List ℕ). Field r l) e cell-field)
+
+    module _ {cols wanted : Columns} (e : cols ≡ wanted) (column : Columns → Column) where
+      pub cell-entry : (x : Entry) → EntryAt (Means (column cols)) r (Is x) → Means (column wanted) (content cs k) x
+      cell-entry x p =
+          subst (λ (d : Columns). Means (column d) (content cs k) x) e
+          (subst (λ (l : List ℕ). Means (column cols) l x) (content-unique (p .field) cell-field) (p .is))
+
+      pub cell-no-entry : EntryAt (Means (column cols)) r Wrong → (x : Entry) → Means (column wanted) (content cs k) x → ⊥
+      cell-no-entry p x m =
+          p x (record { content = content cs k; field = cell-field; is = subst (λ (d : Columns). Means (column d) (content cs k) x) (sym e) m })
+
+-- no row
+pub unformed-is : (cs : List Cell) (r : Formed) → (r .good ≡ false) × (r .row ≡ no-row) → ((q : BookRow) → Form cs q → ⊥) → formed (r .good) cs (r .row)
+unformed-is cs r e h = subst (λ (b : Bool). formed b cs (r .row)) (sym (e .0)) (h, e .1)
+
+-- numbers that the columns of the one kind do not give
+pub no-numbers : (kind : Kind) (cs : List Cell) → content cs 2 ≡ letters kind → ((n : Numbers) → Six (columns kind) cs n → ⊥) → (q : BookRow) → Form cs q → ⊥
+no-numbers kind cs e h q f =
+    h (q .keyed .row .numbers)
+    (subst (λ (k : Kind). Six (columns k) cs (q .keyed .row .numbers)) (letters-one (q .keyed .row .kind) kind (sym (f .kind) ∙ e)) (f .numbers))
+
+module _ {s : List ℕ} {start : ℕ} {r : Cells} (h : RowAt s start r) (cs : List Cell) (css : List (List Cell)) (q : File (drop start s) (cs ∷ css)) where
+  ten-at : r .count ≡ 10 → TenAt s r cs
+  ten-at n =
+      let i = h cs css q in
+      let t : length cs ≡ 10 = sym (i .count) ∙ n in
+      record { ten = t; place = λ k. start + offset cs k; stands = λ k l. i .stretches k l (omega arith); field = λ k l. row-fields q k (omega arith) }
+
+  pub seen-ten : r .count ≡ 10 → (f : Formed) → FormedAt s r f → RowSeen s start cs css (record { good = f .good; row = f .row; next = r .next })
+  seen-ten n f a =
+      let i = h cs css q in
+      record { means = a cs (ten-at n); on = i .on; rest = i .rest }
+
+  pub seen-not-ten : (r .count ≡ 10 → ⊥) → (k : Keyed) → k ≡ no-row → RowSeen s start cs css (record { good = false; row = k; next = r .next })
+  seen-not-ten n k e =
+      let i = h cs css q in
+      record { means = (λ b f. n (i .count ∙ f .ten), e); on = i .on; rest = i .rest }

@@ -1,0 +1,55 @@
+-- What the functions of `src/` answer for the row that starts at a place.
+use Prim.Native.Nat.{ℕ, _<_}
+use mathlib.Core.Path.{_≡_}
+use mathlib.Core.Bool.{Bool, true, false}
+use mathlib.Core.List.{List, _∷_}
+use lib.ListN.{length, getD, drop}
+use Rattle.csv.specs.Rfc4180.{Cell, Field, File, Rest}
+use Rattle.cells.specs.Cells.{no-cell, Stretch}
+use Rattle.cells.specs.declared.Cells.{Cells}
+use Rattle.fields.specs.Names.{no-name}
+use Rattle.kinds.specs.Table.{columns, blank-numbers}
+use Rattle.kinds.specs.declared.Kind.{Kind}
+use Rattle.kinds.specs.declared.Kind.the-variants.{B}
+use Rattle.kinds.specs.declared.Numbers.{Numbers}
+use Rattle.rows.specs.Form.{BookRow, raw, content, Six, Form}
+use Rattle.rows.specs.declared.Keyed.{Keyed}
+use Rattle.rows.specs.declared.NumbersRead.{NumbersRead}
+use Rattle.rows.specs.declared.NumbersRead.the-variants.{Are, Wrong}
+use Rattle.rows.specs.declared.Formed.{Formed}
+use Rattle.rows.specs.declared.RowRead.{RowRead}
+
+-- the ten cells of a row stand where these places say
+pub record TenAt (s : List ℕ) (c : Cells) (cs : List Cell) : Type 0 where
+  pub ten : length cs ≡ 10
+  pub place : ℕ → ℕ
+  pub stands : (k : ℕ) → k < 10 → Stretch s (place k) (getD (c .from) k 0) (getD (c .to) k 0) (getD cs k no-cell)
+  pub field : (k : ℕ) → k < 10 → Field (raw cs k) (content cs k)
+
+-- the six numbers; or that the cells have none by the columns of the kind
+abbrev pub numbers-are : NumbersRead → Kind → List Cell → Type 0
+numbers-are (Are n) kind cs = Six (columns kind) cs n
+numbers-are Wrong kind cs = (n : Numbers) → Six (columns kind) cs n → ⊥
+
+abbrev pub NumbersAre : List ℕ → Cells → Kind → NumbersRead → Type 0
+NumbersAre s c kind r = (cs : List Cell) → TenAt s c cs → numbers-are r kind cs
+
+abbrev pub no-row : Keyed
+no-row = record { key = record { member = no-name; job = no-name }; row = record { kind = B; numbers = blank-numbers } }
+
+-- the row that the cells mean; or that they mean none, and no row
+abbrev pub formed : Bool → List Cell → Keyed → Type 0
+formed true cs k = Form cs (record { keyed = k; note = raw cs 9 })
+formed false cs k = ((r : BookRow) → Form cs r → ⊥) × (k ≡ no-row)
+
+abbrev pub FormedAt : List ℕ → Cells → Formed → Type 0
+FormedAt s c r = (cs : List Cell) → TenAt s c cs → formed (r .good) cs (r .row)
+
+-- of the row that starts at a place: what it means, and where the next one starts
+pub record RowSeen (s : List ℕ) (start : ℕ) (cs : List Cell) (css : List (List Cell)) (r : RowRead) : Type 0 where
+  pub means : formed (r .good) cs (r .row)
+  pub on : r .next < length s → start < r .next
+  pub rest : Rest (drop (r .next) s) css
+
+abbrev pub SeenAt : List ℕ → ℕ → RowRead → Type 0
+SeenAt s start r = (cs : List Cell) (css : List (List Cell)) → File (drop start s) (cs ∷ css) → RowSeen s start cs css r

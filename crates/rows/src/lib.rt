@@ -1,0 +1,172 @@
+// A row of a job book by what its ten cells mean (document 01, the job book; refusal 3).
+//
+// The text is known to be RFC 4180, and the row has one reading. What is hard is to say that of the cells that the
+// reading has, and not of whatever the code looks at: each promise here speaks of every reading of the text.
+use cells::Cells;
+use fields::Entered;
+use fields::Name;
+use kinds::Kind;
+use kinds::KindRead;
+use kinds::Numbers;
+use kinds::Row;
+ghost use mathlib.Core.Path.{_≡_};
+ghost use mathlib.Core.Bool.{false};
+ghost use Prim.Native.Nat.{ℕ, _+_, _≤_, _<_};
+ghost use lib.ListN.{length, drop};
+ghost use Rattle.csv.specs.Rfc4180.{Readable};
+ghost use Rattle.rows.specs.Answer.{no-row, NumbersAre, FormedAt, SeenAt};
+
+// Member and job, together the key.
+pub struct Key {
+    pub member: Name,
+    pub job: Name,
+}
+
+// A row with its key.
+pub struct Keyed {
+    pub key: Key,
+    pub row: Row,
+}
+
+enum NumbersRead {
+    Are(Numbers),
+    Wrong,
+}
+
+// A row; or none, where the cells mean none.
+struct Formed {
+    good: bool,
+    row: Keyed,
+}
+
+// A row or none, and where the next row starts, or the text's end.
+pub struct RowRead {
+    pub good: bool,
+    pub row: Keyed,
+    pub next: usize,
+}
+
+// The six numbers of a row of a kind.
+fn numbers_of(s: &[u8], places: Cells, kind: Kind) -> NumbersRead
+    ensures { λ r. ⌜ NumbersAre (now (s .entry)) places kind r ⌝ }
+{
+    let columns = kinds::columns_of(kind);
+    let c1 = columns.n1;
+    let c2 = columns.n2;
+    let c3 = columns.n3;
+    let c4 = columns.n4;
+    let c5 = columns.n5;
+    let c6 = columns.n6;
+    let e1 = kinds::entry_at(c1, cells::cell(s, places, 3));
+    let Entered::Is(n1) = e1 else {
+        return NumbersRead::Wrong;
+    };
+    let e2 = kinds::entry_at(c2, cells::cell(s, places, 4));
+    let Entered::Is(n2) = e2 else {
+        return NumbersRead::Wrong;
+    };
+    let e3 = kinds::entry_at(c3, cells::cell(s, places, 5));
+    let Entered::Is(n3) = e3 else {
+        return NumbersRead::Wrong;
+    };
+    let e4 = kinds::entry_at(c4, cells::cell(s, places, 6));
+    let Entered::Is(n4) = e4 else {
+        return NumbersRead::Wrong;
+    };
+    let e5 = kinds::entry_at(c5, cells::cell(s, places, 7));
+    let Entered::Is(n5) = e5 else {
+        return NumbersRead::Wrong;
+    };
+    let e6 = kinds::entry_at(c6, cells::cell(s, places, 8));
+    let Entered::Is(n6) = e6 else {
+        return NumbersRead::Wrong;
+    };
+    NumbersRead::Are(Numbers {
+        n1,
+        n2,
+        n3,
+        n4,
+        n5,
+        n6,
+    })
+}
+
+// No row: what stands where there is none.
+pub fn blank_row() -> Keyed
+    ensures { λ r. ⌜ r ≡ no-row ⌝ }
+{
+    let name = fields::blank_name();
+    let numbers = kinds::no_numbers();
+    let row = Row {
+        kind: Kind::B,
+        numbers,
+    };
+    let key = Key {
+        member: name,
+        job: name,
+    };
+    Keyed { key, row }
+}
+
+fn unformed() -> Formed
+    ensures { λ r. ⌜ (r .good ≡ false) × (r .row ≡ no-row) ⌝ }
+{
+    let row = blank_row();
+    Formed { good: false, row }
+}
+
+// The row that ten cells mean.
+fn row_of(s: &[u8], places: Cells) -> Formed
+    ensures { λ r. ⌜ FormedAt (now (s .entry)) places r ⌝ }
+{
+    let m = fields::name_at(cells::cell(s, places, 0));
+    let good = m.good;
+    let member = m.name;
+    if !good {
+        return unformed();
+    }
+    let j = fields::name_at(cells::cell(s, places, 1));
+    let good = j.good;
+    let job = j.name;
+    if !good {
+        return unformed();
+    }
+    let k = kinds::kind_at(cells::cell(s, places, 2));
+    let KindRead::Known(kind) = k else {
+        return unformed();
+    };
+    let n = numbers_of(s, places, kind);
+    let NumbersRead::Are(numbers) = n else {
+        return unformed();
+    };
+    let key = Key { member, job };
+    let row = Row { kind, numbers };
+    let keyed = Keyed { key, row };
+    Formed {
+        good: true,
+        row: keyed,
+    }
+}
+
+// The row that starts at a place.
+pub fn read_row(s: &[u8], start: usize) -> RowRead
+    requires { ⌜ start ≤ length (now s) ⌝ }
+    requires { ⌜ Readable (drop start (now s)) ⌝ }
+    ensures { λ r. ⌜ SeenAt (now (s .entry)) start r ⌝ }
+{
+    let places = cells::row_at(s, start);
+    let next = places.next;
+    let count = places.count;
+    if count == 10 {
+        let f = row_of(s, places);
+        let good = f.good;
+        let row = f.row;
+        return RowRead { good, row, next };
+    }
+    let row = blank_row();
+    RowRead {
+        good: false,
+        row,
+        next,
+    }
+}
