@@ -43,3 +43,8 @@ pub decides-both : (P Q : Type 0) (r t : Bool) → Decides r P → Decides t Q �
 decides-both P Q true true p q = (p, q)
 decides-both P Q true false p n = λ w. n (w .1)
 decides-both P Q false t n q = λ w. n (w .0)
+
+-- a flag says that it is set
+pub decides-flag : (r : Bool) → Decides r (r ≡ true)
+decides-flag true = refl
+decides-flag false = λ e. not-both e refl

@@ -1,0 +1,28 @@
+use lib.ListN.{replicate}
+use Rattle.jobs.specs.declared.Stage.the-variants.{Unbegun}
+use borrow.Author.Needs.{needs}
+use Rattle.jobs.proofs.blank_job.Statement.{statement}
+use Rattle.jobs.proofs.blank_job.Tie as tie
+
+blank-row-requires : tie.Need-blank-row-requires
+blank-row-requires c κs = search needs
+
+no-numbers-requires : tie.Need-no-numbers-requires
+no-numbers-requires c κs = search needs
+
+returns : tie.Need-returns
+returns c =
+    let r = c .before .before .before .blank-row .ensures in
+    let n = c .no-numbers .ensures in
+    λ i. record {
+      stage = Unbegun;
+      key = r i .key;
+      base = n i;
+      scour = n i;
+      clearance = n i;
+      count = 0;
+      loads = replicate 16 (r i .row);
+    }
+
+pub blank-job-spec : {M : Type 1} → statement M
+blank-job-spec = tie.close (tie.spec blank-row-requires no-numbers-requires returns)
