@@ -1,0 +1,305 @@
+-- What bytes say is one thing, and a book is accepted exactly if it is a job book.
+-- The idea: a beginning of a beginning is a beginning, so there is one first row with which no job book begins.
+use Prim.Native.Nat.{ℕ, zero, suc, _+_, _≤_, _<_}
+use native.Mathlib.Omega.{arith}
+use mathlib.Core.Path.{_≡_, refl, sym, ap, subst, _∙_}
+use mathlib.Core.List.{List, [], _∷_, _++_, append-assoc, append-nil}
+use mathlib.Core.Logic.{⊎-elim, _↔_}
+use lib.ListN.{length, length-append}
+use native.Mathlib.Decide.{decLt}
+use lib.Seq.{append-snoc}
+use Rattle.csv.specs.Rfc4180.{Cell, File, Readable}
+use Rattle.csv.proofs.Unique.{file-unique}
+use Rattle.rows.specs.Form.{BookRow, Form}
+use Rattle.rows.proofs.Forms.{form-one}
+use Rattle.jobs.specs.declared.Job.{Job}
+use Rattle.book.specs.JobBook.{Jobs, count, Loaded, Different, Placed, rows-of, Forms, no-form, form, Begins, JobBook, Shaped, no-job, one-more, Whole, no-whole, one-whole}
+use Rattle.book.specs.Values.{values, places}
+use Rattle.book.specs.Says.{Told, given, refused, Fault, formless, misplaced, surplus, reused, number, Unplaced, Surplus, Reused, Bad, FirstBad, Unfinished, Says, too-long, not-csv, bad-row, unfinished, book, refusal-number, told, jobs-told, BookIs, CountIs}
+use Rattle.book.specs.declared.Refusal.{Refusal}
+use Rattle.book.specs.declared.Refusal.the-variants.{TooLong, NotCsv, NoForm, NoPlace, TooMany, UsedKey}
+use Rattle.book.specs.declared.Count.{Count}
+use Rattle.book.specs.declared.Count.the-variants.{Given, Refused}
+use Rattle.book.specs.declared.Book.{Book}
+use Rattle.book.proofs.Steps.{Back, retract, placed-one, step-count, step-keys}
+
+forms-one : {css : List (List Cell)} {rs qs : List BookRow} → Forms css rs → Forms css qs → rs ≡ qs
+forms-one no-form no-form = refl
+forms-one (form {r = r} f fs) (form {r = q} g gs) =
+    let a = form-one f g in
+    let b = forms-one fs gs in
+    cc
+
+pub begins-one : {css : List (List Cell)} {rs qs : List BookRow} {js ks : Jobs} → Begins css rs js → Begins css qs ks → js ≡ ks
+begins-one {js = js} {ks = ks} b c = placed-one (b .placed) (subst (λ (l : List BookRow). Placed l ks) (sym (forms-one (b .forms) (c .forms))) (c .placed))
+
+-- the last of some forms
+record Cut (css : List (List Cell)) (cs : List Cell) (rs : List BookRow) : Type 0 where
+  front : List BookRow
+  last : BookRow
+  are : rs ≡ front ++ last ∷ []
+  forms : Forms css front
+  form : Form cs last
+
+cut : (css : List (List Cell)) (cs : List Cell) {rs : List BookRow} → Forms (css ++ cs ∷ []) rs → Cut css cs rs
+cut [] cs (form {r = r} f no-form) = record { front = []; last = r; are = refl; forms = no-form; form = f }
+cut (c ∷ css) cs (form {r = r} f fs) =
+    let w = cut css cs fs in
+    record { front = r ∷ w .front; last = w .last; are = ap (λ (l : List BookRow). r ∷ l) (w .are); forms = form f (w .forms); form = w .form }
+
+record Begun (css : List (List Cell)) : Type 0 where
+  typed : List BookRow
+  jobs : Jobs
+  begins : Begins css typed jobs
+
+-- one row less
+less : (css : List (List Cell)) (cs : List Cell) → Begun (css ++ cs ∷ []) → Begun css
+less css cs b =
+    let w = cut css cs (b .begins .forms) in
+    let k = retract (b .jobs) (subst (λ (l : List BookRow). Placed l (b .jobs)) (w .are) (b .begins .placed)) in
+    let n = step-count (k .step) in
+    let m = b .begins .few in
+    record { typed = w .front; jobs = k .jobs; begins = record { forms = w .forms; placed = k .placed; few = omega arith; different = step-keys (k .step) (b .begins .different) } }
+
+-- a beginning of a beginning
+shorter : (os bs : List (List Cell)) → Begun (os ++ bs) → Begun os
+shorter os [] b = rw append-nil at b
+shorter os (x ∷ bs) b = less os x (shorter (os ++ x ∷ []) bs (rw append-assoc b))
+
+-- no job book begins with the rows up to a bad one
+module _ {css : List (List Cell)} {ts : List BookRow} {js : Jobs} (b : Begins css ts js) (cs : List Cell) where
+  stops : (why : Fault) → Bad why ts cs → Begun (css ++ cs ∷ []) → ⊥
+  stops why h u =
+      let w = cut css cs (u .begins .forms) in
+      let e = forms-one (b .forms) (w .forms) in
+      let p = subst (λ (l : List BookRow). Placed (l ++ w .last ∷ []) (u .jobs)) (sym e) (subst (λ (l : List BookRow). Placed l (u .jobs)) (w .are) (u .begins .placed)) in
+      by why h (w .last) (w .form) (u .jobs) p (u .begins .few) (u .begins .different)
+    where
+      moved : (r q : BookRow) (ks : Jobs) → Form cs r → Form cs q → Placed (ts ++ q ∷ []) ks → Placed (ts ++ r ∷ []) ks
+      moved r q ks f g p = subst (λ (x : BookRow). Placed (ts ++ x ∷ []) ks) (form-one g f) p
+
+      by : (why : Fault) → Bad why ts cs → (r : BookRow) → Form cs r → (ks : Jobs) → Placed (ts ++ r ∷ []) ks → count ks ≤ 64 → Different ks → ⊥
+      by formless h r f ks p n d = h r f
+      by misplaced h r f ks p n d = h .nowhere ks (moved (h .row) r ks (h .form) f p)
+      by surplus h r f ks p n d =
+          let e = placed-one (h .placed) (moved (h .row) r ks (h .form) f p) in
+          let m = h .many in
+          omega (arith, ap count e)
+      by reused h r f ks p n d =
+          let e = placed-one (h .placed) (moved (h .row) r ks (h .form) f p) in
+          h .same (subst Different (sym e) d)
+
+  nowhere : Unplaced ts cs → (r : BookRow) → Form cs r → (ks : Jobs) → Placed (ts ++ r ∷ []) ks → ⊥
+  nowhere h r f ks p = h .nowhere ks (subst (λ (x : BookRow). Placed (ts ++ x ∷ []) ks) (form-one f (h .form)) p)
+
+  apart : Surplus ts cs → Reused ts cs → ⊥
+  apart h k =
+      let e = placed-one (h .placed) (subst (λ (x : BookRow). Placed (ts ++ x ∷ []) (k .jobs)) (form-one (k .form) (h .form)) (k .placed)) in
+      let m = h .many in
+      let n = k .few in
+      omega (arith, ap count e)
+
+  bad-one : (why na : Fault) → Bad why ts cs → Bad na ts cs → why ≡ na
+  bad-one formless formless h k = refl
+  bad-one formless misplaced h k = absurd (h (k .row) (k .form))
+  bad-one formless surplus h k = absurd (h (k .row) (k .form))
+  bad-one formless reused h k = absurd (h (k .row) (k .form))
+  bad-one misplaced formless h k = absurd (k (h .row) (h .form))
+  bad-one misplaced misplaced h k = refl
+  bad-one misplaced surplus h k = absurd (nowhere h (k .row) (k .form) (k .jobs) (k .placed))
+  bad-one misplaced reused h k = absurd (nowhere h (k .row) (k .form) (k .jobs) (k .placed))
+  bad-one surplus formless h k = absurd (k (h .row) (h .form))
+  bad-one surplus misplaced h k = absurd (nowhere k (h .row) (h .form) (h .jobs) (h .placed))
+  bad-one surplus surplus h k = refl
+  bad-one surplus reused h k = absurd (apart h k)
+  bad-one reused formless h k = absurd (k (h .row) (h .form))
+  bad-one reused misplaced h k = absurd (nowhere k (h .row) (h .form) (h .jobs) (h .placed))
+  bad-one reused surplus h k = absurd (apart k h)
+  bad-one reused reused h k = refl
+
+-- two places in one list: the longer beginning has the shorter one's next element
+record Beyond {A : Type 0} (os : List A) (x : A) (cs : List A) : Type 0 where
+  mid : List A
+  are : cs ≡ os ++ x ∷ mid
+
+beyond : {A : Type 0} (os cs bs ds : List A) (x y : A) → os ++ x ∷ bs ≡ cs ++ y ∷ ds → length os < length cs → Beyond os x cs
+beyond [] (c ∷ cs) bs ds x y e h = record { mid = cs; are = cc }
+beyond (a ∷ os) (c ∷ cs) bs ds x y e h =
+    let t : os ++ x ∷ bs ≡ cs ++ y ∷ ds = cc in
+    let w = beyond os cs bs ds x y t (omega arith) in
+    let q = w .are in
+    record { mid = w .mid; are = cc }
+
+level : {A : Type 0} (os cs bs ds : List A) (x y : A) → os ++ x ∷ bs ≡ cs ++ y ∷ ds → length os ≡ length cs → (os ≡ cs) × (x ≡ y)
+level [] [] bs ds x y e h = (refl, cc)
+level [] (c ∷ cs) bs ds x y e h = absurd (omega arith)
+level (a ∷ os) [] bs ds x y e h = absurd (omega arith)
+level (a ∷ os) (c ∷ cs) bs ds x y e h =
+    let t : os ++ x ∷ bs ≡ cs ++ y ∷ ds = cc in
+    let w = level os cs bs ds x y t (omega arith) in
+    let q = w .0 in
+    (cc, w .1)
+
+begun : {css : List (List Cell)} {rs : List BookRow} {js : Jobs} → Begins css rs js → Begun css
+begun {rs = rs} {js = js} b = record { typed = rs; jobs = js; begins = b }
+
+-- a bad row, and rows that go on beyond it, with which a job book begins
+not-beyond : {why : Fault} {rows css : List (List Cell)} {n : ℕ} (f : FirstBad why rows n) → Beyond (f .before) (f .row) css → Begun css → ⊥
+not-beyond {why} f w b =
+    let v = subst Begun (w .are ∙ sym (append-snoc (f .before) (f .row) (w .mid))) b in
+    stops (f .begins) (f .row) why (f .bad) (shorter (f .before ++ f .row ∷ []) (w .mid) v)
+
+whole : {why : Fault} {rows : List (List Cell)} {n : ℕ} (f : FirstBad why rows n) → Begun rows → ⊥
+whole f b = not-beyond f (record { mid = f .behind; are = f .split }) b
+
+first-one : {why na : Fault} {rows : List (List Cell)} {n m : ℕ} → FirstBad why rows n → FirstBad na rows m → (why ≡ na) × (n ≡ m)
+first-one {why} {na} {rows} {n} {m} f g = by (decLt (length (f .before)) (length (g .before))) (decLt (length (g .before)) (length (f .before)))
+  where
+    both : f .before ++ f .row ∷ f .behind ≡ g .before ++ g .row ∷ g .behind
+    both = sym (f .split) ∙ g .split
+
+    by : Dec (length (f .before) < length (g .before)) → Dec (length (g .before) < length (f .before)) → (why ≡ na) × (n ≡ m)
+    by (yes a) d = absurd (not-beyond f (beyond (f .before) (g .before) (f .behind) (g .behind) (f .row) (g .row) both a) (begun (g .begins)))
+    by (no a) (yes b) = absurd (not-beyond g (beyond (g .before) (f .before) (g .behind) (f .behind) (g .row) (f .row) (sym both) b) (begun (f .begins)))
+    by (no a) (no b) =
+        let w = level (f .before) (g .before) (f .behind) (g .behind) (f .row) (g .row) both (omega arith) in
+        let x = f .number in
+        let y = g .number in
+        let u = forms-one (f .begins .forms) (subst (λ (c : List (List Cell)). Forms c (g .typed)) (sym (w .0)) (g .begins .forms)) in
+        let k = subst (λ (t : List BookRow). Bad na t (f .row)) (sym u) (subst (Bad na (g .typed)) (sym (w .1)) (g .bad)) in
+        (bad-one (f .begins) (f .row) why na (f .bad) k, omega (arith, ap length (w .0)))
+
+-- what the rows of a text say, by what a job book may begin with
+data RowsSay (rows : List (List Cell)) (t : Told) : Type 0 where
+  bad : {why : Fault} {n : ℕ} → FirstBad why rows n → t ≡ refused (number why) n → RowsSay rows t
+  lacking : Unfinished rows → t ≡ refused 4 (length rows + 1) → RowsSay rows t
+  all : {rs : List BookRow} {js : Jobs} → Begins rows rs js → Loaded js → t ≡ given (count js) (values js) → RowsSay rows t
+
+rows-one : {rows : List (List Cell)} {t u : Told} → RowsSay rows t → RowsSay rows u → t ≡ u
+rows-one (bad f p) (bad g q) =
+    let w = first-one f g in
+    let a = w .0 in
+    let b = w .1 in
+    p ∙ (cc) ∙ sym q
+rows-one (bad f p) (lacking u q) = absurd (whole f (begun (u .begins)))
+rows-one (bad f p) (all b l q) = absurd (whole f (begun b))
+rows-one (lacking u p) (bad f q) = absurd (whole f (begun (u .begins)))
+rows-one (lacking u p) (lacking v q) = p ∙ sym q
+rows-one (lacking u p) (all b l q) = absurd (u .missing (subst Loaded (begins-one b (u .begins)) l))
+rows-one (all b l p) (bad f q) = absurd (whole f (begun b))
+rows-one (all b l p) (lacking u q) = absurd (u .missing (subst Loaded (begins-one b (u .begins)) l))
+rows-one (all b l p) (all c k q) = let e = begins-one b c in p ∙ (cc) ∙ sym q
+
+-- jobs of which each has a load row
+whole-shaped : {js : Jobs} → Whole js → Shaped js × Loaded js
+whole-shaped no-whole = (no-job, tt)
+whole-shaped (one-whole w g l) = let h = whole-shaped w in (one-more (h .0) (h .1) g, l)
+
+pub shaped-whole : {js : Jobs} → Shaped js → Loaded js → Whole js
+shaped-whole no-job l = no-whole
+shaped-whole (one-more s k g) l = one-whole (shaped-whole s k) g l
+
+-- a job book is what a job book begins with, with no load row missing
+pub book-begins : {s : List ℕ} {js : Jobs} (b : JobBook s js) → Begins (b .rows) (b .typed) js
+book-begins b = record { forms = b .forms; placed = record { are = b .parts; shaped = whole-shaped (b .each) .0 }; few = b .few; different = b .keys }
+
+pub begins-book : {s : List ℕ} {rows : List (List Cell)} {rs : List BookRow} {js : Jobs} → length s ≤ 65536 → File s rows → Begins rows rs js → Loaded js → JobBook s js
+begins-book {rows = rows} {rs} n q b l =
+    record { size = n; rows = rows; text = q; typed = rs; forms = b .forms; parts = b .placed .are; each = shaped-whole (b .placed .shaped) l; few = b .few; keys = b .different }
+
+-- what the bytes say, by size, by RFC 4180, and by the rows
+data Sorted (s : List ℕ) (t : Told) : Type 0 where
+  long : 65536 < length s → t ≡ refused 1 0 → Sorted s t
+  other : length s ≤ 65536 → (Readable s → ⊥) → t ≡ refused 2 0 → Sorted s t
+  text : {rows : List (List Cell)} → length s ≤ 65536 → File s rows → RowsSay rows t → Sorted s t
+
+sorted : {s : List ℕ} {t : Told} → Says s t → Sorted s t
+sorted (too-long h p) = long h p
+sorted (not-csv h n p) = other h n p
+sorted (bad-row h q f p) = text h q (bad f p)
+sorted (unfinished h q u p) = text h q (lacking u p)
+sorted (book b p) = text (b .size) (b .text) (all (book-begins b) (whole-shaped (b .each) .1) p)
+
+sorted-one : {s : List ℕ} {t u : Told} → Sorted s t → Sorted s u → t ≡ u
+sorted-one (long h p) (long k q) = p ∙ sym q
+sorted-one (long h p) (other k n q) = absurd (omega arith)
+sorted-one (long h p) (text k f r) = absurd (omega arith)
+sorted-one (other h n p) (long k q) = absurd (omega arith)
+sorted-one (other h n p) (other k m q) = p ∙ sym q
+sorted-one (other h n p) (text k f r) = absurd (n (record { rows = _; reading = f }))
+sorted-one (text h f r) (long k q) = absurd (omega arith)
+sorted-one (text h f r) (other k n q) = absurd (n (record { rows = _; reading = f }))
+sorted-one {t = t} (text h f r) (text k g u) = rows-one (subst (λ (x : List (List Cell)). RowsSay x t) (file-unique f g refl) r) u
+
+-- bytes say one thing
+pub says-one : {s : List ℕ} {t u : Told} → Says s t → Says s u → t ≡ u
+says-one p q = sorted-one (sorted p) (sorted q)
+
+-- a job book has one list of jobs, and one reading
+pub book-one : {s : List ℕ} {js ks : Jobs} → JobBook s js → JobBook s ks → js ≡ ks
+book-one {ks = ks} b c = begins-one (book-begins b) (subst (λ (x : List (List Cell)). Begins x (c .typed) ks) (file-unique (c .text) (b .text) refl) (book-begins c))
+
+pub reading-one : {s : List ℕ} {js ks : Jobs} (b : JobBook s js) (c : JobBook s ks) → b .typed ≡ c .typed
+reading-one b c = b .parts ∙ ap rows-of (book-one b c) ∙ sym (c .parts)
+
+-- a book is accepted with these jobs exactly if they are those of the job book that the bytes are
+pub record Accepted (s : List ℕ) (n : ℕ) (vs : List Job) : Type 0 where
+  pub jobs : Jobs
+  pub book : JobBook s jobs
+  pub many : n ≡ count jobs
+  pub are : vs ≡ values jobs
+
+accepted : {s : List ℕ} {t : Told} {n : ℕ} {vs : List Job} → Says s t → t ≡ given n vs → Accepted s n vs
+accepted (too-long h p) e = let z : _≡_ {A = ℕ} 0 1 = cc in absurd (omega arith)
+accepted (not-csv h m p) e = let z : _≡_ {A = ℕ} 0 1 = cc in absurd (omega arith)
+accepted (bad-row h q f p) e = let z : _≡_ {A = ℕ} 0 1 = cc in absurd (omega arith)
+accepted (unfinished h q u p) e = let z : _≡_ {A = ℕ} 0 1 = cc in absurd (omega arith)
+accepted (book {js} b p) e = record { jobs = js; book = b; many = cc; are = cc }
+
+pub read-exactly : {s : List ℕ} {n : ℕ} {vs : List Job} → (Says s (given n vs) → Accepted s n vs) × (Accepted s n vs → Says s (given n vs))
+read-exactly = (λ p. accepted p refl, λ a. let m = a .many in let e = a .are in book (a .book) (cc))
+
+-- and refused exactly if it is none
+pub refused-none : {s : List ℕ} {n row : ℕ} → Says s (refused n row) → (js : Jobs) → JobBook s js → ⊥
+refused-none p js b = let e = says-one p (book b refl) in let z : _≡_ {A = ℕ} 0 1 = cc in omega arith
+
+-- each answer of `src/` is one
+number-one : (a b : Refusal) → refusal-number a ≡ refusal-number b → a ≡ b
+number-one a b e = sym (back a) ∙ ap by e ∙ back b
+  where
+    by : ℕ → Refusal
+    by zero = TooLong
+    by (suc zero) = TooLong
+    by (suc (suc zero)) = NotCsv
+    by (suc (suc (suc zero))) = NoForm
+    by (suc (suc (suc (suc zero)))) = NoPlace
+    by (suc (suc (suc (suc (suc zero))))) = TooMany
+    by (suc (suc (suc (suc (suc (suc n)))))) = UsedKey
+
+    back : (r : Refusal) → by (refusal-number r) ≡ r
+    back TooLong = refl
+    back NotCsv = refl
+    back NoForm = refl
+    back NoPlace = refl
+    back TooMany = refl
+    back UsedKey = refl
+
+pub told-one : (a b : Count) (js ks : List Job) → told a js ≡ told b ks → a ≡ b
+told-one (Given n) (Given m) js ks e = cc
+told-one (Given n) (Refused why row) js ks e = let z : _≡_ {A = ℕ} 0 1 = cc in absurd (omega arith)
+told-one (Refused why row) (Given n) js ks e = let z : _≡_ {A = ℕ} 0 1 = cc in absurd (omega arith)
+told-one (Refused why row) (Refused na line) js ks e =
+    let p : refusal-number why ≡ refusal-number na = cc in
+    let q : row ≡ line = cc in
+    let r = number-one why na p in
+    cc
+
+pub count-one : {s : List ℕ} {a b : Count} → CountIs s a → CountIs s b → a ≡ b
+count-one {a = a} {b} p q = told-one a b (p .jobs) (q .jobs) (says-one (p .says) (q .says))
+
+pub book-is-one : {s : List ℕ} (a b : Book) → BookIs s a → BookIs s b → a ≡ b
+book-is-one a b p q =
+    let e = says-one (p .says) (q .says) in
+    let c = told-one (a .count) (b .count) (a .jobs) (b .jobs) e in
+    let j = p .held ∙ ap (λ (t : Told). places (jobs-told t)) e ∙ sym (q .held) in
+    λ i. record { count = c i; jobs = j i }

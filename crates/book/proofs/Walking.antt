@@ -1,0 +1,273 @@
+-- The loop over the rows: those passed are rows that a job book may begin with, and the values held are those of their jobs.
+use Prim.Native.Nat.{ℕ, suc, _+_, _-_, _≤_, _<_}
+use native.Mathlib.Omega.{arith}
+use mathlib.Core.Path.{_≡_, refl, sym, ap, subst, _∙_}
+use mathlib.Core.Bool.{Bool, true, false}
+use mathlib.Core.List.{List, [], _∷_, _++_}
+use lib.ListN.{length, take, drop, set, replicate, length-append}
+use lib.Seq.{append-snoc, take-at}
+use Rattle.csv.specs.Rfc4180.{Cell, File, Readable, Rest, nothing, more}
+use Rattle.csv.proofs.Parts.{at-index, past}
+use Rattle.csv.proofs.Unique.{nil-cons}
+use Rattle.csv.proofs.First.{first, some-row}
+use Rattle.kinds.specs.Table.{role}
+use Rattle.kinds.specs.declared.Role.{Role}
+use Rattle.kinds.specs.declared.Role.the-variants.{Base}
+use Rattle.rows.specs.Form.{BookRow, raw, Form}
+use Rattle.rows.specs.Answer.{formed, RowSeen, SeenAt}
+use Rattle.rows.specs.declared.Key.{Key}
+use Rattle.rows.specs.declared.RowRead.{RowRead}
+use Rattle.jobs.specs.Place.{InPlace, with-row, grown}
+use Rattle.jobs.specs.Taking as taking
+use Rattle.jobs.specs.declared.Job.{Job}
+use Rattle.book.specs.JobBook.{Jobs, none, _and_, job, dry, count, Loaded, no-job, Placed, Forms, no-form, form, Begins, JobBook, Different, no-key, new-key, Used}
+use Rattle.book.specs.Values.{values, held, places, Among}
+use Rattle.book.specs.Says.{Told, given, refused, Fault, formless, misplaced, surplus, reused, number, Bad, FirstBad, Says, bad-row, unfinished, book, refusal-number, told, jobs-told, BookIs, EndedIs, missing, whole}
+use Rattle.book.specs.declared.Refusal.{Refusal}
+use Rattle.book.specs.declared.Refusal.the-variants.{NoPlace}
+use Rattle.book.specs.declared.Count.{Count}
+use Rattle.book.specs.declared.Count.the-variants.{Given, Refused}
+use Rattle.book.specs.declared.Book.{Book}
+use Rattle.book.proofs.Steps.{Step, starts, scours, crosses, bears, extend, grows, step-count}
+use Rattle.book.proofs.Answers.{begins-book}
+use Rattle.book.proofs.Growing.{Grown, place-grows, step-place}
+use Rattle.book.proofs.Keeping.{values-many, among-used, used-among, Standing, base-jobs, standing-starts, Joined, joins, standing-joins}
+
+rest-more : {t : List ℕ} {css : List (List Cell)} → Rest t css → (t ≡ [] → ⊥) → File t css
+rest-more nothing n = absurd (n refl)
+rest-more (more m q) n = q
+
+rest-none : {t : List ℕ} {css : List (List Cell)} → Rest t css → t ≡ [] → css ≡ []
+rest-none nothing e = refl
+rest-none (more m q) e = absurd (m e)
+
+forms-more : {css : List (List Cell)} {rs : List BookRow} {cs : List Cell} {r : BookRow} → Forms css rs → Form cs r → Forms (css ++ cs ∷ []) (rs ++ r ∷ [])
+forms-more no-form g = form g no-form
+forms-more (form f fs) g = form f (forms-more fs g)
+
+-- behind a row the last job's value says whether a load row is missing
+lacks : {js ks : Jobs} {r : BookRow} → Step js r ks → held ks .count ≡ 0 → Loaded ks → ⊥
+lacks (starts l h) e k = omega arith
+lacks (scours h f) e k = omega arith
+lacks (crosses h f) e k = omega arith
+lacks (bears h f n) e k = omega arith
+
+has-load : {js ks : Jobs} {r : BookRow} → Step js r ks → (held ks .count ≡ 0 → ⊥) → Loaded ks
+has-load (starts l h) n = absurd (n refl)
+has-load (scours h f) n = absurd (n refl)
+has-load (crosses h f) n = absurd (n refl)
+has-load (bears h f m) n = omega arith
+
+used-twice : {js : Jobs} {r : BookRow} → Used r js → Different (js and job r dry []) → ⊥
+used-twice u (new-key d n) = n u
+
+-- an answer, from what it is told
+pub refused-is : {s : List ℕ} (b : Book) (why : Refusal) (row : ℕ) → (b .count ≡ Refused why row) × (b .jobs ≡ places []) → Says s (refused (refusal-number why) row) → BookIs s b
+refused-is {s} b why row e p = record {
+  says = subst (λ (c : Count). Says s (told c (b .jobs))) (sym (e .0)) p;
+  held = subst (λ (c : Count). b .jobs ≡ places (jobs-told (told c (b .jobs)))) (sym (e .0)) (e .1);
+}
+
+given-is : {s : List ℕ} {js : Jobs} (b : Book) (n : ℕ) → b .count ≡ Given n → n ≡ count js → b .jobs ≡ places (values js) → JobBook s js → BookIs s b
+given-is {s} {js} b n c m e k =
+    let t : take n (b .jobs) ≡ values js = ap (take n) e ∙ take-at (values js) _ n (values-many js ∙ sym m) in
+    record {
+      says = subst (λ (x : Count). Says s (told x (b .jobs))) (sym c) (book k (cc));
+      held = subst (λ (x : Count). b .jobs ≡ places (jobs-told (told x (b .jobs)))) (sym c) (e ∙ ap places (sym t));
+    }
+
+pub record Walk (s : List ℕ) (last : Job) (jobs : List Job) (keys : List Key) (n row at : ℕ) : Type 0 where
+  pub size : length s ≤ 65536
+  pub rows : List (List Cell)
+  pub reading : File s rows
+  pub done : List (List Cell)
+  pub left : List (List Cell)
+  pub split : rows ≡ done ++ left
+  pub here : File (drop at s) left
+  pub number : row ≡ length done + 1
+  pub typed : List BookRow
+  pub written : Jobs
+  pub begins : Begins done typed written
+  pub stands : Standing written n keys jobs last
+  pub within : at ≤ length s
+  pub few : row ≤ at + 1
+
+pub walk-start : {s : List ℕ} {last : Job} {jobs : List Job} {keys : List Key} → length s ≤ 65536 → Readable s → Standing none 0 keys jobs last → Walk s last jobs keys 0 1 0
+walk-start {s} n q w = record {
+  size = n;
+  rows = q .rows;
+  reading = q .reading;
+  done = [];
+  left = q .rows;
+  split = refl;
+  here = q .reading;
+  number = refl;
+  typed = [];
+  written = none;
+  begins = record { forms = no-form; placed = record { are = refl; shaped = no-job }; few = omega arith; different = no-key };
+  stands = w;
+  within = omega arith;
+  few = omega arith;
+}
+
+module _ {s : List ℕ} {last : Job} {jobs : List Job} {keys : List Key} {n row at : ℕ} {r : RowRead} (i : Walk s last jobs keys n row at) (h : SeenAt s at r) where
+  pub record Split : Type 0 where
+    pub cs : List Cell
+    pub css : List (List Cell)
+    pub are : i .left ≡ cs ∷ css
+    pub is : RowSeen s at cs css r
+
+  pub split : Split
+  split =
+      let m = some-row (first (i .here)) in
+      record { cs = m .0; css = m .1; are = m .2; is = h (m .0) (m .1) (subst (File (drop at s)) (m .2) (i .here)) }
+
+  cut : i .rows ≡ i .done ++ split .cs ∷ split .css
+  cut = i .split ∙ ap (λ (l : List (List Cell)). i .done ++ l) (split .are)
+
+  pub walk-on : r .next < length s → at < r .next
+  walk-on k = split .is .on k
+
+  first-bad : (why : Fault) → Bad why (i .typed) (split .cs) → Says s (refused (number why) row)
+  first-bad why x =
+      bad-row {why = why} (i .size) (i .reading)
+      (record { before = i .done; row = split .cs; behind = split .css; split = cut; number = i .number; typed = i .typed; jobs = i .written; begins = i .begins; bad = x }) refl
+
+  pub walk-formless : r .good ≡ false → Says s (refused 3 row)
+  walk-formless g = first-bad formless (subst (λ (x : Bool). formed x (split .cs) (r .row)) g (split .is .means) .0)
+
+  -- the row has a form
+  module _ (g : r .good ≡ true) where
+    abbrev this : BookRow
+    this = record { keyed = r .row; note = raw (split .cs) 9 }
+
+    means : Form (split .cs) this
+    means = subst (λ (x : Bool). formed x (split .cs) (r .row)) g (split .is .means)
+
+    placing : InPlace last (r .row) → InPlace (held (i .written)) (r .row)
+    placing w = subst (λ (j : Job). InPlace j (r .row)) (i .stands .job) w
+
+    pub walk-misplaced : (InPlace last (r .row) → ⊥) → Says s (refused 4 row)
+    walk-misplaced w =
+        first-bad misplaced
+        (record {
+          row = this;
+          form = means;
+          nowhere = λ ks q. w (subst (λ (j : Job). InPlace j (r .row)) (sym (i .stands .job)) (step-place (grows (i .begins .placed) q)));
+        })
+
+    -- the jobs with this row more
+    grows-by : {next : Job} → InPlace last (r .row) → next ≡ grown last (r .row) → Grown (i .written) this next
+    grows-by {next} w e =
+        let k = place-grows (i .written) this (placing w) in
+        record { jobs = k .jobs; step = k .step; is = k .is ∙ ap (λ (j : Job). grown j (r .row)) (sym (i .stands .job)) ∙ sym e }
+
+    -- behind the row
+    pub record After (next : Job) (vs : List Job) (ks : List Key) (m : ℕ) : Type 0 where
+      pub grew : Jobs
+      pub step : Step (i .written) this grew
+      pub begins : Begins (i .done ++ split .cs ∷ []) (i .typed ++ this ∷ []) grew
+      pub stands : Standing grew m ks vs next
+
+    begins-more : {js : Jobs} → Step (i .written) this js → count js ≤ 64 → (Different (i .written) → Different js) → Begins (i .done ++ split .cs ∷ []) (i .typed ++ this ∷ []) js
+    begins-more p few d = record { forms = forms-more (i .begins .forms) means; placed = extend (i .begins .placed) p; few = few; different = d (i .begins .different) }
+
+    pub walk-joined : (next : Job) → taking.Says last (r .row) taking.joins next → After next (set jobs (n - 1) next) keys n
+    walk-joined next t =
+        let k = grows-by (t .1) (t .2) in
+        let j = joins (t .0) (k .step) in
+        let m = j .many in
+        let f = i .begins .few in
+        let o = i .stands .many in
+        record {
+          grew = k .jobs;
+          step = k .step;
+          begins = begins-more (k .step) (omega arith) (j .different);
+          stands = standing-joins (i .stands) (omega arith) j (k .is);
+        }
+
+    -- a row that joins the last job finds one
+    pub walk-some : (next : Job) → taking.Says last (r .row) taking.joins next → (1 ≤ n) × (n ≤ 64)
+    walk-some next t =
+        let j = joins (t .0) (grows-by (t .1) (t .2) .step) in
+        let m = j .some in
+        let f = i .begins .few in
+        let o = i .stands .many in
+        (omega arith, omega arith)
+
+    module _ (next : Job) (t : taking.Says last (r .row) taking.starts next) where
+      abbrev started : Jobs
+      started = i .written and job this dry []
+
+      start : Step (i .written) this started
+      start = let k = grows-by (t .1) (t .2) in subst (Step (i .written) this) (base-jobs (t .0) (k .step)) (k .step)
+
+      holds : held started ≡ next
+      holds = let k = grows-by (t .1) (t .2) in ap held (sym (base-jobs (t .0) (k .step))) ∙ k .is
+
+      key-is : next .key ≡ r .row .key
+      key-is = ap (λ (j : Job). j .key) (sym holds)
+
+      pub walk-surplus : 64 ≤ n → Says s (refused 5 row)
+      walk-surplus m =
+          let o = i .stands .many in
+          first-bad surplus (record { row = this; form = means; jobs = started; placed = extend (i .begins .placed) start; many = omega arith })
+
+      pub walk-reused : n < 64 → Among keys n (next .key) → Says s (refused 6 row)
+      walk-reused m a =
+          let o = i .stands .many in
+          let u = among-used (i .written) n keys o (i .stands .keys) this (subst (Among keys n) key-is a) in
+          first-bad reused (record { row = this; form = means; jobs = started; placed = extend (i .begins .placed) start; few = omega arith; same = λ d. used-twice u d })
+
+      pub walk-started : n < 64 → (Among keys n (next .key) → ⊥) → After next (set jobs n next) (set keys n (next .key)) (n + 1)
+      walk-started m a =
+          let o = i .stands .many in
+          record {
+            grew = started;
+            step = start;
+            begins = begins-more start (omega arith) (λ d. new-key d (λ u. a (subst (Among keys n) (sym key-is) (used-among (i .written) n keys o (i .stands .keys) this u))));
+            stands = standing-starts this (next .key) (i .stands) m key-is holds;
+          }
+
+    module _ {next : Job} {vs : List Job} {ks : List Key} {m : ℕ} (w : After next vs ks m) where
+      pub walk-more : r .next < length s → Walk s next vs ks m (row + 1) (r .next)
+      walk-more k =
+          let f = i .few in
+          let o = walk-on k in
+          let p = i .number in
+          let l = length-append (i .done) (split .cs ∷ []) in
+          record {
+            size = i .size;
+            rows = i .rows;
+            reading = i .reading;
+            done = i .done ++ split .cs ∷ [];
+            left = split .css;
+            split = cut ∙ sym (append-snoc (i .done) (split .cs) (split .css));
+            here = rest-more (split .is .rest) (λ e. nil-cons (sym e ∙ at-index s (r .next) k));
+            number = omega arith;
+            typed = i .typed ++ this ∷ [];
+            written = w .grew;
+            begins = w .begins;
+            stands = w .stands;
+            within = omega arith;
+            few = omega arith;
+          }
+
+      -- this was the last row
+      module _ (k : length s ≤ r .next) where
+        lone : i .rows ≡ i .done ++ split .cs ∷ []
+        lone = cut ∙ ap (λ (l : List (List Cell)). i .done ++ split .cs ∷ l) (rest-none (split .is .rest) (past s (r .next) k))
+
+        all : Begins (i .rows) (i .typed ++ this ∷ []) (w .grew)
+        all = subst (λ (l : List (List Cell)). Begins l (i .typed ++ this ∷ []) (w .grew)) (sym lone) (w .begins)
+
+        pub walk-end : (b : Book) → EndedIs vs m (next .count) row b → BookIs s b
+        walk-end b (missing e c v) =
+            let q = ap length lone ∙ length-append (i .done) (split .cs ∷ []) in
+            let o = i .number in
+            let z : row + 1 ≡ length (i .rows) + 1 = omega arith in
+            refused-is b NoPlace (row + 1) (c, v)
+            (unfinished (i .size) (i .reading) (record { typed = _; jobs = w .grew; begins = all; missing = lacks (w .step) (sym (ap (λ (j : Job). j .count) (w .stands .job)) ∙ e) }) (ap (refused 4) z))
+        walk-end b (whole e c v) =
+            given-is b m c (w .stands .many) (v ∙ w .stands .jobs)
+            (begins-book (i .size) (i .reading) all (has-load (w .step) (λ z. e (ap (λ (j : Job). j .count) (w .stands .job) ∙ z))))

@@ -1,0 +1,124 @@
+-- Document 01, the job book: what a job is, what a book of jobs is, and what the beginning of one is. Nothing here reads.
+use Prim.Native.Nat.{ℕ, suc, _+_, _≤_, _<_}
+use mathlib.Core.Path.{_≡_}
+use mathlib.Core.List.{List, [], _∷_, _++_}
+use lib.ListN.{length}
+use Rattle.csv.specs.Rfc4180.{Cell, File}
+use Rattle.kinds.specs.Table.{role}
+use Rattle.kinds.specs.declared.Role.{Role}
+use Rattle.kinds.specs.declared.Role.the-variants.{Base, Scour, Clearance, Load}
+use Rattle.rows.specs.Form.{BookRow, Form}
+
+abbrev pub IsA : Role → BookRow → Type 0
+IsA p r = role (r .keyed .row .kind) ≡ p
+
+-- member and job, together the key
+pub record SameKey (a b : BookRow) : Type 0 where
+  pub same : a .keyed .key ≡ b .keyed .key
+
+-- at most one S, and at most one C, only after S
+pub data River : Type 0 where
+  dry : River
+  scoured : BookRow → River
+  crossed : BookRow → BookRow → River
+
+-- a job as the book writes it: a B row, at most one S, at most one C, then load rows
+pub data Written : Type 0 where
+  job : BookRow → River → List BookRow → Written
+
+abbrev pub base : Written → BookRow
+base (job b v ls) = b
+
+abbrev pub loads : Written → List BookRow
+loads (job b v ls) = ls
+
+abbrev pub river-rows : River → List BookRow
+river-rows dry = []
+river-rows (scoured s) = s ∷ []
+river-rows (crossed s c) = s ∷ c ∷ []
+
+abbrev pub job-rows : Written → List BookRow
+job-rows (job b v ls) = b ∷ (river-rows v ++ ls)
+
+-- load rows, all with the key of the B row
+pub data Loads (b : BookRow) : List BookRow → Type 0 where
+  no-load : Loads b []
+  load : {r : BookRow} {rs : List BookRow} → IsA Load r → SameKey b r → Loads b rs → Loads b (r ∷ rs)
+
+pub data Rivers (b : BookRow) : River → Type 0 where
+  is-dry : Rivers b dry
+  is-scoured : {s : BookRow} → IsA Scour s → SameKey b s → Rivers b (scoured s)
+  is-crossed : {s c : BookRow} → IsA Scour s → SameKey b s → IsA Clearance c → SameKey b c → Rivers b (crossed s c)
+
+-- a job that is being taken up: up to 16 load rows, none yet among them
+pub data GoodJob : Written → Type 0 where
+  good : {b : BookRow} {v : River} {ls : List BookRow} → IsA Base b → Rivers b v → Loads b ls → length ls ≤ 16 → GoodJob (job b v ls)
+
+-- jobs in the order of the book: none, or jobs and one job more
+pub data Jobs : Type 0 where
+  none : Jobs
+  _and_ : Jobs → Written → Jobs
+
+infixl 20 _and_
+abbrev pub count : Jobs → ℕ
+count none = 0
+count (js and j) = suc (count js)
+
+-- the rows of the jobs, one job after the other
+abbrev pub rows-of : Jobs → List BookRow
+rows-of none = []
+rows-of (js and j) = rows-of js ++ job-rows j
+
+-- no load row is missing in the last of them
+abbrev pub Loaded : Jobs → Type 0
+Loaded none = Unit {0}
+Loaded (js and j) = 1 ≤ length (loads j)
+
+-- each a good job; a next one only where the one before has a load row
+pub data Shaped : Jobs → Type 0 where
+  no-job : Shaped none
+  one-more : {js : Jobs} {j : Written} → Shaped js → Loaded js → GoodJob j → Shaped (js and j)
+
+-- a job among them has the row's key
+pub data Used (r : BookRow) : Jobs → Type 0 where
+  last : {js : Jobs} {j : Written} → SameKey (base j) r → Used r (js and j)
+  before : {js : Jobs} {j : Written} → Used r js → Used r (js and j)
+
+-- all keys different
+pub data Different : Jobs → Type 0 where
+  no-key : Different none
+  new-key : {js : Jobs} {j : Written} → Different js → (Used (base j) js → ⊥) → Different (js and j)
+
+-- each row in its place: these rows are those of these jobs, of which the last may lack load rows yet
+pub record Placed (rs : List BookRow) (js : Jobs) : Type 0 where
+  pub are : rs ≡ rows-of js
+  pub shaped : Shaped js
+
+-- the rows of a text, by their forms
+pub data Forms : List (List Cell) → List BookRow → Type 0 where
+  no-form : Forms [] []
+  form : {cs : List Cell} {r : BookRow} {css : List (List Cell)} {rs : List BookRow} → Form cs r → Forms css rs → Forms (cs ∷ css) (r ∷ rs)
+
+-- rows that a job book may begin with
+pub record Begins (css : List (List Cell)) (rs : List BookRow) (js : Jobs) : Type 0 where
+  pub forms : Forms css rs
+  pub placed : Placed rs js
+  pub few : count js ≤ 64
+  pub different : Different js
+
+-- each job has 1 to 16 load rows
+pub data Whole : Jobs → Type 0 where
+  no-whole : Whole none
+  one-whole : {js : Jobs} {j : Written} → Whole js → GoodJob j → 1 ≤ length (loads j) → Whole (js and j)
+
+-- the bytes are a book of these jobs
+pub record JobBook (s : List ℕ) (js : Jobs) : Type 0 where
+  pub size : length s ≤ 65536
+  pub rows : List (List Cell)
+  pub text : File s rows
+  pub typed : List BookRow
+  pub forms : Forms rows typed
+  pub parts : typed ≡ rows-of js
+  pub each : Whole js
+  pub few : count js ≤ 64
+  pub keys : Different js

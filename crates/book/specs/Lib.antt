@@ -1,0 +1,4 @@
+pub mod JobBook
+pub mod Values
+pub mod Says
+pub mod Notes
