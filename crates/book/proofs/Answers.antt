@@ -130,7 +130,7 @@ beyond (a ∷ os) (c ∷ cs) bs ds x y e h =
     let q = w .are in
     record { mid = w .mid; are = cc }
 
-level : {A : Type 0} (os cs bs ds : List A) (x y : A) → os ++ x ∷ bs ≡ cs ++ y ∷ ds → length os ≡ length cs → (os ≡ cs) × (x ≡ y)
+pub level : {A : Type 0} (os cs bs ds : List A) (x y : A) → os ++ x ∷ bs ≡ cs ++ y ∷ ds → length os ≡ length cs → (os ≡ cs) × (x ≡ y)
 level [] [] bs ds x y e h = (refl, cc)
 level [] (c ∷ cs) bs ds x y e h = absurd (omega arith)
 level (a ∷ os) [] bs ds x y e h = absurd (omega arith)

@@ -5,3 +5,5 @@ pub mod Answers
 pub mod Growing
 pub mod Keeping
 pub mod Walking
+pub mod Noting
+pub mod Same

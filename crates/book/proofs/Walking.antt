@@ -33,11 +33,11 @@ use Rattle.book.proofs.Answers.{begins-book}
 use Rattle.book.proofs.Growing.{Grown, place-grows, step-place}
 use Rattle.book.proofs.Keeping.{values-many, among-used, used-among, Standing, base-jobs, standing-starts, Joined, joins, standing-joins}
 
-rest-more : {t : List ℕ} {css : List (List Cell)} → Rest t css → (t ≡ [] → ⊥) → File t css
+pub rest-more : {t : List ℕ} {css : List (List Cell)} → Rest t css → (t ≡ [] → ⊥) → File t css
 rest-more nothing n = absurd (n refl)
 rest-more (more m q) n = q
 
-rest-none : {t : List ℕ} {css : List (List Cell)} → Rest t css → t ≡ [] → css ≡ []
+pub rest-none : {t : List ℕ} {css : List (List Cell)} → Rest t css → t ≡ [] → css ≡ []
 rest-none nothing e = refl
 rest-none (more m q) e = absurd (m e)
 

@@ -14,7 +14,7 @@ ghost use Rattle.csv.specs.Rfc4180.{Readable};
 ghost use Rattle.decides.specs.Decides.{Decides};
 ghost use Rattle.book.specs.Values.{places, Among};
 ghost use Rattle.book.specs.Says.{BookIs, CountIs, EndedIs};
-ghost use Rattle.book.specs.Notes.{NoteIs};
+ghost use Rattle.book.specs.Notes.{NoteAt, NoteIs};
 ghost use mathlib.Core.List.{[]};
 
 // 01's refusals of a book, 1 to 6.
@@ -156,4 +156,37 @@ pub fn count_jobs(book: &[u8]) -> Count
     let b = read_book(book);
     let count = b.count;
     count
+}
+
+// The note of a row of an RFC 4180 text, as the stretch that it is; nothing where there is no such row.
+fn note_at(s: &[u8], row: usize) -> &[u8]
+    requires { ⌜ Readable (now s) ⌝ }
+    ensures { λ r. ⌜ NoteAt (now (s .entry)) row (now r) ⌝ }
+{
+    let mut n: usize = 1;
+    let mut at: usize = 0;
+    loop {
+        let places = cells::row_at(s, at);
+        if n == row {
+            return cells::cell(s, places, 9);
+        }
+        let next = places.next;
+        if s.len() <= next {
+            return &s[0..0];
+        }
+        n += 1;
+        at = next;
+    }
+}
+
+// The note of a row of a book, counted from 1, as the stretch of the lent book that it is; nothing where the book is
+// refused or has no such row.
+pub fn note_of(book: &[u8], row: usize) -> &[u8]
+    ensures { λ r. ⌜ NoteIs (now (book .entry)) row (now r) ⌝ }
+{
+    let count = count_jobs(book);
+    match count {
+        Count::Given(_) => note_at(book, row),
+        Count::Refused(_, _) => &book[0..0],
+    }
 }
