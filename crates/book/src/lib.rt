@@ -13,7 +13,7 @@ ghost use lib.ListN.{length};
 ghost use Rattle.csv.specs.Rfc4180.{Readable};
 ghost use Rattle.decides.specs.Decides.{Decides};
 ghost use Rattle.book.specs.Values.{places, Among};
-ghost use Rattle.book.specs.Says.{BookIs, CountIs, EndedIs};
+ghost use Rattle.book.specs.Says.{refusal-number, BookIs, CountIs, EndedIs};
 ghost use Rattle.book.specs.Notes.{NoteAt, NoteIs};
 ghost use mathlib.Core.List.{[]};
 
@@ -25,6 +25,20 @@ pub enum Refusal {
     NoPlace,
     TooMany,
     UsedKey,
+}
+
+// 01's number of a refusal.
+pub fn number_of(why: Refusal) -> u8
+    ensures { λ r. ⌜ r ≡ refusal-number why ⌝ }
+{
+    match why {
+        Refusal::TooLong => 1,
+        Refusal::NotCsv => 2,
+        Refusal::NoForm => 3,
+        Refusal::NoPlace => 4,
+        Refusal::TooMany => 5,
+        Refusal::UsedKey => 6,
+    }
 }
 
 // The number of jobs; or a refusal, and its row.
