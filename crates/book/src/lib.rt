@@ -184,12 +184,12 @@ fn note_at(s: &[u8], row: usize) -> &[u8]
         if n == row {
             return cells::cell(s, places, 9);
         }
-        let next = places.next;
-        if s.len() <= next {
+        let behind = places.next;
+        if s.len() <= behind {
             return &s[0..0];
         }
         n += 1;
-        at = next;
+        at = behind;
     }
 }
 

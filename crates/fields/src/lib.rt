@@ -229,8 +229,7 @@ pub fn empty_at(raw: &[u8]) -> Entered
     ensures { λ r. ⌜ EntryAt IsEmpty (now (raw .entry)) r ⌝ }
 {
     let content = bare(raw);
-    let n = content.len();
-    if n == 0 {
+    if content.len() == 0 {
         return Entered::Is(blank_entry());
     }
     Entered::Wrong

@@ -1,0 +1,4 @@
+-- The laws of earth pressure. Other crates' proofs cite them.
+pub mod Marks
+pub mod Bounds
+pub mod Pressures

@@ -1,0 +1,2 @@
+pub mod Table2
+pub mod Earth

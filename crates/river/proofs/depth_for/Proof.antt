@@ -1,0 +1,18 @@
+-- `river::depth_for` meets its contract: d³ b reaches a exactly where d³ reaches a / b rounded up.
+use Prim.Native.Nat.{_^_}
+use borrow.Author.Needs.{needs}
+use Rattle.river.proofs.Cubes.{scaled}
+use Rattle.river.proofs.depth_for.Statement.{statement}
+use Rattle.river.proofs.depth_for.Tie as tie
+
+up-requires : tie.Need-up-requires
+up-requires c κs = search needs
+
+cube-up-requires : tie.Need-cube-up-requires
+cube-up-requires c κs = c .up .ensures .least (41000 ^ 3) (c .before .pre .1)
+
+returns : tie.Need-returns
+returns c = scaled (c .before .before .args .a) (c .before .before .args .b) _ _ (c .before .up .ensures) (c .cube-up .ensures)
+
+pub depth-for-spec : {M : Type 1} → statement M
+depth-for-spec = tie.close (tie.spec up-requires cube-up-requires returns)

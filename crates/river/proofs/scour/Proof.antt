@@ -1,0 +1,28 @@
+-- `river::scour` meets its contract: the ranges are what `scour_of` asks.
+use borrow.Author.Needs.{needs}
+use Rattle.decides.specs.Decides.{decided, refuted}
+use Rattle.kinds.specs.Range.{Ranged}
+use Rattle.kinds.specs.declared.Kind.the-variants.{S}
+use Rattle.river.specs.Scour.{out-of-range, in-range}
+use Rattle.river.proofs.scour.Statement.{statement}
+use Rattle.river.proofs.scour.Tie as tie
+
+ranged : (c : tie.Then1) → Ranged S (c .before .before .args .row)
+ranged c = decided (c .before .is-ranged .result) (c .if1 .taken) (c .before .is-ranged .ensures)
+
+is-ranged-requires : tie.Need-is-ranged-requires
+is-ranged-requires c κs = search needs
+
+scour-of-requires : tie.Need-scour-of-requires
+scour-of-requires c κs =
+    let r = ranged c in
+    (r .n1 .to, r .n3 .from, r .n3 .to, r .n4 .from, r .n4 .to, r .n5 .from, r .n5 .to)
+
+returns : tie.Need-returns
+returns c = in-range (ranged (c .before)) (c .scour-of .ensures)
+
+returns-2 : tie.Need-returns-2
+returns-2 c = out-of-range (refuted (c .before .is-ranged .result) (c .if1 .left) (c .before .is-ranged .ensures))
+
+pub scour-spec : {M : Type 1} → statement M
+scour-spec = tie.close (tie.spec is-ranged-requires scour-of-requires returns returns-2)

@@ -1,0 +1,3 @@
+pub mod River
+pub mod Scour
+pub mod Clear
