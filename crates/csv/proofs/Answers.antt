@@ -15,8 +15,8 @@ use Rattle.csv.proofs.Unique.{nil-cons, heads, stop-halts, field-unique
 use Rattle.csv.proofs.Parts.{part-rest, past}
 
 -- a text has one reading
-pub one-reading : (s : List ℕ) (rs qs : List (List Cell)) → File s rs → File s qs → rs ≡ qs
-one-reading s rs qs p q = file-unique p q refl
+pub reading-one : (s : List ℕ) (rs qs : List (List Cell)) → File s rs → File s qs → rs ≡ qs
+reading-one s rs qs p q = file-unique p q refl
 
 module _ (s : List ℕ) (at : ℕ) where
   part-length : (e : ℕ) → e ≤ length s → length (part at e s) ≡ e - at
@@ -59,20 +59,20 @@ module _ (s : List ℕ) (at : ℕ) where
   end-bad : FieldAt s at End → FieldAt s at Bad → ⊥
   end-bad p b = not-here at-end p (past s (length s) (le-refl (length s))) b
 
-  pub one-ended : (a b : Ended) → FieldAt s at a → FieldAt s at b → a ≡ b
-  one-ended (Comma e) (Comma d) p q = ap Comma (one-end e d (p .0) (q .0) (stops at-comma (p .1)) (stops at-comma (q .1)))
-  one-ended (Comma e) (Row d) p q = absurd (comma-row e d p q)
-  one-ended (Comma e) End p q = absurd (comma-end e p q)
-  one-ended (Comma e) Bad p q = absurd (not-here at-comma (p .0) (p .1) q)
-  one-ended (Row e) (Comma d) p q = absurd (comma-row d e q p)
-  one-ended (Row e) (Row d) p q = ap Row (one-end e d (p .0) (q .0) (stops at-row (p .1)) (stops at-row (q .1)))
-  one-ended (Row e) End p q = absurd (row-end e p q)
-  one-ended (Row e) Bad p q = absurd (not-here at-row (p .0) (p .1) q)
-  one-ended End (Comma d) p q = absurd (comma-end d q p)
-  one-ended End (Row d) p q = absurd (row-end d q p)
-  one-ended End End p q = refl
-  one-ended End Bad p q = absurd (end-bad p q)
-  one-ended Bad (Comma d) p q = absurd (not-here at-comma (q .0) (q .1) p)
-  one-ended Bad (Row d) p q = absurd (not-here at-row (q .0) (q .1) p)
-  one-ended Bad End p q = absurd (end-bad q p)
-  one-ended Bad Bad p q = refl
+  pub field-end-one : (a b : Ended) → FieldAt s at a → FieldAt s at b → a ≡ b
+  field-end-one (Comma e) (Comma d) p q = ap Comma (one-end e d (p .0) (q .0) (stops at-comma (p .1)) (stops at-comma (q .1)))
+  field-end-one (Comma e) (Row d) p q = absurd (comma-row e d p q)
+  field-end-one (Comma e) End p q = absurd (comma-end e p q)
+  field-end-one (Comma e) Bad p q = absurd (not-here at-comma (p .0) (p .1) q)
+  field-end-one (Row e) (Comma d) p q = absurd (comma-row d e q p)
+  field-end-one (Row e) (Row d) p q = ap Row (one-end e d (p .0) (q .0) (stops at-row (p .1)) (stops at-row (q .1)))
+  field-end-one (Row e) End p q = absurd (row-end e p q)
+  field-end-one (Row e) Bad p q = absurd (not-here at-row (p .0) (p .1) q)
+  field-end-one End (Comma d) p q = absurd (comma-end d q p)
+  field-end-one End (Row d) p q = absurd (row-end d q p)
+  field-end-one End End p q = refl
+  field-end-one End Bad p q = absurd (end-bad p q)
+  field-end-one Bad (Comma d) p q = absurd (not-here at-comma (q .0) (q .1) p)
+  field-end-one Bad (Row d) p q = absurd (not-here at-row (q .0) (q .1) p)
+  field-end-one Bad End p q = absurd (end-bad q p)
+  field-end-one Bad Bad p q = refl

@@ -1,4 +1,9 @@
-// RFC 4180 text, read from a lent slice: whether it is one, and where the field at a place ends.
+// RFC 4180 text, read from a lent slice (document 01, the job book; refusal 2): whether it is one, and where the field at
+// a place ends.
+//
+// What RFC 4180 is stands in `specs/Rfc4180.antt`, a data type for each line of its grammar. What is hard is that the
+// grammar gives a text one reading at most, and that one walk from field to field decides whether it has one: from the
+// start of a field, the text is readable exactly if it is from the start of the next.
 ghost use mathlib.Core.Path.{_≡_};
 ghost use Prim.Native.Nat.{ℕ, _+_, _≤_, _<_};
 ghost use lib.ListN.{length, drop};
@@ -15,7 +20,7 @@ pub enum Ended {
 }
 
 // Where a closing quote stands.
-pub enum Found {
+enum Found {
     At(usize),
     Nothing,
 }

@@ -1,8 +1,11 @@
 -- The cells of a row mean one row, and where a text has a reading a place in it has one answer.
 use Prim.Native.Nat.{ℕ}
+use mathlib.Core.Bool.{Bool, true, false}
 use mathlib.Core.Path.{_≡_, refl, sym, ap, subst, _∙_}
-use mathlib.Core.List.{List}
-use Rattle.csv.specs.Rfc4180.{Cell}
+use mathlib.Core.List.{List, _∷_}
+use lib.ListN.{drop}
+use Rattle.csv.specs.Rfc4180.{Cell, File, Readable}
+use Rattle.csv.proofs.First.{first, some-row}
 use Rattle.kinds.specs.Table.{columns}
 use Rattle.kinds.specs.declared.Columns.{Columns}
 use Rattle.kinds.specs.declared.Kind.{Kind}
@@ -10,6 +13,9 @@ use Rattle.kinds.specs.declared.Numbers.{Numbers}
 use Rattle.kinds.proofs.Letters.{letters-one}
 use Rattle.kinds.proofs.Answers.{means-one}
 use Rattle.rows.specs.Form.{BookRow, content, Six, Form}
+use Rattle.rows.specs.Answer.{formed, RowSeen, SeenAt}
+use Rattle.rows.specs.declared.Keyed.{Keyed}
+use Rattle.rows.specs.declared.RowRead.{RowRead}
 
 six-one : (c : Columns) (cs : List Cell) (m n : Numbers) → Six c cs m → Six c cs n → m ≡ n
 six-one c cs m n p q =
@@ -29,3 +35,19 @@ form-one {cs} {a} {b} f g =
     let n = six-one (columns (b .keyed .row .kind)) cs (a .keyed .row .numbers) (b .keyed .row .numbers) (subst (λ (x : Kind). Six (columns x) cs (a .keyed .row .numbers)) k (f .numbers)) (g .numbers) in
     let t = f .note ∙ sym (g .note) in
     λ i. record { keyed = record { key = record { member = m i; job = j i }; row = record { kind = k i; numbers = n i } }; note = t i }
+
+formed-one : (cs : List Cell) (a b : Bool) (j k : Keyed) → formed a cs j → formed b cs k → (a ≡ b) × (j ≡ k)
+formed-one cs true true j k p q = (refl, ap (λ (r : BookRow). r .keyed) (form-one p q))
+formed-one cs true false j k p q = absurd (q .0 _ p)
+formed-one cs false true j k p q = absurd (p .0 _ q)
+formed-one cs false false j k p q = (refl, p .1 ∙ sym (q .1))
+
+pub row-read-one : {s : List ℕ} {start : ℕ} (a b : RowRead) → Readable (drop start s) → SeenAt s start a → SeenAt s start b → a ≡ b
+row-read-one {s} {start} a b w p q =
+    let m = some-row (first (w .reading)) in
+    let f : File (drop start s) (m .0 ∷ m .1) = subst (File (drop start s)) (m .2) (w .reading) in
+    let x = p (m .0) (m .1) f in
+    let y = q (m .0) (m .1) f in
+    let e = formed-one (m .0) (a .good) (b .good) (a .row) (b .row) (x .means) (y .means) in
+    let n = x .behind ∙ sym (y .behind) in
+    λ i. record { good = e .0 i; row = e .1 i; next = n i }

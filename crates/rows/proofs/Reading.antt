@@ -88,9 +88,9 @@ module _ {s : List ℕ} {start : ℕ} {r : Cells} (h : RowAt s start r) (cs : Li
   pub seen-ten : r .count ≡ 10 → (f : Formed) → FormedAt s r f → RowSeen s start cs css (record { good = f .good; row = f .row; next = r .next })
   seen-ten n f a =
       let i = h cs css q in
-      record { means = a cs (ten-at n); on = i .on; rest = i .rest }
+      record { means = a cs (ten-at n); behind = i .behind; on = i .on; rest = i .rest }
 
   pub seen-not-ten : (r .count ≡ 10 → ⊥) → (k : Keyed) → k ≡ no-row → RowSeen s start cs css (record { good = false; row = k; next = r .next })
   seen-not-ten n k e =
       let i = h cs css q in
-      record { means = (λ b f. n (i .count ∙ f .ten), e); on = i .on; rest = i .rest }
+      record { means = (λ b f. n (i .count ∙ f .ten), e); behind = i .behind; on = i .on; rest = i .rest }

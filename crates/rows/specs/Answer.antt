@@ -1,11 +1,11 @@
 -- What the functions of `src/` answer for the row that starts at a place.
-use Prim.Native.Nat.{ℕ, _<_}
+use Prim.Native.Nat.{ℕ, _+_, _<_, min}
 use mathlib.Core.Path.{_≡_}
 use mathlib.Core.Bool.{Bool, true, false}
 use mathlib.Core.List.{List, _∷_}
 use lib.ListN.{length, getD, drop}
 use Rattle.csv.specs.Rfc4180.{Cell, Field, File, Rest}
-use Rattle.cells.specs.Cells.{no-cell, Stretch}
+use Rattle.cells.specs.Cells.{no-cell, Stretch, offset}
 use Rattle.cells.specs.declared.Cells.{Cells}
 use Rattle.fields.specs.Names.{no-name}
 use Rattle.kinds.specs.Table.{columns, blank-numbers}
@@ -48,6 +48,7 @@ FormedAt s c r = (cs : List Cell) → TenAt s c cs → formed (r .good) cs (r .r
 -- of the row that starts at a place: what it means, and where the next one starts
 pub record RowSeen (s : List ℕ) (start : ℕ) (cs : List Cell) (css : List (List Cell)) (r : RowRead) : Type 0 where
   pub means : formed (r .good) cs (r .row)
+  pub behind : r .next ≡ min (length s) (start + offset cs (length cs) + 1)
   pub on : r .next < length s → start < r .next
   pub rest : Rest (drop (r .next) s) css
 

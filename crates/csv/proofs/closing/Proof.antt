@@ -9,10 +9,6 @@ use Rattle.csv.proofs.Parts.{begins-is, begins-lt, past-begins}
 use Rattle.csv.proofs.Scan.{Escape, escape-none, escape-more, escape-quotes, escape-closes, never-closes}
 use Rattle.csv.proofs.closing.Statement.{statement}
 use Rattle.csv.proofs.closing.Tie as tie
-use Rattle.csv.proofs.closing.Reads as reads
-use Rattle.csv.proofs.closing.Lts as lts
-use Rattle.csv.proofs.byte_is.Reads as byte-is-reads
-use Rattle.csv.proofs.is_inside.Reads as is-inside-reads
 
 abbrev Inv-loop : tie.InvT-loop
 Inv-loop s at i₀ i = (at ≤ i) × (i ≤ length s) × Escape s at i
@@ -20,31 +16,24 @@ Inv-loop s at i₀ i = (at ≤ i) × (i ≤ length s) × Escape s at i
 abbrev μ-loop : tie.MeasureT-loop
 μ-loop s at i₀ i = length s - i
 
--- src/lib.rt:94:5
 loop-holds : tie.Need-loop-holds Inv-loop μ-loop
 loop-holds c = (search needs, search needs, escape-none _ _)
 
--- src/lib.rt:95:17
 shared-slice-read-b : tie.Need-shared-slice-read-b Inv-loop μ-loop
 shared-slice-read-b c = search needs
 
--- src/lib.rt:97:34
 add-byte-is : tie.Need-add-byte-is Inv-loop μ-loop
 add-byte-is c = search needs
 
--- src/lib.rt:97:17
 byte-is-requires : tie.Need-byte-is-requires Inv-loop μ-loop
 byte-is-requires c κs = search needs
 
--- src/lib.rt:99:17
 add-i : tie.Need-add-i Inv-loop μ-loop
 add-i c = search needs
 
--- src/lib.rt:94:5
 loop-less : tie.Need-loop-less Inv-loop μ-loop
 loop-less c = search needs
 
--- src/lib.rt:94:5
 loop-again : tie.Need-loop-again Inv-loop μ-loop
 loop-again c =
     let at-loop = c .before .before .before .before .before in
@@ -57,7 +46,6 @@ loop-again c =
     let k′ = begins-lt s (i + 1) DQUOTE (two .behind) (two .begins) in
     (search needs, omega arith, escape-quotes s at i (inv .0) k (c .before .before .if1 .taken) two (inv .2))
 
--- src/lib.rt:101:17
 returns : tie.Need-returns Inv-loop μ-loop
 returns c =
     let at-loop = c .before .before .before .before .before in
@@ -68,19 +56,15 @@ returns c =
     let inv = at-loop .loop .inv in
     escape-closes s at i (inv .0) k (c .before .before .if1 .taken) (refuted (c .before .byte-is .result) (c .if2 .left) (c .before .byte-is .ensures)) (inv .2)
 
--- src/lib.rt:104:17
 is-inside-requires : tie.Need-is-inside-requires Inv-loop μ-loop
 is-inside-requires c κs = search needs
 
--- src/lib.rt:106:17
 add-i-2 : tie.Need-add-i-2 Inv-loop μ-loop
 add-i-2 c = search needs
 
--- src/lib.rt:94:5
 loop-less-2 : tie.Need-loop-less-2 Inv-loop μ-loop
 loop-less-2 c = search needs
 
--- src/lib.rt:94:5
 loop-again-2 : tie.Need-loop-again-2 Inv-loop μ-loop
 loop-again-2 c =
     let at-loop = c .before .before .before .before .before in
@@ -91,7 +75,6 @@ loop-again-2 c =
     let inv = at-loop .loop .inv in
     (search needs, search needs, escape-more s at i (inv .0) k (decided (c .before .is-inside .result) (c .if3 .taken) (c .before .is-inside .ensures)) (inv .2))
 
--- src/lib.rt:108:17
 returns-2 : tie.Need-returns-2 Inv-loop μ-loop
 returns-2 c =
     let at-loop = c .before .before .before .before .before in
@@ -105,7 +88,6 @@ returns-2 c =
     (λ g. c .before .before .if1 .left (begins-is s i _ (g .behind) (g .begins)))
     (inv .2)
 
--- src/lib.rt:89:1
 returns-3 : tie.Need-returns-3 Inv-loop μ-loop
 returns-3 c =
     let s = c .before .before .before .args .s .now in

@@ -10,22 +10,13 @@ use Rattle.csv.proofs.Ends.{field-ends, plain-field, plain-follows, quo
 use borrow.Author.Needs.{needs}
 use Rattle.csv.proofs.field_end.Statement.{statement}
 use Rattle.csv.proofs.field_end.Tie as tie
-use Rattle.csv.proofs.field_end.Reads as reads
-use Rattle.csv.proofs.field_end.Lts as lts
-use Rattle.csv.proofs.byte_is.Reads as byte-is-reads
-use Rattle.csv.proofs.closing.Reads as closing-reads
-use Rattle.csv.proofs.plain_end.Reads as plain-end-reads
-use Rattle.csv.proofs.stop_at.Reads as stop-at-reads
 
--- src/lib.rt:141:9
 byte-is-requires : tie.Need-byte-is-requires
 byte-is-requires c κs = search needs
 
--- src/lib.rt:143:28
 add-closing : tie.Need-add-closing
 add-closing c = search needs
 
--- src/lib.rt:143:13
 closing-requires : tie.Need-closing-requires
 closing-requires c κs =
     let s = c .before .before .before .args .s .now in
@@ -34,11 +25,9 @@ closing-requires c κs =
     let h : at < length s = begins-lt s at DQUOTE (bq .behind) (bq .begins) in
     omega arith
 
--- src/lib.rt:145:23
 enum-known-f : tie.Need-enum-known-f
 enum-known-f c = search needs
 
--- src/lib.rt:145:40
 add-stop-at : tie.Need-add-stop-at
 add-stop-at c =
     let at-f = c .before in
@@ -49,7 +38,6 @@ add-stop-at c =
     let h = p .within in
     search needs
 
--- src/lib.rt:145:29
 stop-at-requires : tie.Need-stop-at-requires
 stop-at-requires c κs =
     let at-f = c .before in
@@ -60,19 +48,15 @@ stop-at-requires c κs =
     let h = p .within in
     search needs
 
--- src/lib.rt:146:31
 enum-told : tie.Need-enum-told
 enum-told c = search needs
 
--- src/lib.rt:149:13
 plain-end-requires : tie.Need-plain-end-requires
 plain-end-requires c κs = search needs
 
--- src/lib.rt:150:9
 stop-at-requires-2 : tie.Need-stop-at-requires-2
 stop-at-requires-2 c κs = search needs
 
--- src/lib.rt:137:1
 returns : tie.Need-returns
 returns c =
     let at-told = c .before in
@@ -86,7 +70,6 @@ returns c =
     let p = subst (ClosedAt s (at + 1)) (at-f .f .given .1) (at-closing .closing .ensures) in
     field-ends s at (i + 1) (c .stop-at .result) (quoted-field s at bq i p) (quoted-follows s at bq i p) (c .stop-at .ensures)
 
--- src/lib.rt:137:1
 returns-2 : tie.Need-returns-2
 returns-2 c =
     let at-closing = c .before .before in
@@ -96,7 +79,6 @@ returns-2 c =
     let bq = decided (at-if .before .byte-is .result) (at-if .if1 .taken) (at-if .before .byte-is .ensures) in
     unclosed s at bq (subst (ClosedAt s (at + 1)) (c .enum-told .given .1) (at-closing .closing .ensures))
 
--- src/lib.rt:137:1
 returns-3 : tie.Need-returns-3
 returns-3 c =
     let at-if = c .before .before in

@@ -9,9 +9,6 @@ use Rattle.decides.specs.Decides.{decided, refuted}
 use Rattle.csv.proofs.Parts.{part-none, part-more, begins-is, past-begins}
 use Rattle.csv.proofs.plain_end.Statement.{statement}
 use Rattle.csv.proofs.plain_end.Tie as tie
-use Rattle.csv.proofs.plain_end.Reads as reads
-use Rattle.csv.proofs.plain_end.Lts as lts
-use Rattle.csv.proofs.is_text.Reads as is-text-reads
 
 abbrev Inv-loop : tie.InvT-loop
 Inv-loop s at i₀ i = (at ≤ i) × (i ≤ length s) × Plain (part at i s)
@@ -19,27 +16,21 @@ Inv-loop s at i₀ i = (at ≤ i) × (i ≤ length s) × Plain (part at i s)
 abbrev μ-loop : tie.MeasureT-loop
 μ-loop s at i₀ i = length s - i
 
--- src/lib.rt:76:5
 loop-holds : tie.Need-loop-holds Inv-loop μ-loop
 loop-holds c = (search needs, search needs, rw part-none none)
 
--- src/lib.rt:77:17
 shared-slice-read-b : tie.Need-shared-slice-read-b Inv-loop μ-loop
 shared-slice-read-b c = search needs
 
--- src/lib.rt:78:13
 is-text-requires : tie.Need-is-text-requires Inv-loop μ-loop
 is-text-requires c κs = search needs
 
--- src/lib.rt:80:13
 add-i : tie.Need-add-i Inv-loop μ-loop
 add-i c = search needs
 
--- src/lib.rt:76:5
 loop-less : tie.Need-loop-less Inv-loop μ-loop
 loop-less c = search needs
 
--- src/lib.rt:76:5
 loop-again : tie.Need-loop-again Inv-loop μ-loop
 loop-again c =
     let at-test = c .before .before .before in
@@ -47,7 +38,6 @@ loop-again c =
     let inv = c .before .before .before .before .loop .inv in
     (search needs, search needs, plain-more s _ _ (inv .0) (at-test .loop-test .taken) (decided (c .before .is-text .result) (c .if1 .taken) (c .before .is-text .ensures)) (inv .2))
 
--- src/lib.rt:82:13
 returns : tie.Need-returns Inv-loop μ-loop
 returns c =
     let s = c .before .before .before .before .before .before .args .s .now in
@@ -60,7 +50,6 @@ returns c =
       halts = λ b t g. refuted (c .before .is-text .result) (c .if1 .left) (c .before .is-text .ensures) (subst Textdata (sym (begins-is s i b (g .behind) (g .begins))) t);
     }
 
--- src/lib.rt:71:1
 returns-2 : tie.Need-returns-2 Inv-loop μ-loop
 returns-2 c =
     let inv = c .before .loop .inv in

@@ -7,35 +7,25 @@ use Rattle.csv.proofs.Scan.{no-stop, two-bytes}
 use borrow.Author.Needs.{needs}
 use Rattle.csv.proofs.stop_at.Statement.{statement}
 use Rattle.csv.proofs.stop_at.Tie as tie
-use Rattle.csv.proofs.stop_at.Reads as reads
-use Rattle.csv.proofs.stop_at.Lts as lts
-use Rattle.csv.proofs.byte_is.Reads as byte-is-reads
 
--- src/lib.rt:121:9
 returns : tie.Need-returns
 returns c = search needs
 
--- src/lib.rt:123:8
 shared-slice-read-if2 : tie.Need-shared-slice-read-if2
 shared-slice-read-if2 c = search needs
 
--- src/lib.rt:124:9
 returns-2 : tie.Need-returns-2
 returns-2 c = (refl, begins-at _ _ _ (c .before .before .if1 .left) (c .if2 .taken))
 
--- src/lib.rt:126:8
 shared-slice-read-if3 : tie.Need-shared-slice-read-if3
 shared-slice-read-if3 c = search needs
 
--- src/lib.rt:127:29
 add-byte-is : tie.Need-add-byte-is
 add-byte-is c = search needs
 
--- src/lib.rt:127:13
 byte-is-requires : tie.Need-byte-is-requires
 byte-is-requires c κs = search needs
 
--- src/lib.rt:129:13
 returns-3 : tie.Need-returns-3
 returns-3 c =
     let at-if = c .before .before .before .before .before .before in
@@ -43,7 +33,6 @@ returns-3 c =
     let e = at-if .before .before .args .e in
     (refl, two-bytes s e CR LF (at-if .if1 .left) (c .before .before .if3 .taken) (decided (c .before .byte-is .result) (c .if4 .taken) (c .before .byte-is .ensures)))
 
--- src/lib.rt:131:9
 returns-4 : tie.Need-returns-4
 returns-4 c =
     let at-if = c .before .before .before .before .before .before in
@@ -52,7 +41,6 @@ returns-4 c =
     no-stop s e (at-if .if1 .left) (c .before .before .before .before .if2 .left)
     (λ v g. refuted (c .before .byte-is .result) (c .if4 .left) (c .before .byte-is .ensures) (record { behind = v; begins = begins-behind s e CR (LF ∷ v) g }))
 
--- src/lib.rt:116:1
 returns-5 : tie.Need-returns-5
 returns-5 c =
     let at-if = c .before .before .before .before in
