@@ -21,7 +21,7 @@ pub told-exactly : {U : Told → Type 0} {w : Told} {r : ClearanceAnswer} → U 
 told-exactly {U} u a = told-as (λ t e. subst U (sym e) u) a
 
 module _ {v A a : ℕ} {underside flood : ℤ} {Q : ℕ} where
-  cleared-one : {t u : Told} → Cleared v A a underside flood Q t → Cleared v A a underside flood Q u → t ≡ u
+  pub cleared-one : {t u : Told} → Cleared v A a underside flood Q t → Cleared v A a underside flood Q u → t ≡ u
   cleared-one (over-obstructed h) (over-obstructed k) = refl
   cleared-one (over-obstructed h) (clear k l e n) = absurd (omega arith)
   cleared-one (clear h l d m) (over-obstructed k) = absurd (omega arith)
@@ -49,6 +49,10 @@ back-told (Given false size needed) h = refl
 back-told (Given true zero needed) h = absurd (omega (arith, h refl))
 back-told (Given true (suc size) needed) h = refl
 
+-- answers without a minus zero that tell the same are one
+pub told-one : (r s : ClearanceAnswer) → NoMinusZero r → NoMinusZero s → told r ≡ told s → r ≡ s
+told-one r s p q e = sym (back-told r p) ∙ ap back e ∙ back-told s q
+
 -- no second answer meets the promise of `clearance`
 pub clearance-one : (row : Numbers) (discharge : Entry) (r s : ClearanceAnswer) → Answers (Says row discharge) r → Answers (Says row discharge) s → r ≡ s
-clearance-one row discharge r s u v = sym (back-told r (u .plain)) ∙ ap back (says-one (u .says) (v .says)) ∙ back-told s (v .plain)
+clearance-one row discharge r s u v = told-one r s (u .plain) (v .plain) (says-one (u .says) (v .says))

@@ -32,7 +32,7 @@ module _ {Q Z W : ℕ} where
     intense a h (regime b k u) = a .narrow k
     intense a h (constricted b k u) = omega (arith, intensity-one a b)
 
-    scoured-one : {reach : ℕ} {t u : Told} → Scoured Q Z f W reach t → Scoured Q Z f W reach u → t ≡ u
+    pub scoured-one : {reach : ℕ} {t u : Told} → Scoured Q Z f W reach t → Scoured Q Z f W reach u → t ≡ u
     scoured-one (large-catchment h) (large-catchment k) = refl
     scoured-one (large-catchment h) (too-intense a k) = absurd (no-discharge h (a .flood))
     scoured-one (large-catchment h) (needed l n) = absurd (large h l)

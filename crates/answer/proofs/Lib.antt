@@ -1,0 +1,4 @@
+-- Laws of a job's answer. Other crates' proofs cite them.
+pub mod Ordering
+pub mod Marking
+pub mod Answers

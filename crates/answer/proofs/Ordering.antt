@@ -1,0 +1,195 @@
+-- The refusals of a job in their order, from what its load rows and its river rows are told.
+use Prim.Native.Nat.{ℕ, _≤_, _<_}
+use native.Mathlib.Omega.{arith}
+use mathlib.Core.Path.{_≡_, refl, sym, ap, subst, _∙_}
+use mathlib.Core.List.{List}
+use Rattle.kinds.specs.Range.{Ranged}
+use Rattle.kinds.specs.declared.Kind.the-variants.{B}
+use Rattle.kinds.specs.declared.Numbers.{Numbers}
+use Rattle.kinds.specs.declared.Row.{Row}
+use Rattle.jobs.specs.declared.Job.{Job}
+use Rattle.earth.specs.declared.Coefficient.{Coefficient}
+use Rattle.sets.specs.declared.Loads.{Loads}
+use Rattle.checks.specs.Figures.{Sized}
+use Rattle.loads.specs.Taken.{AllRanged, NoneBlank, optionals, AreLoads, rowsOf, Told, refused, given, told, toldBy, Says, out-of-range, blank, too-many, loaded, Answers}
+use Rattle.loads.specs.declared.Answer.the-variants as taking
+use Rattle.loads.specs.declared.Taken.{Taken}
+use Rattle.waters.specs.Waters.{RowsRanged, LargeCatchment, TooIntense, OverObstructed, Passed, DepthIs, ClearIs, RiverSays, large, intense, obstructed, shown}
+use Rattle.waters.specs.declared.RiverRead.{RiverRead}
+use Rattle.waters.specs.declared.RiverRead.the-variants as river
+use Rattle.answer.specs.Rules as rules
+use Rattle.answer.specs.Rules.{AllInRange, Filled, When, Refuses}
+use Rattle.lines.specs.declared.Answer.{Answer}
+use Rattle.lines.specs.declared.DepthLine.{DepthLine}
+use Rattle.lines.specs.declared.ClearLine.{ClearLine}
+use Rattle.checks.specs.declared.Base.{Base}
+use Rattle.answer.specs.Answer.{base-of, Given, WholeIs, earlier}
+
+-- what the load rows are told
+module _ {fill : ℕ → ℕ → Coefficient} {rows : List Row} {n : ℕ} where
+  told-11 : {t : Told} → Says fill rows n t → t ≡ refused 11 → AllRanged rows n → ⊥
+  told-11 (out-of-range h) e = h
+  told-11 (blank a b) e = let z : _≡_ {A = ℕ} 15 11 = cc in absurd (omega arith)
+  told-11 (too-many a b c) e = let z : _≡_ {A = ℕ} 16 11 = cc in absurd (omega arith)
+  told-11 (loaded a b c d) e = let z : _≡_ {A = ℕ} 0 1 = cc in absurd (omega arith)
+
+  told-15 : {t : Told} → Says fill rows n t → t ≡ refused 15 → AllRanged rows n × (NoneBlank fill rows n → ⊥)
+  told-15 (out-of-range h) e = let z : _≡_ {A = ℕ} 11 15 = cc in absurd (omega arith)
+  told-15 (blank a b) e = (a, b)
+  told-15 (too-many a b c) e = let z : _≡_ {A = ℕ} 16 15 = cc in absurd (omega arith)
+  told-15 (loaded a b c d) e = let z : _≡_ {A = ℕ} 0 1 = cc in absurd (omega arith)
+
+  told-16 : {t : Told} → Says fill rows n t → t ≡ refused 16 → AllRanged rows n × NoneBlank fill rows n × (12 < optionals rows n)
+  told-16 (out-of-range h) e = let z : _≡_ {A = ℕ} 11 16 = cc in absurd (omega arith)
+  told-16 (blank a b) e = let z : _≡_ {A = ℕ} 15 16 = cc in absurd (omega arith)
+  told-16 (too-many a b c) e = (a, b, c)
+  told-16 (loaded a b c d) e = let z : _≡_ {A = ℕ} 0 1 = cc in absurd (omega arith)
+
+  told-loads : {t : Told} {loads : Loads} → Says fill rows n t → t ≡ given loads → AllRanged rows n × NoneBlank fill rows n × (optionals rows n ≤ 12) × AreLoads fill rows n loads
+  told-loads (out-of-range h) e = let z : _≡_ {A = ℕ} 0 1 = cc in absurd (omega arith)
+  told-loads (blank a b) e = let z : _≡_ {A = ℕ} 0 1 = cc in absurd (omega arith)
+  told-loads (too-many a b c) e = let z : _≡_ {A = ℕ} 0 1 = cc in absurd (omega arith)
+  told-loads (loaded a b c d) e = (a, b, c, subst (AreLoads fill rows n) (cc) d)
+
+-- a number whose condition holds, and that of no lower one
+module _ (fill : ℕ → ℕ → Coefficient) (job : Job) where
+  pub refuses-11 : (AllInRange job → ⊥) → Refuses fill job 11
+  refuses-11 h = record { holds = rules.out-of-range h; least = λ m w. at-least w }
+    where
+      at-least : {m : ℕ} → When fill job m → 11 ≤ m
+      at-least (rules.out-of-range x) = omega arith
+      at-least (rules.large-catchment x) = omega arith
+      at-least (rules.too-intense x) = omega arith
+      at-least (rules.over-obstructed x) = omega arith
+      at-least (rules.blank x) = omega arith
+      at-least (rules.too-many x) = omega arith
+
+  module _ (a : AllInRange job) where
+    refuses-12 : LargeCatchment job → Refuses fill job 12
+    refuses-12 h = record { holds = rules.large-catchment h; least = λ m w. at-least w }
+      where
+        at-least : {m : ℕ} → When fill job m → 12 ≤ m
+        at-least (rules.out-of-range x) = absurd (x a)
+        at-least (rules.large-catchment x) = omega arith
+        at-least (rules.too-intense x) = omega arith
+        at-least (rules.over-obstructed x) = omega arith
+        at-least (rules.blank x) = omega arith
+        at-least (rules.too-many x) = omega arith
+
+    refuses-13 : (LargeCatchment job → ⊥) → TooIntense job → Refuses fill job 13
+    refuses-13 l h = record { holds = rules.too-intense h; least = λ m w. at-least w }
+      where
+        at-least : {m : ℕ} → When fill job m → 13 ≤ m
+        at-least (rules.out-of-range x) = absurd (x a)
+        at-least (rules.large-catchment x) = absurd (l x)
+        at-least (rules.too-intense x) = omega arith
+        at-least (rules.over-obstructed x) = omega arith
+        at-least (rules.blank x) = omega arith
+        at-least (rules.too-many x) = omega arith
+
+    module _ (p : Passed job) where
+      refuses-14 : OverObstructed job → Refuses fill job 14
+      refuses-14 h = record { holds = rules.over-obstructed h; least = λ m w. at-least w }
+        where
+          at-least : {m : ℕ} → When fill job m → 14 ≤ m
+          at-least (rules.out-of-range x) = absurd (x a)
+          at-least (rules.large-catchment x) = absurd (p .catchment x)
+          at-least (rules.too-intense x) = absurd (p .intensity x)
+          at-least (rules.over-obstructed x) = omega arith
+          at-least (rules.blank x) = omega arith
+          at-least (rules.too-many x) = omega arith
+
+      module _ (o : OverObstructed job → ⊥) where
+        refuses-15 : (Filled fill job → ⊥) → Refuses fill job 15
+        refuses-15 h = record { holds = rules.blank h; least = λ m w. at-least w }
+          where
+            at-least : {m : ℕ} → When fill job m → 15 ≤ m
+            at-least (rules.out-of-range x) = absurd (x a)
+            at-least (rules.large-catchment x) = absurd (p .catchment x)
+            at-least (rules.too-intense x) = absurd (p .intensity x)
+            at-least (rules.over-obstructed x) = absurd (o x)
+            at-least (rules.blank x) = omega arith
+            at-least (rules.too-many x) = omega arith
+
+        refuses-16 : Filled fill job → 12 < optionals (job .loads) (rowsOf (job .count)) → Refuses fill job 16
+        refuses-16 f h = record { holds = rules.too-many h; least = λ m w. at-least w }
+          where
+            at-least : {m : ℕ} → When fill job m → 16 ≤ m
+            at-least (rules.out-of-range x) = absurd (x a)
+            at-least (rules.large-catchment x) = absurd (p .catchment x)
+            at-least (rules.too-intense x) = absurd (p .intensity x)
+            at-least (rules.over-obstructed x) = absurd (o x)
+            at-least (rules.blank x) = absurd (x f)
+            at-least (rules.too-many x) = omega arith
+
+        unrefused : Filled fill job → optionals (job .loads) (rowsOf (job .count)) ≤ 12 → {m : ℕ} → When fill job m → ⊥
+        unrefused f h (rules.out-of-range x) = x a
+        unrefused f h (rules.large-catchment x) = p .catchment x
+        unrefused f h (rules.too-intense x) = p .intensity x
+        unrefused f h (rules.over-obstructed x) = o x
+        unrefused f h (rules.blank x) = x f
+        unrefused f h (rules.too-many x) = omega arith
+
+    -- the river's refusals come before 15 and 16
+    river-first : {n : ℕ} → RiverSays job (river.Refused n) → Refuses fill job n
+    river-first (large l) = refuses-12 l
+    river-first (intense k i) = refuses-13 k i
+    river-first (obstructed q o) = refuses-14 q o
+
+    first : (x : RiverRead) (n : ℕ) → RiverSays job x → (Passed job → (OverObstructed job → ⊥) → Refuses fill job n) → Refuses fill job (earlier x n)
+    first (river.Refused m) n s f = river-first s
+    first (river.Shown d c) n (shown q o x y) f = f q o
+
+module _ (fill : ℕ → ℕ → Coefficient) (job : Job) (t : Taken) (w : Answers fill (job .loads) (job .count) t) where
+  pub loads-11 : t .answer ≡ taking.OutOfRange → Refuses fill job 11
+  unfolding told toldBy
+  loads-11 e = refuses-11 fill job (λ a. told-11 (w .says) (ap (λ x. toldBy x (t .loads)) e) (a .loads))
+
+  module _ (r : RowsRanged job) where
+    pub loads-15 : t .answer ≡ taking.NoCoefficient → (x : RiverRead) → RiverSays job x → Refuses fill job (earlier x 15)
+    unfolding told toldBy
+    loads-15 e x s =
+        let k = told-15 (w .says) (ap (λ a. toldBy a (t .loads)) e) in
+        let a : AllInRange job = record { rows = r; loads = k .0 } in
+        first fill job a x 15 s (λ p o. refuses-15 fill job a p o (k .1))
+
+    pub loads-16 : t .answer ≡ taking.TooMany → (x : RiverRead) → RiverSays job x → Refuses fill job (earlier x 16)
+    unfolding told toldBy
+    loads-16 e x s =
+        let k = told-16 (w .says) (ap (λ a. toldBy a (t .loads)) e) in
+        let a : AllInRange job = record { rows = r; loads = k .0 } in
+        first fill job a x 16 s (λ p o. refuses-16 fill job a p o (k .1) (k .2))
+
+    module _ (e : t .answer ≡ taking.Given) where
+      told-given : AllRanged (job .loads) (rowsOf (job .count)) × NoneBlank fill (job .loads) (rowsOf (job .count)) × (optionals (job .loads) (rowsOf (job .count)) ≤ 12) × AreLoads fill (job .loads) (rowsOf (job .count)) (t .loads)
+      unfolding told toldBy
+      told-given = told-loads (w .says) (ap (λ a. toldBy a (t .loads)) e)
+
+      in-range : AllInRange job
+      in-range = record { rows = r; loads = told-given .0 }
+
+      pub river-refuses : {n : ℕ} → RiverSays job (river.Refused n) → Refuses fill job n
+      river-refuses s = river-first fill job in-range s
+
+      pub given-answer : {d : DepthLine} {c : ClearLine} {base : Base} {a : Answer} → RiverSays job (river.Shown d c) → base ≡ base-of (job .base) → WholeIs base (t .loads) d c a → Given fill job a
+      given-answer {d} {c} {a = a} (shown q k x y) e w =
+          let v = subst (λ (b : Base). WholeIs b (t .loads) d c a) e w in
+          record {
+            unrefused = λ n h. unrefused fill job in-range q k (told-given .1) (told-given .2) h;
+            loads = t .loads;
+            are = told-given .3;
+            one = v .one;
+            two = v .two;
+            three = v .three;
+            four = v .four;
+            depth = subst (DepthIs job) (sym (v .depth)) x;
+            clear = subst (ClearIs job) (sym (v .clear)) y;
+            verdict = v .verdict;
+          }
+
+-- a base in range fits the checks
+pub sized : (n : Numbers) → Ranged B n → Sized (base-of n)
+sized n r =
+    let a = r .n1 .from in
+    let b = r .n2 .from in
+    record { wide = omega arith; width = r .n1 .to; long = omega arith; length = r .n2 .to; allowable = r .n3 .to; friction = r .n4 .to }

@@ -1,0 +1,22 @@
+use mathlib.Core.Path.{ap}
+use Rattle.worst.specs.declared.Lines.{Lines}
+use Rattle.lines.specs.declared.Verdict.the-variants.{Refused}
+use Rattle.lines.specs.declared.DepthLine.the-variants as depth
+use Rattle.lines.specs.declared.ClearLine.the-variants as clear
+use borrow.Author.Needs.{needs}
+use Rattle.answer.proofs.refused.Statement.{statement}
+use Rattle.answer.proofs.refused.Tie as tie
+use Rattle.answer.proofs.refused.Reads as reads
+use Rattle.answer.proofs.refused.Lts as lts
+use Rattle.answer.proofs.missing.Reads as missing-reads
+
+-- src/lib.rt:62:9
+missing-requires : tie.Need-missing-requires
+missing-requires c κs = search needs
+
+-- src/lib.rt:59:1
+returns : tie.Need-returns
+returns c = ap (λ (l : Lines). record { verdict = Refused (c .before .args .number); one = l; two = l; three = l; four = l; depth = depth.Missing; clear = clear.Missing }) (c .missing .ensures)
+
+pub refused-spec : {M : Type 1} → statement M
+refused-spec = tie.close (tie.spec missing-requires returns)

@@ -1,0 +1,38 @@
+-- Document 01, Refusals of a job: 11 to 16, over the whole job. `fill` is what is held for a soil and a slope: today Table 2.
+use Prim.Native.Nat.{ℕ, _<_}
+use Rattle.rounding.specs.Least.{Least}
+use Rattle.jobs.specs.declared.Job.{Job}
+use Rattle.earth.specs.declared.Coefficient.{Coefficient}
+use Rattle.loads.specs.Taken.{AllRanged, NoneBlank, optionals, rowsOf}
+use Rattle.waters.specs.Waters.{RowsRanged, LargeCatchment, TooIntense, OverObstructed}
+
+-- every number of every row is in its range
+pub record AllInRange (job : Job) : Type 0 where
+  pub rows : RowsRanged job
+  pub loads : AllRanged (job .loads) (rowsOf (job .count))
+
+-- Table 2 is blank for no E row
+abbrev pub Filled : (ℕ → ℕ → Coefficient) → Job → Type 0
+Filled fill job = NoneBlank fill (job .loads) (rowsOf (job .count))
+
+-- "given exactly when"
+pub data When (fill : ℕ → ℕ → Coefficient) (job : Job) : ℕ → Type 0 where
+  -- a number out of range
+  out-of-range : (AllInRange job → ⊥) → When fill job 11
+  -- catchment above 25,000
+  large-catchment : LargeCatchment job → When fill job 12
+  -- the constricted rule applies and q is above 50,000
+  too-intense : TooIntense job → When fill job 13
+  -- a above A
+  over-obstructed : OverObstructed job → When fill job 14
+  -- Table 2 is blank there
+  blank : (Filled fill job → ⊥) → When fill job 15
+  -- more than 12 optional load rows
+  too-many : 12 < optionals (job .loads) (rowsOf (job .count)) → When fill job 16
+
+-- "Order as numbered": a job is refused with the least of its numbers
+abbrev pub Refuses : (ℕ → ℕ → Coefficient) → Job → ℕ → Type 0
+Refuses fill job n = Least (When fill job) n
+
+abbrev pub Unrefused : (ℕ → ℕ → Coefficient) → Job → Type 0
+Unrefused fill job = (n : ℕ) → When fill job n → ⊥

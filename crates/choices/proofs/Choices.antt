@@ -1,0 +1,224 @@
+-- The choices of the free rows are the sets whose rows may stand in them: choice k makes the set `pick`, every such set is made by a choice, and the sums of the
+-- choice are those of the set.
+use mathlib.Core.Path.{_≡_, refl, sym, _∙_, ap, ap₂, subst}
+use mathlib.Core.Logic.{_⊎_, inl, inr, ⊎-elim}
+use mathlib.Core.Bool.{Bool, true, false, cond}
+use Prim.Native.Nat.{ℕ, zero, suc, _+_, _*_, _-_, _/_, _%_, _^_, _≤_, _<_}
+use native.Mathlib.Omega.{arith}
+use native.Mathlib.Numerals.{add-one}
+use native.Mathlib.Nat.{pow-suc, div-lt-iff-lt-mul, lt-of-lt-of-le}
+use native.Mathlib.Decide.{decLt}
+use lib.Dec.{eqb, lit<}
+use lib.Pow.{pow-pos}
+use Rattle.sets.specs.declared.Loads.{Loads}
+use Rattle.sets.specs.declared.Sums.{Sums}
+use Rattle.sets.specs.Sets.{bit, row}
+use Rattle.sets.specs.Sums.{noSums, add, addIf, termsOf, sumsTo}
+use Rattle.sets.proofs.Bits.{bit-two, bit-not-one, bit-above, bit-own, bit-kept, one-more, no-more, bit-empty}
+use Rattle.sets.proofs.Adding.{add-swap, add-if-in, add-if-out}
+use Rattle.choices.specs.declared.Stance.{Stance}
+use Rattle.choices.specs.declared.Stance.the-variants.{Never, Always, Either}
+use Rattle.choices.specs.Stance.{held, next, free, join, pick, fixedBy, fixed, chosen, rowTerms}
+
+-- ---- a set of n + 1 rows has its last row or has it not
+pub data Split (s n : ℕ) : Type 0 where
+  without : s < 2 ^ n → Split s n
+  with : (rest : ℕ) → rest < 2 ^ n → s ≡ rest + 2 ^ n → Split s n
+
+pub split : (s n : ℕ) → s < 2 ^ suc n → Split s n
+split s n h = go (decLt s (2 ^ n))
+  where
+    go : Dec (s < 2 ^ n) → Split s n
+    go (yes k) = without k
+    go (no k) = with (s - 2 ^ n) (omega (arith, rw (pow-suc 2 n) at h)) (omega arith)
+
+-- ---- the free rows passed
+pub next-le : (a : Stance) (m : ℕ) → m ≤ next a m
+unfolding next
+next-le Never m = omega arith
+next-le Always m = omega arith
+next-le Either m = omega arith
+
+next-room : (a : Stance) (m : ℕ) → next a m ≤ suc m
+unfolding next
+next-room Never m = omega arith
+next-room Always m = omega arith
+next-room Either m = omega arith
+
+pub free-room : (stance : ℕ → Stance) (n : ℕ) → free stance n ≤ n
+unfolding free
+free-room stance zero = omega arith
+free-room stance (suc n) = omega (arith, next-room (stance n) (free stance n), free-room stance n)
+
+held-same : (a : Stance) (m : ℕ) {x y : ℕ} → (m < next a m → x ≡ y) → held a x ≡ held a y
+unfolding held next
+held-same Never m h = refl
+held-same Always m h = refl
+held-same Either m h = h (omega arith)
+
+module _ (stance : ℕ → Stance) where
+  -- ---- the set that a choice makes
+  join-low : (b s n : ℕ) → s < 2 ^ n → join b s (2 ^ n) < 2 ^ suc n
+  unfolding join
+  join-low zero s n h = rw (pow-suc 2 n) (omega arith)
+  join-low (suc b) s n h = rw (pow-suc 2 n) (omega arith)
+
+  pub pick-low : (n k : ℕ) → pick stance n k < 2 ^ n
+  unfolding pick
+  pick-low zero k = lit< tt
+  pick-low (suc n) k = join-low (held (stance n) (bit k (free stance n))) (pick stance n k) n (pick-low n k)
+
+  held-two : (a : Stance) (b : ℕ) → b < 2 → held a b < 2
+  unfolding held
+  held-two Never b h = omega arith
+  held-two Always b h = omega arith
+  held-two Either b h = h
+
+  join-own : (b s n : ℕ) → b < 2 → s < 2 ^ n → bit (join b s (2 ^ n)) n ≡ b
+  unfolding join
+  join-own zero s n k h = bit-above s n h
+  join-own (suc b) s n k h = bit-own s n h ∙ omega arith
+
+  join-kept : (b s n i : ℕ) → i < n → bit (join b s (2 ^ n)) i ≡ bit s i
+  unfolding join
+  join-kept zero s n i h = refl
+  join-kept (suc b) s n i h = bit-kept s i n h
+
+  -- its own bit, and the bits below it
+  pub pick-own : (n k : ℕ) → bit (pick stance (suc n) k) n ≡ held (stance n) (bit k (free stance n))
+  unfolding pick
+  pick-own n k =
+      join-own (held (stance n) (bit k (free stance n))) (pick stance n k) n (held-two (stance n) (bit k (free stance n)) (bit-two k (free stance n))) (pick-low n k)
+
+  pub pick-kept : (n k i : ℕ) → i < n → bit (pick stance (suc n) k) i ≡ bit (pick stance n k) i
+  unfolding pick
+  pick-kept n k i h = join-kept (held (stance n) (bit k (free stance n))) (pick stance n k) n i h
+
+  pub pick-bit : (n k i : ℕ) → i < n → bit (pick stance n k) i ≡ held (stance i) (bit k (free stance i))
+  pick-bit zero k i h = absurd (omega arith)
+  pick-bit (suc n) k i h = go (pick-bit n k i) (decLt i n)
+    where
+      go : (i < n → bit (pick stance n k) i ≡ held (stance i) (bit k (free stance i))) → Dec (i < n) → bit (pick stance (suc n) k) i ≡ held (stance i) (bit k (free stance i))
+      go before (yes l) = pick-kept n k i l ∙ before l
+      go before (no l) =
+          let e : i ≡ n = omega arith in
+          subst (λ (j : ℕ). bit (pick stance (suc n) k) j ≡ held (stance j) (bit k (free stance j))) (sym e) (pick-own n k)
+
+  -- it goes by the bits of the choice for the free rows passed
+  pub pick-same : (n k l : ℕ) → ((j : ℕ) → j < free stance n → bit k j ≡ bit l j) → pick stance n k ≡ pick stance n l
+  unfolding pick free
+  pick-same zero k l h = refl
+  pick-same (suc n) k l h =
+      ap₂ (λ (b s : ℕ). join b s (2 ^ n)) (held-same (stance n) (free stance n) (λ j. h (free stance n) j))
+      (pick-same n k l (λ j m. h j (lt-of-lt-of-le m (next-le (stance n) (free stance n)))))
+
+  -- ---- every set whose rows stand as their stance says is made by a choice
+  unfoldable pub Stands : ℕ → ℕ → Type 0
+  Stands t n = (i : ℕ) → i < n → ((stance i ≡ Never → bit t i ≡ 0) × (stance i ≡ Always → bit t i ≡ 1))
+
+  unfoldable pub Made : ℕ → ℕ → Type 0
+  Made t n = (k : ℕ) × (k < 2 ^ free stance n) × (pick stance n k ≡ t)
+
+  made-out : (t n : ℕ) → t < 2 ^ n → Made t n → (a : Stance) → stance n ≡ a → (a ≡ Always → bit t n ≡ 1) → Made t (suc n)
+  unfolding Made pick free held next join
+  made-out t n h w Never e f = (w .0, rw e (w .1), rw e (w .2))
+  made-out t n h w Always e f = absurd (omega (arith, f refl, bit-above t n h))
+  made-out t n h w Either e f =
+      (w .0, rw (e, pow-suc 2 (free stance n)) (omega (arith, w .1)), rw (e, bit-above (w .0) (free stance n) (w .1)) (w .2))
+
+  made-in : (t r n : ℕ) → r < 2 ^ n → t ≡ r + 2 ^ n → Made r n → (a : Stance) → stance n ≡ a → (a ≡ Never → bit t n ≡ 0) → Made t (suc n)
+  unfolding Made pick free held next join
+  made-in t r n h d w Never e f = absurd (omega (arith, f refl, ap (λ (x : ℕ). bit x n) d, bit-own r n h))
+  made-in t r n h d w Always e f = (w .0, rw e (w .1), rw e (ap (λ (x : ℕ). x + 2 ^ n) (w .2) ∙ sym d))
+  made-in t r n h d w Either e f =
+      let k = w .0 + 2 ^ free stance n in (
+        k,
+        rw (e, pow-suc 2 (free stance n)) (omega (arith, w .1)),
+        rw (e, bit-own (w .0) (free stance n) (w .1)) (ap (λ (x : ℕ). x + 2 ^ n) (pick-same n k (w .0) (λ j m. bit-kept (w .0) j (free stance n) m) ∙ w .2) ∙ sym d),
+      )
+
+  pub made : (t n : ℕ) → t < 2 ^ n → Stands t n → Made t n
+  unfolding Made Stands free pick
+  made t zero h s = (0, lit< tt, zero-only t h)
+    where
+      zero-only : (t : ℕ) → t < 1 → 0 ≡ t
+      zero-only t h = omega arith
+  made t (suc n) h s = go (λ r k f. made r n k f) (split t n h)
+    where
+      go : ((r : ℕ) → r < 2 ^ n → Stands r n → Made r n) → Split t n → Made t (suc n)
+      go before (without k) = made-out t n k (before t k (λ i l. s i (omega arith))) (stance n) refl (λ e. s n (omega arith) .1 e)
+      go before (with r k d) =
+          made-in t r n k d
+          (before r k (λ i l. (λ e. lower i l ∙ s i (omega arith) .0 e, λ e. lower i l ∙ s i (omega arith) .1 e))) (stance n) refl (λ e. s n (omega arith) .0 e)
+        where
+          lower : (i : ℕ) → i < n → bit r i ≡ bit t i
+          lower i l = sym (ap (λ (x : ℕ). bit x i) d ∙ bit-kept r i n l)
+
+-- ---- sums of a choice
+pub sums-same : (width : ℕ) (loads : Loads) (s t n : ℕ) → ((i : ℕ) → i < n → bit s i ≡ bit t i) → sumsTo width loads s n ≡ sumsTo width loads t n
+unfolding sumsTo
+sums-same width loads s t zero h = refl
+sums-same width loads s t (suc n) h =
+    ap₂ (λ (b : ℕ) (x : Sums). addIf b x (termsOf width (row loads n) (2 ^ n))) (h n (omega arith)) (sums-same width loads s t n (λ i l. h i (omega arith)))
+
+-- the sums of a set have its number
+pub sums-number : (width : ℕ) (loads : Loads) (s n : ℕ) → s < 2 ^ n → (sumsTo width loads s n) .set ≡ s
+unfolding sumsTo noSums add termsOf
+sums-number width loads s zero h = zero-only s h
+  where
+    zero-only : (t : ℕ) → t < 1 → 0 ≡ t
+    zero-only t h = omega arith
+sums-number width loads s (suc n) h = go (λ r k. sums-number width loads r n k) (split s n h)
+  where
+    terms : Sums
+    terms = termsOf width (row loads n) (2 ^ n)
+
+    go : ((r : ℕ) → r < 2 ^ n → (sumsTo width loads r n) .set ≡ r) → Split s n → (addIf (bit s n) (sumsTo width loads s n) terms) .set ≡ s
+    go before (without k) = ap (λ (x : Sums). x .set) (add-if-out (sumsTo width loads s n) terms (bit-above s n k)) ∙ before s k
+    go before (with r k d) =
+        ap (λ (x : Sums). x .set) (add-if-in (sumsTo width loads s n) terms (ap (λ (x : ℕ). bit x n) d ∙ bit-own r n k))
+        ∙ own (ap (λ (x : Sums). x .set) (sums-same width loads s r n (λ i l. ap (λ (x : ℕ). bit x i) d ∙ bit-kept r i n l)) ∙ before r k) ∙ sym d
+      where
+        own : {m : ℕ} → (sumsTo width loads s n) .set ≡ m → (add (sumsTo width loads s n) terms) .set ≡ m + 2 ^ n
+        own e = ap (λ (x : ℕ). x + 2 ^ n) e
+
+-- a row added first or last
+chosen-shift : (first t : Sums) (table : ℕ → Sums) (k m : ℕ) → chosen (add first t) table k m ≡ add (chosen first table k m) t
+unfolding chosen addIf
+chosen-shift first t table k zero = refl
+chosen-shift first t table k (suc m) =
+    ap (λ (x : Sums). addIf (bit k m) x (table m)) (chosen-shift first t table k m) ∙ swap (bit k m) (chosen first table k m) (table m)
+  where
+    swap : (b : ℕ) (x y : Sums) → addIf b (add x t) y ≡ add (addIf b x y) t
+    swap zero x y = refl
+    swap (suc b) x y = add-swap x t y
+
+module _ (stance : ℕ → Stance) (width : ℕ) (loads : Loads) (table : ℕ → Sums) where
+  -- the table holds the terms of the free rows, in order
+  unfoldable pub Tabled : ℕ → Type 0
+  Tabled n = (i : ℕ) → i < n → stance i ≡ Either → table (free stance i) ≡ rowTerms width loads i
+
+  step : (n k : ℕ) (a : Stance) → stance n ≡ a → (a ≡ Either → table (free stance n) ≡ rowTerms width loads n)
+      → sumsTo width loads (pick stance n k) n ≡ chosen (fixed stance (rowTerms width loads) n) table k (free stance n)
+      → sumsTo width loads (pick stance (suc n) k) (suc n) ≡ chosen (fixed stance (rowTerms width loads) (suc n)) table k (free stance (suc n))
+  unfolding sumsTo fixed free chosen next addIf held fixedBy rowTerms
+  step n k a e own before =
+      ap₂ (λ (b : ℕ) (x : Sums). addIf b x (termsOf width (row loads n) (2 ^ n))) (pick-own stance n k ∙ ap (λ (y : Stance). held y (bit k (free stance n))) e)
+      (sums-same width loads (pick stance (suc n) k) (pick stance n k) n (pick-kept stance n k) ∙ before)
+      ∙ go a own
+      ∙ ap (λ (y : Stance). chosen (fixedBy y (fixed stance (rowTerms width loads) n) (rowTerms width loads n)) table k (next y (free stance n))) (sym e)
+    where
+      go : (a : Stance) → (a ≡ Either → table (free stance n) ≡ rowTerms width loads n)
+          → addIf (held a (bit k (free stance n))) (chosen (fixed stance (rowTerms width loads) n) table k (free stance n)) (termsOf width (row loads n) (2 ^ n))
+          ≡ chosen (fixedBy a (fixed stance (rowTerms width loads) n) (rowTerms width loads n)) table k (next a (free stance n))
+      go Never f = refl
+      go Always f = sym (chosen-shift (fixed stance (rowTerms width loads) n) (rowTerms width loads n) table k (free stance n))
+      go Either f = ap (λ (x : Sums). addIf (bit k (free stance n)) (chosen (fixed stance (rowTerms width loads) n) table k (free stance n)) x) (sym (f refl))
+
+  pub pick-sums : (n k : ℕ) → Tabled n → sumsTo width loads (pick stance n k) n ≡ chosen (fixed stance (rowTerms width loads) n) table k (free stance n)
+  unfolding Tabled chosen sumsTo free fixed
+  pick-sums zero k h = nothing
+    where
+      nothing : sumsTo width loads (pick stance 0 k) 0 ≡ chosen (fixed stance (rowTerms width loads) 0) table k (free stance 0)
+      nothing = refl
+  pick-sums (suc n) k h = step n k (stance n) refl (λ e. h n (omega arith) e) (pick-sums n k (λ i l. h i (omega arith)))

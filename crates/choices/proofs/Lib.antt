@@ -1,0 +1,3 @@
+-- The laws of choices. Other crates' proofs cite them.
+pub mod Choices
+pub mod Rows

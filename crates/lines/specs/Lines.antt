@@ -1,0 +1,143 @@
+-- Document 01, The printed answer: the lines of an answer, in their order. A line's key is the job's, and stands before each of them.
+use Prim.Native.Nat.{ℕ, _<_}
+use mathlib.Core.Bool.{Bool, true, false}
+use mathlib.Core.List.{List, [], _∷_, _++_}
+use Rattle.sets.specs.declared.Combination.{Combination}
+use Rattle.sets.specs.declared.Combination.the-variants.{I, II, III, IV}
+use Rattle.checks.specs.declared.Check.{Check}
+use Rattle.checks.specs.declared.Check.the-variants.{OP, OM, SL, PR, RK}
+use Rattle.checks.specs.declared.Figure.{Figure}
+use Rattle.checks.specs.declared.Figure.the-variants.{Nothing, Number, Off}
+use Rattle.worst.specs.declared.Line.{Line}
+use Rattle.worst.specs.declared.Line.the-variants as line
+use Rattle.worst.specs.declared.Lines.{Lines}
+use Rattle.lines.specs.declared.Verdict.{Verdict}
+use Rattle.lines.specs.declared.Verdict.the-variants.{Accepted, NotAccepted, Refused}
+use Rattle.lines.specs.declared.DepthLine.{DepthLine}
+use Rattle.lines.specs.declared.DepthLine.the-variants as depth
+use Rattle.lines.specs.declared.ClearLine.{ClearLine}
+use Rattle.lines.specs.declared.ClearLine.the-variants as clear
+use Rattle.lines.specs.declared.Answer.{Answer}
+
+-- "line": VERDICT; a combination and a check, as in I-OP; SC; CL
+pub data LineName : Type 0 where
+  VERDICT : LineName
+  check : Combination → Check → LineName
+  SC : LineName
+  CL : LineName
+
+-- "value": A or N of a verdict, "none", "off", or a number, with a minus where it is below 0
+pub data Value : Type 0 where
+  accepted : Value
+  not-accepted : Value
+  none : Value
+  off : Value
+  number : ℕ → Value
+  minus : ℕ → Value
+
+-- "limit" and "set": empty, or a number
+pub data Cell : Type 0 where
+  empty : Cell
+  holds : ℕ → Cell
+
+-- "Y or N": empty in VERDICT
+pub data Mark : Type 0 where
+  unmarked : Mark
+  Y : Mark
+  N : Mark
+
+-- "Seven fields: member, job, line, value, limit, set, Y or N": the five behind the key
+pub record PrintedLine : Type 0 where
+  pub name : LineName
+  pub value : Value
+  pub limit : Cell
+  pub set : Cell
+  pub mark : Mark
+
+unfoldable pub mark-of : Bool → Mark
+mark-of true = Y
+mark-of false = N
+
+unfoldable pub value-of : Figure → Value
+value-of Nothing = none
+value-of (Number n) = number n
+value-of Off = off
+
+unfoldable pub signed-value : Bool → ℕ → Value
+signed-value true n = minus n
+signed-value false n = number n
+
+-- "with A, N or the refusal"
+unfoldable pub verdict-value : Verdict → Value
+verdict-value Accepted = accepted
+verdict-value NotAccepted = not-accepted
+verdict-value (Refused n) = number n
+
+-- "VERDICT comes first, with A, N or the refusal and the rest empty."
+unfoldable pub verdict-line : Verdict → PrintedLine
+verdict-line verdict = record { name = VERDICT; value = verdict-value verdict; limit = empty; set = empty; mark = unmarked }
+
+-- the line of a check in a combination, where it applies
+unfoldable pub check-line : Combination → Check → Line → List PrintedLine
+check-line combination of line.Missing = []
+check-line combination of (line.Shown figure limit set passes) =
+    record { name = check combination of; value = value-of figure; limit = holds limit; set = holds set; mark = mark-of passes } ∷ []
+
+-- "for each checked combination .. OP, OM, SL, PR, RK as they apply"
+unfoldable pub combination-lines : Combination → Lines → List PrintedLine
+combination-lines combination lines =
+    check-line combination OP (lines .op)
+    ++ (check-line combination OM (lines .om)
+    ++ (check-line combination SL (lines .sl)
+    ++ (check-line combination PR (lines .pr)
+    ++ check-line combination RK (lines .rk))))
+
+-- "SC (.. value needed, limit found)". "SC and CL have no set."
+unfoldable pub depth-line : DepthLine → List PrintedLine
+depth-line depth.Missing = []
+depth-line (depth.Shown needed found passes) =
+    record { name = SC; value = number needed; limit = holds found; set = empty; mark = mark-of passes } ∷ []
+
+-- "CL (.. value underside - flood - afflux)", limit the clearance needed
+unfoldable pub clear-line : ClearLine → List PrintedLine
+clear-line clear.Missing = []
+clear-line (clear.Shown below size needed passes) =
+    record { name = CL; value = signed-value below size; limit = holds needed; set = empty; mark = mark-of passes } ∷ []
+
+-- "Then for each checked combination, I to IV, .. SC .., CL"
+unfoldable pub later-lines : Answer → List PrintedLine
+later-lines answer =
+    combination-lines I (answer .one)
+    ++ (combination-lines II (answer .two)
+    ++ (combination-lines III (answer .three)
+    ++ (combination-lines IV (answer .four)
+    ++ (depth-line (answer .depth)
+    ++ clear-line (answer .clear)))))
+
+-- "A refused job has only VERDICT."
+unfoldable pub unless-refused : Verdict → List PrintedLine → List PrintedLine
+unless-refused Accepted later = later
+unless-refused NotAccepted later = later
+unless-refused (Refused n) later = []
+
+unfoldable pub lines-of : Answer → List PrintedLine
+lines-of answer = verdict-line (answer .verdict) ∷ unless-refused (answer .verdict) (later-lines answer)
+
+-- A set number of 16 load rows is below 65,536.
+unfoldable pub SetFits : Line → Type 0
+SetFits line.Missing = Unit {0}
+SetFits (line.Shown figure limit set passes) = set < 65536
+
+pub record SetsFit (lines : Lines) : Type 0 where
+  pub op : SetFits (lines .op)
+  pub om : SetFits (lines .om)
+  pub sl : SetFits (lines .sl)
+  pub pr : SetFits (lines .pr)
+  pub rk : SetFits (lines .rk)
+
+-- the set numbers of a job's lines, each one's combination over at most 16 load rows
+pub record Numbered (answer : Answer) : Type 0 where
+  pub one : SetsFit (answer .one)
+  pub two : SetsFit (answer .two)
+  pub three : SetsFit (answer .three)
+  pub four : SetsFit (answer .four)

@@ -1,0 +1,3 @@
+pub mod Amounts
+pub mod Exerting
+pub mod Answering

@@ -1,0 +1,18 @@
+use mathlib.Core.Path.{sym, ap}
+use mathlib.Core.Bool.{Bool, cond}
+use borrow.Author.Tests.{lt-ltb, le-ltb}
+use lib.Dec.{lit≤}
+use Rattle.loads.specs.Taken.{rowsOf}
+use Rattle.loads.proofs.rows_of.Statement.{statement}
+use Rattle.loads.proofs.rows_of.Tie as tie
+
+returns : tie.Need-returns
+unfolding rowsOf
+returns c = (sym (ap (λ (t : Bool). cond t 16 (c .before .args .count)) (lt-ltb 16 _ (c .if1 .taken))), lit≤ tt)
+
+returns-2 : tie.Need-returns-2
+unfolding rowsOf
+returns-2 c = (sym (ap (λ (t : Bool). cond t 16 (c .before .args .count)) (le-ltb 16 _ (c .if1 .left))), c .if1 .left)
+
+pub rows-of-spec : {M : Type 1} → statement M
+rows-of-spec = tie.close (tie.spec returns returns-2)

@@ -1,0 +1,2 @@
+pub mod Exerts
+pub mod Taken

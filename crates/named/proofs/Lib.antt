@@ -1,0 +1,3 @@
+-- The laws of what a line names, and of the search for it. Other crates' proofs cite them.
+pub mod Unique
+pub mod Weights

@@ -1,0 +1,11 @@
+use mathlib.Core.Path.{refl}
+use Rattle.sets.specs.Sums.{noSums}
+use Rattle.sets.proofs.no_sums.Statement.{statement}
+use Rattle.sets.proofs.no_sums.Tie as tie
+
+returns : tie.Need-returns
+unfolding noSums
+returns c = refl
+
+pub no-sums-spec : {M : Type 1} → statement M
+no-sums-spec = tie.close (tie.spec returns)

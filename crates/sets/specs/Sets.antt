@@ -1,0 +1,100 @@
+-- Document 01, Load sets (002, 5.13): which sets of a job's load rows a combination permits.
+use mathlib.Core.Path.{_≡_}
+use mathlib.Core.Logic.{_⊎_}
+use mathlib.Core.Bool.{false}
+use Prim.Native.Nat.{ℕ, _/_, _%_, _^_, _≤_, _<_}
+use lib.ListN.{getD}
+use Rattle.signed.specs.declared.Amount.{Amount}
+use Rattle.sets.specs.declared.Class.{Class}
+use Rattle.sets.specs.declared.Class.the-variants.{Permanent, Free, Wind, Earthquake}
+use Rattle.sets.specs.declared.Combination.{Combination}
+use Rattle.sets.specs.declared.Combination.the-variants.{I, II, III, IV}
+use Rattle.sets.specs.declared.Load.{Load}
+use Rattle.sets.specs.declared.Loads.{Loads}
+
+-- The first load row counts 1, the next 2, the next 4: the bit of row i, from 0, is 1 where the row is in the set.
+unfoldable pub bit : ℕ → ℕ → ℕ
+bit set i = set / 2 ^ i % 2
+
+-- no load: what stands past the last row
+abbrev pub noAmount : Amount
+noAmount = record { minus = false; size = 0 }
+
+abbrev pub noLoad : Load
+noLoad = record { class = Permanent; phase = 0; v = noAmount; x = noAmount; h = noAmount; twist = noAmount }
+
+-- row i, from 0
+unfoldable pub row : Loads → ℕ → Load
+row loads i = getD (loads .loads) i noLoad
+
+-- I, II and III are over phases 0 and 2; IV is over phases 1 and 2.
+unfoldable pub ownPhase : Combination → ℕ
+ownPhase I = 0
+ownPhase II = 0
+ownPhase III = 0
+ownPhase IV = 1
+
+unfoldable pub Acts : Combination → ℕ → Type 0
+Acts combination phase = (phase ≡ ownPhase combination) ⊎ (phase ≡ 2)
+
+-- a row of the class is in the set
+unfoldable pub Has : Class → Loads → ℕ → Type 0
+Has class loads set = (i : ℕ) × (i < loads .count) × (bit set i ≡ 1) × ((row loads i) .class ≡ class)
+
+-- some row has phase 1
+unfoldable pub Erected : Loads → Type 0
+Erected loads = (i : ℕ) × (i < loads .count) × ((row loads i) .phase ≡ 1)
+
+-- I: no WL or SF. II: at least one WL, no SF. III: at least one SF, no WL. IV: never WL with SF.
+unfoldable pub Mixed : Combination → Loads → ℕ → Type 0
+Mixed I loads set = (Has Wind loads set → ⊥) × (Has Earthquake loads set → ⊥)
+Mixed II loads set = Has Wind loads set × (Has Earthquake loads set → ⊥)
+Mixed III loads set = (Has Wind loads set → ⊥) × Has Earthquake loads set
+Mixed IV loads set = Has Wind loads set → Has Earthquake loads set → ⊥
+
+pub record Permitted (combination : Combination) (loads : Loads) (set : ℕ) : Type 0 where
+  -- A set has at least one row,
+  pub some : 0 < set
+  -- of the job's load rows:
+  pub within : set < 2 ^ loads .count
+  -- every permanent row of the phases,
+  pub permanent : (i : ℕ) → i < loads .count → (row loads i) .class ≡ Permanent → Acts combination ((row loads i) .phase) → bit set i ≡ 1
+  -- any optional of those phases, and of no other,
+  pub acting : (i : ℕ) → i < loads .count → bit set i ≡ 1 → Acts combination ((row loads i) .phase)
+  -- with WL and SF as the combination says.
+  pub mixed : Mixed combination loads set
+  -- IV, only if some row has phase 1.
+  pub erection : combination ≡ IV → Erected loads
+
+-- What DESIGN's bounds let a load be: |V| in kN, |x| in mm, |H| in kN, |H y| in kN mm.
+pub record BoundedLoad (load : Load) : Type 0 where
+  pub v : load .v .size ≤ 50000
+  pub x : load .x .size ≤ 32000
+  pub h : load .h .size ≤ 300000
+  pub twist : load .twist .size ≤ 3000000000
+
+pub record Bounded (loads : Loads) : Type 0 where
+  pub count : loads .count ≤ 16
+  pub each : (i : ℕ) → i < loads .count → BoundedLoad (row loads i)
+
+-- ---- the same, row by row and by counts, as the program decides it
+
+-- a row may stand in a set as its bit says
+pub record RowFits (combination : Combination) (load : Load) (held : ℕ) : Type 0 where
+  pub acting : held ≡ 1 → Acts combination (load .phase)
+  pub permanent : load .class ≡ Permanent → Acts combination (load .phase) → held ≡ 1
+
+-- IV, only if some row has phase 1
+unfoldable pub Opens : Combination → Loads → Type 0
+Opens combination loads = combination ≡ IV → Erected loads
+
+-- so many wind and earthquake rows may act together, in a set that has a row
+unfoldable pub Together : Combination → ℕ → ℕ → Type 0
+Together I winds quakes = (winds ≡ 0) × (quakes ≡ 0)
+Together II winds quakes = (0 < winds) × (quakes ≡ 0)
+Together III winds quakes = (winds ≡ 0) × (0 < quakes)
+Together IV winds quakes = (winds ≡ 0) ⊎ (quakes ≡ 0)
+
+pub record Admits (combination : Combination) (winds quakes set : ℕ) : Type 0 where
+  pub some : 0 < set
+  pub together : Together combination winds quakes

@@ -1,0 +1,82 @@
+-- Document 01, Load sets: the sums over the rows of a set. N and the sum of H are in kN, M in kN mm, and so is what resists and what overturns.
+use Prim.Native.Nat.{ℕ, zero, suc, _+_}
+use lib.IntN.{ℤ, pos, negℤ, _+ℤ_, _-ℤ_, _*ℤ_}
+use Rattle.signed.specs.Whole.{worth, amount, above, below}
+use Rattle.sets.specs.declared.Load.{Load}
+use Rattle.sets.specs.declared.Loads.{Loads}
+use Rattle.sets.specs.declared.Totals.{Totals}
+use Rattle.sets.specs.Sets.{bit, row}
+
+-- what a row gives counts where the row is in the set
+unfoldable pub countedℤ : ℕ → ℤ → ℤ
+countedℤ zero z = pos 0
+countedℤ (suc held) z = z
+
+unfoldable pub counted : ℕ → ℕ → ℕ
+counted zero n = 0
+counted (suc held) n = n
+
+-- the sum over the first n rows, of whole numbers and of natural ones
+unfoldable pub sumℤ : (Load → ℤ) → Loads → ℕ → ℕ → ℤ
+unfolding countedℤ
+sumℤ gives loads set zero = pos 0
+sumℤ gives loads set (suc n) = sumℤ gives loads set n +ℤ countedℤ (bit set n) (gives (row loads n))
+
+unfoldable pub sum : (Load → ℕ) → Loads → ℕ → ℕ → ℕ
+unfolding counted
+sum gives loads set zero = 0
+sum gives loads set (suc n) = sum gives loads set n + counted (bit set n) (gives (row loads n))
+
+-- N sums V; M sums 2Vx + 2Hy.
+unfoldable pub N : Loads → ℕ → ℤ
+N loads set = sumℤ (λ load. worth (load .v)) loads set (loads .count)
+
+unfoldable pub H : Loads → ℕ → ℤ
+H loads set = sumℤ (λ load. worth (load .h)) loads set (loads .count)
+
+unfoldable pub moment : Load → ℤ
+moment load = pos 2 *ℤ (worth (load .v) *ℤ worth (load .x)) +ℤ pos 2 *ℤ worth (load .twist)
+
+unfoldable pub M : Loads → ℕ → ℤ
+M loads set = sumℤ moment loads set (loads .count)
+
+-- the two edges, at +x and at -x
+pub data Edge : Type 0 where
+  plus : Edge
+  minus : Edge
+
+-- A row's V(B - 2x) and -2Hy at the edge at +x; V(B + 2x) and +2Hy at the edge at -x.
+unfoldable pub arm : Edge → ℕ → ℤ → ℤ
+arm plus width x = pos width -ℤ pos 2 *ℤ x
+arm minus width x = pos width +ℤ pos 2 *ℤ x
+
+unfoldable pub upright : Edge → ℕ → Load → ℤ
+upright edge width load = worth (load .v) *ℤ arm edge width (worth (load .x))
+
+unfoldable pub push : Edge → Load → ℤ
+push plus load = negℤ (pos 2 *ℤ worth (load .twist))
+push minus load = pos 2 *ℤ worth (load .twist)
+
+-- Each of the two resists if positive and overturns if negative.
+unfoldable pub resists : Edge → ℕ → Load → ℕ
+resists edge width load = above (upright edge width load) + above (push edge load)
+
+unfoldable pub overturns : Edge → ℕ → Load → ℕ
+overturns edge width load = below (upright edge width load) + below (push edge load)
+
+unfoldable pub resisting : Edge → ℕ → Loads → ℕ → ℕ
+resisting edge width loads set = sum (resists edge width) loads set (loads .count)
+
+unfoldable pub overturning : Edge → ℕ → Loads → ℕ → ℕ
+overturning edge width loads set = sum (overturns edge width) loads set (loads .count)
+
+-- all of them
+unfoldable pub totalsOf : ℕ → Loads → ℕ → Totals
+totalsOf width loads set =
+    record {
+      n = amount (N loads set);
+      h = amount (H loads set);
+      m = amount (M loads set);
+      plus = record { resisting = resisting plus width loads set; overturning = overturning plus width loads set };
+      minus = record { resisting = resisting minus width loads set; overturning = overturning minus width loads set };
+    }

@@ -1,0 +1,16 @@
+use borrow.Author.Needs.{needs}
+use Rattle.signed.proofs.Laws.{amount-low, amount-high}
+use Rattle.signed.proofs.difference.Statement.{statement}
+use Rattle.signed.proofs.difference.Tie as tie
+
+sub-t4 : tie.Need-sub-t4
+sub-t4 c = search needs
+
+returns : tie.Need-returns
+returns c = amount-low _ _ (c .if1 .taken)
+
+returns-2 : tie.Need-returns-2
+returns-2 c = amount-high _ _ (c .if1 .left)
+
+pub difference-spec : {M : Type 1} → statement M
+difference-spec = tie.close (tie.spec sub-t4 returns returns-2)

@@ -1,0 +1,104 @@
+-- What `river` tells of a row, told of its job: a refusal of the row is one of the job, and no other holds beside what is told.
+use Prim.Native.Nat.{ℕ, _≤_, _<_}
+use native.Mathlib.Omega.{arith}
+use mathlib.Core.Path.{_≡_, refl, sym, ap, subst, _∙_}
+use mathlib.Core.Bool.{Bool, true, false}
+use Rattle.decides.specs.Decides.{Decides, decided, refuted, not-both}
+use Rattle.kinds.specs.Range.{value, Ranged}
+use Rattle.kinds.specs.declared.Kind.the-variants.{B, S, C}
+use Rattle.jobs.specs.declared.Job.{Job}
+use Rattle.jobs.specs.declared.Stage.{Stage}
+use Rattle.jobs.specs.declared.Stage.the-variants.{Unbegun, Dry, Scoured, Crossed}
+use Rattle.river.specs.Scour as scour
+use Rattle.river.specs.Clear as clearing
+use Rattle.river.specs.declared.ClearanceAnswer.the-variants as clearance
+use Rattle.river.proofs.Scours as scours
+use Rattle.river.proofs.Clearances as clearances
+use Rattle.lines.specs.declared.DepthLine.{DepthLine}
+use Rattle.lines.specs.declared.DepthLine.the-variants as depth
+use Rattle.lines.specs.declared.ClearLine.the-variants as clear
+use Rattle.waters.specs.Waters.{HasScour, HasClearance, RowsRanged, LargeCatchment, TooIntense, OverObstructed, OnRock, Founded, DepthShown, DepthIs, AtLeast, ClearShown, Passed, DepthLineIs, RiverSays, large, intense, obstructed, shown}
+use Rattle.waters.specs.declared.RiverRead.the-variants.{Refused, Shown}
+
+-- a C row stands only behind an S row
+pub crossed-scoured : (s : Stage) → HasClearance s → HasScour s
+crossed-scoured Unbegun h = h
+crossed-scoured Dry h = h
+crossed-scoured Scoured h = absurd h
+crossed-scoured Crossed h = h
+
+pub ranged-dry : {job : Job} → Ranged B (job .base) → (HasScour (job .stage) → ⊥) → RowsRanged job
+ranged-dry {job} b n = record { base = b; scour = λ h. absurd (n h); clearance = λ h. absurd (n (crossed-scoured (job .stage) h)) }
+
+pub ranged-crossed : (job : Job) → Ranged B (job .base) → Ranged S (job .scour) → HasClearance (job .stage) → (r : Bool) → Decides r (Ranged C (job .clearance)) → Decides r (RowsRanged job)
+ranged-crossed job b s h true c = record { base = b; scour = λ x. s; clearance = λ x. c }
+ranged-crossed job b s h false n = λ w. n (w .clearance h)
+
+pub dry-shown : (job : Job) → (HasScour (job .stage) → ⊥) → RiverSays job (Shown depth.Missing clear.Missing)
+dry-shown job n = shown {d = depth.Missing} {c = clear.Missing} (record { catchment = λ l. n (l .has); intensity = λ t. n (t .has) }) (λ o. n (crossed-scoured (job .stage) (o .has))) (λ f. n (f .has)) (λ h. n (crossed-scoured (job .stage) h))
+
+-- the S row
+module _ (job : Job) (r : RowsRanged job) (has : HasScour (job .stage)) where
+  says-large : LargeCatchment job → scour.Says (job .scour) (scour.refused 12)
+  says-large l = scour.in-range (r .scour has) (scour.large-catchment (l .above))
+
+  says-intense : TooIntense job → scour.Says (job .scour) (scour.refused 13)
+  says-intense t = scour.in-range (r .scour has) (scour.too-intense (t .constricted) (t .above))
+
+  pub scour-ranged : scour.Says (job .scour) (scour.refused 11) → ⊥
+  scour-ranged (scour.out-of-range h) = h (r .scour has)
+
+  pub scour-large : scour.Says (job .scour) (scour.refused 12) → RiverSays job (Refused 12)
+  scour-large (scour.in-range k (scour.large-catchment h)) = large (record { has = has; above = h })
+
+  pub scour-intense : scour.Says (job .scour) (scour.refused 13) → RiverSays job (Refused 13)
+  scour-intense (scour.in-range {t} k (scour.too-intense {q} c h)) =
+      intense (λ l. let e = scours.says-one (says-large l) (scour.in-range k (scour.too-intense c h)) in let z : _≡_ {A = ℕ} 12 13 = cc in omega arith)
+      (record { has = has; q = q; constricted = c; above = h })
+
+  module _ (needed : ℕ) (says : scour.Says (job .scour) (scour.needs needed)) where
+    pub scour-passed : Passed job
+    scour-passed = record {
+      catchment = λ l. let e = scours.says-one (says-large l) says in let z : _≡_ {A = ℕ} 0 1 = cc in omega arith;
+      intensity = λ t. let e = scours.says-one (says-intense t) says in let z : _≡_ {A = ℕ} 0 1 = cc in omega arith;
+    }
+
+    depth-of : scour.Says (job .scour) (scour.needs needed) → scour.Scoured (job .scour .n1 .size) (job .scour .n2 .size) (job .scour .n3 .size) (job .scour .n4 .size) (job .scour .n5 .size) (scour.needs needed)
+    depth-of (scour.in-range k v) = v
+
+    pub scour-line : (rock : Bool) (found : ℕ) (line : DepthLine) → Decides rock (OnRock job) → found ≡ job .scour .n6 .size → DepthLineIs rock needed found line → DepthIs job line
+    scour-line rock found depth.Missing d e w = λ f. f .soil (decided rock w d)
+    scour-line rock found (depth.Shown n f passes) d e w =
+        subst (λ (x : ℕ). DepthShown job x f passes) (sym (w .1))
+        (subst (λ (x : ℕ). DepthShown job needed x passes) (sym (w .2))
+        (record { founded = record { soil = refuted rock (w .0) d; has = has }; value = depth-of says; limit = e; mark = w .3 }))
+
+-- the C row
+module _ (job : Job) (r : RowsRanged job) (line : DepthLine) (p : Passed job) (d : DepthIs job line) where
+  pub no-clear : (HasClearance (job .stage) → ⊥) → RiverSays job (Shown line clear.Missing)
+  no-clear n = shown {d = line} {c = clear.Missing} p (λ o. n (o .has)) d n
+
+  module _ (has : HasClearance (job .stage)) where
+    ranged : clearing.RangedWith (job .clearance) (job .scour .n1)
+    ranged = record { numbers = r .clearance has; flow = r .scour (crossed-scoured (job .stage) has) .n1 }
+
+    pub clear-ranged : clearing.Says (job .clearance) (job .scour .n1) (clearing.refused 11) → ⊥
+    clear-ranged (clearing.out-of-range h) = h ranged
+
+    pub clear-obstructed : clearing.Says (job .clearance) (job .scour .n1) (clearing.refused 14) → RiverSays job (Refused 14)
+    clear-obstructed (clearing.in-range k (clearing.over-obstructed h)) = obstructed p (record { has = has; above = h })
+
+    module _ (minus : Bool) (size needed : ℕ) (says : clearing.Says (job .clearance) (job .scour .n1) (clearing.given (clearing.signed minus size) needed)) (plain : minus ≡ true → 0 < size) where
+      not-obstructed : OverObstructed job → ⊥
+      not-obstructed o =
+          let e = clearances.says-one (clearing.in-range ranged (clearing.over-obstructed (o .above))) says in
+          let z : _≡_ {A = ℕ} 0 1 = cc in
+          omega arith
+
+      value-of : {t : clearing.Told} → clearing.Says (job .clearance) (job .scour .n1) t → t ≡ clearing.given (clearing.signed minus size) needed
+          → clearing.Cleared (job .clearance .n1 .size) (job .clearance .n2 .size) (job .clearance .n3 .size) (value (job .clearance .n4)) (value (job .clearance .n5)) (job .scour .n1 .size) t
+      value-of (clearing.out-of-range h) e = let z : _≡_ {A = ℕ} 0 1 = cc in absurd (omega arith)
+      value-of (clearing.in-range k v) e = v
+
+      pub clear-shown : (passes : Bool) → Decides passes (AtLeast minus size needed) → RiverSays job (Shown line (clear.Shown minus size needed passes))
+      clear-shown passes m = shown {d = line} {c = clear.Shown minus size needed passes} p not-obstructed d (record { has = has; value = value-of says refl; plain = plain; mark = m })

@@ -1,0 +1,43 @@
+-- A line is one, and the worst figure passes its limit exactly if the figure of every permitted set does.
+use mathlib.Core.Path.{_≡_, refl, subst}
+use mathlib.Core.Bool.{Bool, true, false}
+use Prim.Native.Nat.{ℕ}
+use Rattle.decides.specs.Decides.{Decides, decides-same, decides-one}
+use Rattle.sets.specs.declared.Combination.{Combination}
+use Rattle.sets.specs.declared.Loads.{Loads}
+use Rattle.sets.specs.Sets.{Permitted}
+use Rattle.checks.specs.declared.Base.{Base}
+use Rattle.checks.specs.declared.Check.{Check}
+use Rattle.checks.specs.declared.Figure.{Figure}
+use Rattle.checks.specs.Figures.{Shows}
+use Rattle.checks.specs.Order.{side}
+use Rattle.checks.specs.Limits.{Passes}
+use Rattle.checks.proofs.Passing.{limit-one, passes-better}
+use Rattle.worst.specs.declared.Line.{Line}
+use Rattle.worst.specs.declared.Line.the-variants.{Missing, Shown}
+use Rattle.named.proofs.Unique.{named-figure, named-set}
+use Rattle.worst.specs.Lines.{Printed, Says}
+
+-- No second line meets the promise.
+module _ (combination : Combination) (check : Check) (base : Base) (loads : Loads) where
+  pub says-one : (a b : Line) → Says combination check base loads a → Says combination check base loads b → a ≡ b
+  unfolding Says
+  says-one Missing Missing p q = refl
+  says-one Missing (Shown v l s y) p q = absurd (p (q .has) s (q .named .permitted))
+  says-one (Shown v l s y) Missing p q = absurd (q (p .has) s (p .named .permitted))
+  says-one (Shown v l s y) (Shown w m t z) p q =
+      λ i. Shown (named-figure (p .named) (q .named) i) (limit-one combination check base l m (p .limited) (q .limited) i) (named-set (p .named) (q .named) i) (mark i)
+    where
+      mark : y ≡ z
+      mark =
+          decides-one (Passes (side check) m w) y z
+          (subst (λ (n : ℕ). Decides y (Passes (side check) n w)) (limit-one combination check base l m (p .limited) (q .limited))
+          (subst (λ (x : Figure). Decides y (Passes (side check) l x)) (named-figure (p .named) (q .named)) (p .marked)))
+          (q .marked)
+
+  -- The worst figure passes its limit exactly if every permitted set's figure does: what makes the verdict mean demand 2.
+  pub worst-decides : (v : Figure) (limit s : ℕ) (passes : Bool) → Says combination check base loads (Shown v limit s passes)
+      → Decides passes ((t : ℕ) (w : Figure) → Permitted combination loads t → Shows check base loads t w → Passes (side check) limit w)
+  unfolding Says
+  worst-decides v limit s passes p =
+      decides-same passes (λ y t w h k. passes-better (side check) limit v w (p .named .no-worse t w h k) y) (λ f. f s v (p .named .permitted) (p .named .reaches)) (p .marked)

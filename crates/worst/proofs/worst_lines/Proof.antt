@@ -1,0 +1,90 @@
+use borrow.Author.Needs.{needs}
+use borrow.Author.Tests.{not-true, not-false}
+use Rattle.decides.specs.Decides.{decided, refuted}
+use Rattle.sets.specs.declared.Combination.{Combination}
+use Rattle.sets.specs.declared.Loads.{Loads}
+use Rattle.sets.specs.Sets.{Opens}
+use Rattle.checks.specs.declared.Base.{Base}
+use Rattle.checks.specs.declared.Check.{Check}
+use Rattle.checks.specs.declared.Check.the-variants.{OP, OM, SL, PR, RK}
+use Rattle.worst.specs.declared.Line.the-variants.{Missing}
+use Rattle.worst.specs.declared.Lines.{Lines}
+use Rattle.worst.specs.Lines.{Says, line}
+use Rattle.worst.specs.Search.{markOf, Walked}
+use Rattle.worst.proofs.worst_lines.Statement.{statement}
+use Rattle.worst.proofs.worst_lines.Tie as tie
+
+module _ (combination : Combination) (base : Base) (loads : Loads) where
+  -- a combination that is not checked has no line
+  all-missing : (Opens combination loads → ⊥) → (check : Check) → Says combination check base loads (line check (record { op = Missing; om = Missing; sl = Missing; pr = Missing; rk = Missing }))
+  unfolding Says line Opens
+  all-missing n OP = λ h set p. n (p .erection)
+  all-missing n OM = λ h set p. n (p .erection)
+  all-missing n SL = λ h set p. n (p .erection)
+  all-missing n PR = λ h set p. n (p .erection)
+  all-missing n RK = λ h set p. n (p .erection)
+
+  -- the lines, check by check
+  each : (r : Lines) → Says combination OP base loads (r .op) → Says combination OM base loads (r .om) → Says combination SL base loads (r .sl)
+      → Says combination PR base loads (r .pr) → Says combination RK base loads (r .rk) → (check : Check) → Says combination check base loads (line check r)
+  unfolding line
+  each r op om sl pr rk OP = op
+  each r op om sl pr rk OM = om
+  each r op om sl pr rk SL = sl
+  each r op om sl pr rk PR = pr
+  each r op om sl pr rk RK = rk
+
+opens-requires : tie.Need-opens-requires
+opens-requires c κs = search needs
+
+returns : tie.Need-returns
+unfolding Opens
+returns c = all-missing (c .before .before .args .combination) (c .before .before .args .base) (c .before .before .args .loads) (refuted (c .before .opens .result) (not-true (c .before .opens .result) (c .if1 .taken)) (c .before .opens .ensures))
+
+walk-requires : tie.Need-walk-requires
+walk-requires c κs =
+    (c .before .before .pre .0, (c .before .before .pre .1, decided (c .before .opens .result) (not-false (c .before .opens .result) (c .if1 .left)) (c .before .opens .ensures)))
+
+line-at-requires : tie.Need-line-at-requires
+unfolding Walked markOf
+line-at-requires c κs =
+    (c .before .before .before .before .before .before .before .before .pre .0 .allowable, λ h. c .before .before .before .before .before .walk .ensures OP h)
+
+line-at-requires-2 : tie.Need-line-at-requires-2
+unfolding Walked markOf
+line-at-requires-2 c κs =
+    (c .before .before .before .before .before .before .before .before .before .pre .0 .allowable, λ h. c .before .before .before .before .before .before .walk .ensures OM h)
+
+line-at-requires-3 : tie.Need-line-at-requires-3
+unfolding Walked markOf
+line-at-requires-3 c κs =
+    (c .before .before .before .before .before .before .before .before .before .before .pre .0 .allowable, λ h. c .before .before .before .before .before .before .before .walk .ensures SL h)
+
+line-at-requires-4 : tie.Need-line-at-requires-4
+unfolding Walked markOf
+line-at-requires-4 c κs =
+    (c .before .before .before .before .before .before .before .before .before .before .before .pre .0 .allowable, λ h. c .before .before .before .before .before .before .before .before .walk .ensures PR h)
+
+line-at-requires-5 : tie.Need-line-at-requires-5
+unfolding Walked markOf
+line-at-requires-5 c κs =
+    (c .before .before .before .before .before .before .before .before .before .before .before .before .pre .0 .allowable, λ h. c .before .before .before .before .before .before .before .before .before .walk .ensures RK h)
+
+returns-2 : tie.Need-returns-2
+unfolding line
+returns-2 c =
+    each (c .before .before .before .before .before .before .before .before .before .before .before .before .before .args .combination) (c .before .before .before .before .before .before .before .before .before .before .before .before .before .args .base) (c .before .before .before .before .before .before .before .before .before .before .before .before .before .args .loads) _ (c .before .before .before .before .line-at .ensures) (c .before .before .before .line-at2 .ensures) (c .before .before .line-at3 .ensures) (c .before .line-at4 .ensures) (c .line-at5 .ensures)
+
+pub worst-lines-spec : {M : Type 1} → statement M
+worst-lines-spec =
+    tie.close
+    (tie.spec
+    opens-requires
+    returns
+    walk-requires
+    line-at-requires
+    line-at-requires-2
+    line-at-requires-3
+    line-at-requires-4
+    line-at-requires-5
+    returns-2)

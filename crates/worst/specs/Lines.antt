@@ -1,0 +1,38 @@
+-- Document 01, Load sets and the printed answer: the line of a check in a combination.
+use mathlib.Core.Bool.{Bool}
+use Prim.Native.Nat.{ℕ}
+use Rattle.decides.specs.Decides.{Decides}
+use Rattle.sets.specs.declared.Combination.{Combination}
+use Rattle.sets.specs.declared.Loads.{Loads}
+use Rattle.sets.specs.Sets.{Permitted}
+use Rattle.checks.specs.declared.Base.{Base}
+use Rattle.checks.specs.declared.Check.{Check}
+use Rattle.checks.specs.declared.Check.the-variants.{OP, OM, SL, PR, RK}
+use Rattle.checks.specs.declared.Figure.{Figure}
+use Rattle.checks.specs.Figures.{Shows}
+use Rattle.checks.specs.Order.{side}
+use Rattle.checks.specs.Limits.{Limit, HasCheck, Passes}
+use Rattle.worst.specs.declared.Line.{Line}
+use Rattle.worst.specs.declared.Line.the-variants.{Missing, Shown}
+use Rattle.worst.specs.declared.Lines.{Lines}
+use Rattle.named.specs.Named.{Named}
+
+-- value, limit, set, Y or N
+pub record Printed (combination : Combination) (check : Check) (base : Base) (loads : Loads) (figure : Figure) (limit set : ℕ) (passes : Bool) : Type 0 where
+  pub has : HasCheck combination check base
+  pub named : Named (side check) (Permitted combination loads) (Shows check base loads) figure set
+  pub limited : Limit combination check base limit
+  pub marked : Decides passes (Passes (side check) limit figure)
+
+-- A combination with no set is not checked, and one that has not the check has no line of it.
+unfoldable pub Says : Combination → Check → Base → Loads → Line → Type 0
+Says combination check base loads Missing = HasCheck combination check base → (set : ℕ) → Permitted combination loads set → ⊥
+Says combination check base loads (Shown figure limit set passes) = Printed combination check base loads figure limit set passes
+
+-- the line of each check
+unfoldable pub line : Check → Lines → Line
+line OP lines = lines .op
+line OM lines = lines .om
+line SL lines = lines .sl
+line PR lines = lines .pr
+line RK lines = lines .rk
