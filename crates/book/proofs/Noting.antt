@@ -144,7 +144,7 @@ book-note {s = s} {n = n} {note} b h = by (h (b .rows) (b .text))
         m (w .cells) (subst (λ (k : ℕ). RowIn (b .rows) k (w .cells)) (sym (q .number)) (w .at))) e
 
 -- a row's number has one row, and so one note
-row-one : {A : Type 0} {rs : List A} {n : ℕ} {x y : A} → RowIn rs n x → RowIn rs n y → x ≡ y
+pub row-one : {A : Type 0} {rs : List A} {n : ℕ} {x y : A} → RowIn rs n x → RowIn rs n y → x ≡ y
 row-one {x = x} {y} p q =
     let a = p .number in
     let b = q .number in

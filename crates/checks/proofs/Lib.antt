@@ -2,3 +2,4 @@
 pub mod Ranking
 pub mod Showing
 pub mod Passing
+pub mod Examples

@@ -1,7 +1,6 @@
 -- Limits are one for each check, and a figure that is no worse than one that passes passes too.
-use mathlib.Core.Path.{_≡_, refl, sym, _∙_}
-use mathlib.Core.Bool.{true}
-use Prim.Native.Nat.{ℕ, _≤_, _<_}
+use mathlib.Core.Path.{_≡_, sym, _∙_}
+use Prim.Native.Nat.{ℕ}
 use native.Mathlib.Omega.{arith}
 use Rattle.rounding.proofs.Laws.{greatest-one}
 use Rattle.sets.specs.declared.Combination.{Combination}

@@ -1,13 +1,13 @@
 -- The order of figures: of two that differ one is the worse, and ranks have the same order. Then each figure's rank, by the tests that lead to it.
-use mathlib.Core.Path.{_≡_, refl, sym, _∙_, ap, subst}
-use mathlib.Core.Logic.{_⊎_, inl, inr, ⊎-elim}
-use Prim.Native.Nat.{ℕ, zero, suc, _+_, _*_, _-_, _^_, _≤_, _<_}
+use mathlib.Core.Path.{_≡_, refl, sym, _∙_, ap}
+use mathlib.Core.Logic.{inl, inr, ⊎-elim}
+use Prim.Native.Nat.{ℕ, zero, suc, _+_, _*_, _-_, _/_, _%_, _^_, _≤_, _<_}
 use native.Mathlib.Omega.{arith}
-use native.Mathlib.Decide.{decLe}
-use native.Mathlib.Nat.{le-antisymm, lt-of-le-of-lt, mul-le-mul, mul-le-mul-left, mul-pos, mul-one}
-use lib.Dec.{lit<, lit≤}
+use native.Mathlib.Decide.{decLe, ℕ-discrete}
+use native.Mathlib.Nat.{mul-le-mul, mul-le-mul-left, mul-pos, mul-one, mul-comm, pos-of-ne-zero}
+use lib.Dec.{lit<}
 use Rattle.rounding.specs.Least.{RoundedUp, RoundedDown}
-use Rattle.rounding.proofs.Laws.{least-one, greatest-one}
+use Rattle.rounding.proofs.Laws.{least-one, greatest-one, down-div, up-exact, up-more}
 use Rattle.checks.specs.declared.Figure.{Figure}
 use Rattle.checks.specs.declared.Figure.the-variants.{Nothing, Number, Off}
 use Rattle.checks.specs.Figures.{Tips, Slides, Presses, Leans}
@@ -170,3 +170,44 @@ lean-off b n m e = record { figure = Off; holds = e; sound = tt; ranked = refl }
 pub lean-some : (b n m : ℕ) {c : ℕ} → m ≤ 2 ^ 40 → 0 < 2 * (n * b) → (n ≡ 0 → ⊥) → RoundedUp (1000 * m) (2 * (n * b)) c → Ranks highest (Leans b n m) (2 ^ 64 - 1 - c)
 unfolding Leans Sound rank
 lean-some b n m {c} k z e r = record { figure = Number c; holds = (omega arith, r); sound = omega (arith, up-le z r); ranked = refl }
+
+-- ---- a figure that is plainly no worse than one so far, with no division
+lt-of-suc : {m n : ℕ} → m + 1 ≤ n → m < n
+lt-of-suc p = omega arith
+
+up-some : (a b : ℕ) → 0 < b → (c : ℕ) × RoundedUp a b c
+up-some a b h = go (ℕ-discrete (a % b) 0)
+  where
+    go : Dec (a % b ≡ 0) → (c : ℕ) × RoundedUp a b c
+    go (yes e) = (a / b, up-exact a b h e)
+    go (no e) = (a / b + 1, up-more a b h e)
+
+pub lean-above : (b n m shown : ℕ) → m ≤ 2 ^ 40 → 0 < b → 0 < n → 0 < shown → shown < 2 ^ 24 → 1000 * m ≤ (shown - 1) * (2 * (n * b))
+    → (k : ℕ) × Ranks highest (Leans b n m) k × (2 ^ 64 - 1 - shown < k)
+lean-above b n m shown h p q z l k =
+    let y : 0 < 2 * (n * b) = mul-pos (lit< tt) (mul-pos q p) in
+    let u = up-some (1000 * m) (2 * (n * b)) y in
+    let c : u .0 ≤ shown - 1 = u .1 .least (shown - 1) k in
+    (2 ^ 64 - 1 - u .0, lean-some b n m h y (λ e. omega arith) (u .1), omega arith)
+
+pub tip-above : (r o last : ℕ) → r ≤ 2 ^ 40 → last < 2 ^ 24 → o * (last + 1) ≤ 100 * r → (n : ℕ) × Ranks lowest (Tips r o) n × (last < n)
+tip-above r o last h l k = go (ℕ-discrete o 0)
+  where
+    go : Dec (o ≡ 0) → (n : ℕ) × Ranks lowest (Tips r o) n × (last < n)
+    go (yes e) = (2 ^ 64 - 1, tip-none r o e, omega arith)
+    go (no e) =
+        let d = down-div (100 * r) o (pos-of-ne-zero e) in
+        (100 * r / o, tip-some r o h e d, lt-of-suc (d .greatest (last + 1) (rw mul-comm k)))
+
+pub slide-above : (f n h last : ℕ) → f ≤ 1000 → n ≤ 2 ^ 20 → 0 < n → last < 2 ^ 24 → 10 * h * (last + 1) ≤ f * n → (m : ℕ) × Ranks lowest (Slides f n h) m × (last < m)
+slide-above f n h last p q z l k = go (ℕ-discrete h 0)
+  where
+    some-n : n ≡ 0 → ⊥
+    some-n e = omega arith
+
+    go : Dec (h ≡ 0) → (m : ℕ) × Ranks lowest (Slides f n h) m × (last < m)
+    go (yes e) = (2 ^ 64 - 1, slide-none f n h some-n e, omega arith)
+    go (no e) =
+        let pos : 0 < 10 * h = omega arith in
+        let d = down-div (f * n) (10 * h) pos in
+        (f * n / (10 * h), slide-some f n h p q some-n e d, lt-of-suc (d .greatest (last + 1) (rw (mul-comm (last + 1) (10 * h)) k)))

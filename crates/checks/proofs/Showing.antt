@@ -1,6 +1,6 @@
 -- The figure of a set from its natural sums is the figure of the definition, from N, H, M and the balance of each edge; and a set shows one figure.
-use mathlib.Core.Path.{_≡_, refl, sym, _∙_, ap, subst, subst₂}
-use Prim.Native.Nat.{ℕ, _+_, _*_, _-_, _^_, _≤_}
+use mathlib.Core.Path.{_≡_, sym, _∙_, ap, subst}
+use Prim.Native.Nat.{ℕ, _-_, _^_, _≤_}
 use native.Mathlib.Omega.{arith}
 use lib.IntN.{natAbs}
 use Rattle.signed.specs.Whole.{above}
@@ -16,7 +16,7 @@ use Rattle.checks.specs.declared.Check.{Check}
 use Rattle.checks.specs.declared.Check.the-variants.{OP, OM, SL, PR, RK}
 use Rattle.checks.specs.declared.Figure.{Figure}
 use Rattle.checks.specs.Figures.{Tips, Slides, Presses, Leans, Shows, apart, Judged}
-use Rattle.checks.specs.Order.{Side, Sound, rank, Ranks}
+use Rattle.checks.specs.Order.{Side, rank, Ranks}
 use Rattle.checks.proofs.Ranking.{tips-one, slides-one, presses-one, leans-one}
 
 module _ (base : Base) (loads : Loads) (set : ℕ) where
@@ -63,11 +63,13 @@ ranks-map f k = record { figure = k .figure; holds = f (k .figure) (k .holds); s
 -- the sums of 16 rows are small enough for every figure
 pub record Slight (sums : Sums) : Type 0 where
   pub n : sums .v .above - sums .v .below ≤ 2 ^ 20
-  pub h : apart (sums .h) ≤ 2 ^ 40
+  pub h : apart (sums .h) ≤ 2 ^ 24
   pub m : apart (sums .m) ≤ 2 ^ 40
   pub plus : sums .plus .resisting ≤ 2 ^ 40
   pub minus : sums .minus .resisting ≤ 2 ^ 40
+  pub over-plus : sums .plus .overturning ≤ 2 ^ 38
+  pub over-minus : sums .minus .overturning ≤ 2 ^ 38
 
 pub slight : {sums : Sums} → Room 16 sums → Slight sums
 unfolding apart
-slight r = record { n = omega arith; h = omega arith; m = omega arith; plus = omega arith; minus = omega arith }
+slight r = record { n = omega arith; h = omega arith; m = omega arith; plus = omega arith; minus = omega arith; over-plus = omega arith; over-minus = omega arith }

@@ -10,7 +10,7 @@ use Rattle.checks.specs.declared.Check.{Check}
 use Rattle.checks.specs.declared.Check.the-variants.{OP, OM, SL, PR, RK}
 use Rattle.checks.specs.declared.Figure.{Figure}
 use Rattle.checks.specs.declared.Figure.the-variants.{Nothing, Number, Off}
-use Rattle.checks.specs.Order.{Side, lowest, highest, side}
+use Rattle.checks.specs.Order.{Side, lowest, highest}
 
 -- OP and OM 200 in I, 150 in II and III.
 unfoldable pub TippingLimit : Combination → ℕ → Type 0

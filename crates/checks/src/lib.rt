@@ -8,7 +8,7 @@ use sets::Loads;
 use sets::Sums;
 ghost use mathlib.Core.Path.{_≡_};
 ghost use mathlib.Core.Bool.{true};
-ghost use Prim.Native.Nat.{ℕ, _*_, _^_, _<_, _≤_};
+ghost use Prim.Native.Nat.{_*_, _^_, _<_, _≤_};
 ghost use Rattle.decides.specs.Decides.{Decides};
 ghost use Rattle.sets.specs.Sets.{Bounded};
 ghost use Rattle.sets.specs.Sums.{Room};

@@ -1,20 +1,16 @@
 -- The choices of the free rows are the sets whose rows may stand in them: choice k makes the set `pick`, every such set is made by a choice, and the sums of the
 -- choice are those of the set.
 use mathlib.Core.Path.{_≡_, refl, sym, _∙_, ap, ap₂, subst}
-use mathlib.Core.Logic.{_⊎_, inl, inr, ⊎-elim}
-use mathlib.Core.Bool.{Bool, true, false, cond}
-use Prim.Native.Nat.{ℕ, zero, suc, _+_, _*_, _-_, _/_, _%_, _^_, _≤_, _<_}
+use Prim.Native.Nat.{ℕ, zero, suc, _+_, _-_, _^_, _≤_, _<_}
 use native.Mathlib.Omega.{arith}
-use native.Mathlib.Numerals.{add-one}
-use native.Mathlib.Nat.{pow-suc, div-lt-iff-lt-mul, lt-of-lt-of-le}
+use native.Mathlib.Nat.{pow-suc, lt-of-lt-of-le}
 use native.Mathlib.Decide.{decLt}
-use lib.Dec.{eqb, lit<}
-use lib.Pow.{pow-pos}
+use lib.Dec.{lit<}
 use Rattle.sets.specs.declared.Loads.{Loads}
 use Rattle.sets.specs.declared.Sums.{Sums}
 use Rattle.sets.specs.Sets.{bit, row}
 use Rattle.sets.specs.Sums.{noSums, add, addIf, termsOf, sumsTo}
-use Rattle.sets.proofs.Bits.{bit-two, bit-not-one, bit-above, bit-own, bit-kept, one-more, no-more, bit-empty}
+use Rattle.sets.proofs.Bits.{bit-two, bit-above, bit-own, bit-kept}
 use Rattle.sets.proofs.Adding.{add-swap, add-if-in, add-if-out}
 use Rattle.choices.specs.declared.Stance.{Stance}
 use Rattle.choices.specs.declared.Stance.the-variants.{Never, Always, Either}

@@ -13,7 +13,7 @@ use Rattle.sets.specs.declared.Combination.the-variants.{I, II, III, IV}
 use Rattle.sets.specs.declared.Load.{Load}
 use Rattle.sets.specs.declared.Loads.{Loads}
 use Rattle.sets.specs.Sets.{bit, row, ownPhase, Acts, Has, Mixed, Permitted, RowFits}
-use Rattle.sets.proofs.Bits.{bit-not-one, bit-two}
+use Rattle.sets.proofs.Bits.{bit-not-one}
 use Rattle.choices.specs.declared.Stance.{Stance}
 use Rattle.choices.specs.declared.Stance.the-variants.{Never, Always, Either}
 use Rattle.choices.specs.Stance.{byClass, acting, stanceOf, held}

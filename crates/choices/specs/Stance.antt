@@ -1,5 +1,5 @@
 -- What a row is to the sets of a combination, as the program sorts the rows before it goes through the sets.
-use mathlib.Core.Bool.{Bool, true, false, cond}
+use mathlib.Core.Bool.{Bool, true, cond}
 use Prim.Native.Nat.{ℕ, zero, suc, _+_, _^_}
 use lib.Dec.{eqb}
 use Rattle.sets.specs.declared.Class.{Class}

@@ -1,13 +1,11 @@
 -- An amount by its sign and size: zero has no sign, the sizes multiply, and what a row's columns hold bounds what it exerts.
-use mathlib.Core.Path.{_≡_, refl, sym, _∙_, ap, ap₂, subst}
+use mathlib.Core.Path.{_≡_, refl, sym, _∙_, ap}
 use mathlib.Core.Bool.{Bool, true, false, cond}
-use Prim.Native.Nat.{ℕ, zero, suc, _*_, _≤_}
-use native.Mathlib.Omega.{arith}
-use native.Mathlib.Nat.{mul-zero, zero-mul}
+use Prim.Native.Nat.{ℕ, zero, suc, _*_}
+use native.Mathlib.Nat.{zero-mul}
 use lib.IntN.{ℤ, pos, negsuc, negℤ, natAbs, _*ℤ_}
 use Rattle.fields.specs.declared.Entry.{Entry}
 use Rattle.kinds.specs.Range.{value}
-use Rattle.signed.specs.declared.Amount.{Amount}
 use Rattle.signed.specs.Whole.{signed, amount}
 
 pub amount-zero : (minus : Bool) (size : ℕ) → size ≡ 0 → record { minus = false; size = 0 } ≡ amount (signed minus size)

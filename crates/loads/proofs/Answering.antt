@@ -4,10 +4,10 @@ use mathlib.Core.Bool.{Bool, true, false, cond}
 use mathlib.Core.List.{List}
 use borrow.Author.Tests.{ltb-false}
 use lib.Dec.{ltb}
-use Prim.Native.Nat.{ℕ, _+_, _*_, _≤_, _<_}
+use Prim.Native.Nat.{ℕ, _≤_, _<_}
 use native.Mathlib.Omega.{arith}
 use native.Mathlib.Decide.{decLt}
-use lib.ListN.{getD, length}
+use lib.ListN.{getD}
 use lib.Seq.{ext-getD}
 use Rattle.kinds.specs.declared.Row.{Row}
 use Rattle.earth.specs.declared.Coefficient.{Coefficient}
@@ -21,8 +21,8 @@ use Rattle.loads.specs.declared.Answer.the-variants.{OutOfRange, NoCoeff
 use Rattle.loads.specs.declared.Source.{Source}
 use Rattle.loads.specs.declared.Source.the-variants.{Absent, Earth, Written}
 use Rattle.loads.specs.declared.Taken.{Taken}
-use Rattle.loads.specs.Exerts.{source, EarthLoad, EarthForces, Forces, Exerts}
-use Rattle.loads.specs.Taken.{rowAt, AllRanged, NoneBlank, optionals, AreLoads, Told, refused, given, told, toldBy, Says, out-of-range, blank, too-many, loaded, rowsOf, noLoads, Beside, Answers}
+use Rattle.loads.specs.Exerts.{source, EarthLoad, Forces, Exerts}
+use Rattle.loads.specs.Taken.{rowAt, AllRanged, AreLoads, Told, given, told, toldBy, Says, out-of-range, blank, too-many, loaded, rowsOf, Beside, Answers}
 use Rattle.loads.proofs.Exerting.{same-load, exerts-bounded}
 
 -- ---- a row exerts one load
@@ -110,7 +110,7 @@ given-loads fill rows n (blank x y) loads e = absurd (let z : _≡_ {A = ℕ} 0 
 given-loads fill rows n (too-many x y z) loads e = absurd (let z : _≡_ {A = ℕ} 0 1 = cc in omega arith)
 given-loads fill rows n (loaded x y z l) loads e = (x, subst (AreLoads fill rows n) (cc) l)
 
-rows-few : (count : ℕ) → rowsOf count ≤ 16
+pub rows-few : (count : ℕ) → rowsOf count ≤ 16
 unfolding rowsOf
 rows-few count = go (ltb 16 count) refl
   where

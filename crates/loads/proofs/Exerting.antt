@@ -5,7 +5,7 @@ use borrow.Author.Count.{below-more}
 use lib.ListN.{getD, length, set, replicate, length-replicate, length-set}
 use lib.Seq.{getD-set-same, getD-set-other}
 use mathlib.Core.Bool.{Bool, true, false}
-use Prim.Native.Nat.{ℕ, zero, suc, _+_, _*_, _^_, _≤_, _<_}
+use Prim.Native.Nat.{ℕ, zero, suc, _+_, _*_, _≤_, _<_}
 use native.Mathlib.Omega.{arith}
 use native.Mathlib.Nat.{le-trans, mul-le-mul}
 use lib.Dec.{lit≤}
@@ -28,7 +28,7 @@ use Rattle.sets.specs.declared.Class.the-variants.{Permanent}
 use Rattle.sets.specs.Sets.{BoundedLoad, noLoad, row}
 use Rattle.loads.specs.declared.Source.{Source}
 use Rattle.loads.specs.declared.Source.the-variants.{Absent, Earth, Written}
-use Rattle.loads.specs.Exerts.{source, OwnForces, EarthLoad, EarthForces, Forces, Exerts}
+use Rattle.loads.specs.Exerts.{source, OwnForces, EarthLoad, Forces, Exerts}
 use Rattle.loads.specs.Taken.{rowAt, AreLoads}
 use Rattle.loads.proofs.Amounts.{amount-size, value-size, product-size}
 

@@ -12,14 +12,13 @@ use sets::Loads;
 use signed::Amount;
 ghost use mathlib.Core.Path.{_≡_};
 ghost use mathlib.Core.Bool.{false};
-ghost use Prim.Native.Nat.{ℕ, _+_, _*_, _<_, _≤_};
+ghost use Prim.Native.Nat.{_+_, _*_, _<_, _≤_};
 ghost use Rattle.decides.specs.Decides.{Decides};
 ghost use Rattle.kinds.specs.Range.{Ranged};
 ghost use Rattle.earth.specs.Table2.{table2-fill};
 ghost use Rattle.signed.specs.Whole.{signed, amount};
-ghost use Rattle.sets.specs.Sets.{noLoad};
 ghost use Rattle.loads.specs.Exerts.{classOf, source, OwnForces, EarthLoad, Exerts};
-ghost use Rattle.loads.specs.Taken.{rowAt, AllRanged, BlankThere, NoneBlank, optional, optionals, AreLoads, noLoads, rowsOf, Answers};
+ghost use Rattle.loads.specs.Taken.{AllRanged, BlankThere, NoneBlank, optional, optionals, AreLoads, noLoads, rowsOf, Answers};
 
 // Where a row's forces come from: nowhere, a fill, or its own numbers.
 pub enum Source {

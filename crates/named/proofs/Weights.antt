@@ -6,7 +6,7 @@ use native.Mathlib.Omega.{arith}
 use native.Mathlib.Nat.{le-trans, le-refl}
 use lib.Count.{ones, ones-le}
 use Rattle.checks.specs.declared.Figure.{Figure}
-use Rattle.checks.specs.Order.{Side, Worse, Sound, rank, Ranks}
+use Rattle.checks.specs.Order.{Side, Sound, rank, Ranks}
 use Rattle.checks.proofs.Ranking.{rank-worse, rank-low, rank-one}
 use Rattle.named.specs.declared.Mark.{Mark}
 use Rattle.named.specs.Named.{Named}
@@ -46,6 +46,11 @@ better-new b n s h = record { from = inr (refl, refl); kept = h; first = le-refl
 
 pub better-old : (b : Mark) (n s : ℕ) → weightOf b ≤ weight n s → Better b n s b
 better-old b n s h = record { from = inl refl; kept = le-refl _; first = h }
+
+-- a set whose figure is plainly no worse
+pub offered-old : (s : Side) (P : Figure → Type 0) (b : Mark) (set n : ℕ) → Ranks s P n → b .rank < n → b .set < 65536 → set < 65536 → Offered s P b set b
+unfolding weightOf
+offered-old s P b set n r h p q = record { rank = n; ranks = r; better = better-old b n set (weight-rank (b .rank) n (b .set) set h p q) }
 
 pub better-low : {b r : Mark} {n s : ℕ} → b .set < 65536 → s < 65536 → Better b n s r → r .set < 65536
 better-low {b} {r} {n} {s} p q w =

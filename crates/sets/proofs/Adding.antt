@@ -1,27 +1,24 @@
 -- Adding sums, row by row: sums are added in any order, their fields are the natural sums of the definitions, these make the whole numbers N, H and M, and all of it fits.
 use mathlib.Core.Path.{_≡_, refl, sym, _∙_, ap, ap₂, subst}
-use mathlib.Core.Logic.{_⊎_, inl, inr, ⊎-elim}
-use Prim.Native.Nat.{ℕ, zero, suc, _+_, _*_, _-_, _^_, _≤_, _<_}
+use Prim.Native.Nat.{ℕ, zero, suc, _+_, _*_, _^_, _≤_}
 use native.Mathlib.Omega.{arith}
 use native.Mathlib.Numerals.{add-one}
-use native.Mathlib.Nat.{add-zero, add-assoc, add-comm, mul-le-mul, le-refl}
-use lib.IntN.{ℤ, pos, negsuc, negℤ, natAbs, _+ℤ_, _-ℤ_, _*ℤ_}
+use native.Mathlib.Nat.{mul-le-mul, le-refl}
+use lib.IntN.{ℤ, pos, _+ℤ_, _-ℤ_, _*ℤ_}
 use lib.Pow.{pow-mono}
 use Rattle.signed.specs.declared.Amount.{Amount}
 use Rattle.signed.specs.declared.Parts.{Parts}
 use Rattle.signed.specs.Whole.{worth, above, below, partsOf, times, amount}
-use Rattle.signed.proofs.Laws.{same-parts, parts, add-diffs, add-parts, above-diff, size-diff, parts-mul, above-less, below-less, above-more, below-more, above-neg, below-neg, above-twice, below-twice, above-mul, below-mul, above-size, below-size}
+use Rattle.signed.proofs.Laws.{same-parts, parts, add-diffs, add-parts, above-less, below-less, above-more, below-more, above-neg, below-neg, above-twice, below-twice, above-mul, below-mul, above-size, below-size}
 use Rattle.sets.specs.declared.Balance.{Balance}
 use Rattle.sets.specs.declared.Class.{Class}
 use Rattle.sets.specs.declared.Class.the-variants.{Permanent, Free, Wind, Earthquake}
 use Rattle.sets.specs.declared.Load.{Load}
 use Rattle.sets.specs.declared.Loads.{Loads}
 use Rattle.sets.specs.declared.Sums.{Sums}
-use Rattle.sets.specs.declared.Totals.{Totals}
 use Rattle.sets.specs.Sets.{bit, row, Bounded, BoundedLoad}
-use Rattle.sets.specs.Totals.{countedℤ, counted, sumℤ, sum, N, H, M, moment, Edge, plus, minus, arm, upright, push, resists, overturns, resisting, overturning, totalsOf}
-use Rattle.sets.specs.Sums.{addParts, addBalance, noSums, add, addIf, balanceOf, isWind, isQuake, momentOf, termsOf, sumsTo, sumsOf, armBy, balanceBy, momentBy, LowParts, Room}
-use Rattle.sets.proofs.Bits.{bit-two}
+use Rattle.sets.specs.Totals.{countedℤ, counted, sumℤ, sum, N, H, M, moment, plus, minus, arm, upright, push, resists, overturns, resisting, overturning}
+use Rattle.sets.specs.Sums.{addParts, addBalance, noSums, add, addIf, balanceOf, isWind, isQuake, momentOf, termsOf, sumsTo, sumsOf, armBy, balanceBy, momentBy, Room}
 
 -- ---- equal sums
 pub same-balance : {a b : Balance} → a .resisting ≡ b .resisting → a .overturning ≡ b .overturning → a ≡ b

@@ -1,11 +1,10 @@
 -- A set's bits as a loop reads them, by halving, and the bits of a set that has one row more.
-use mathlib.Core.Path.{_≡_, refl, sym, _∙_, ap, subst}
-use Prim.Native.Nat.{ℕ, zero, suc, _+_, _*_, _-_, _/_, _%_, _^_, _≤_, _<_}
+use mathlib.Core.Path.{_≡_, sym, _∙_, ap, subst}
+use Prim.Native.Nat.{ℕ, _+_, _*_, _-_, _/_, _%_, _^_, _≤_, _<_}
 use native.Mathlib.Omega.{arith}
-use native.Mathlib.Decide.{decLt}
 use native.Mathlib.Numerals.{add-one}
 use native.Mathlib.Nat.{add-div-right, add-mod-right, div-lt-iff-lt-mul, div-eq-of-lt, le-antisymm, one-mul, pow-suc, zero-div}
-use lib.Pow.{shr-shr, field, mod-mod-pow, pow-pos, pow-mono}
+use lib.Pow.{shr-shr, field, mod-mod-pow, pow-pos}
 use lib.Dec.{lit<}
 use Rattle.sets.specs.Sets.{bit}
 

@@ -1,8 +1,8 @@
 -- The decision of a permitted set: row by row, and by the number of its wind and earthquake rows.
-use mathlib.Core.Path.{_≡_, refl, sym, _∙_, subst}
+use mathlib.Core.Path.{_≡_, refl, sym, subst}
 use mathlib.Core.Logic.{_⊎_, inl, inr, ⊎-elim}
 use mathlib.Core.Bool.{Bool, true, false, not}
-use Prim.Native.Nat.{ℕ, zero, suc, _+_, _^_, _≤_, _<_}
+use Prim.Native.Nat.{ℕ, zero, suc, _+_, _^_, _<_}
 use native.Mathlib.Omega.{arith}
 use native.Mathlib.Decide.{ℕ-discrete}
 use Rattle.decides.specs.Decides.{Decides, decides-same}
@@ -12,7 +12,7 @@ use Rattle.sets.specs.declared.Combination.{Combination}
 use Rattle.sets.specs.declared.Combination.the-variants.{I, II, III, IV}
 use Rattle.sets.specs.declared.Load.{Load}
 use Rattle.sets.specs.declared.Loads.{Loads}
-use Rattle.sets.specs.Sets.{bit, row, Acts, Has, Erected, Mixed, Permitted, RowFits, Opens, Together, Admits}
+use Rattle.sets.specs.Sets.{bit, row, Acts, Has, Mixed, Permitted, RowFits, Opens, Together, Admits}
 use Rattle.sets.specs.Totals.{sum, counted}
 use Rattle.sets.specs.Sums.{isWind, isQuake, sumsOf}
 use Rattle.sets.proofs.Adding.{winds-is, quakes-is}

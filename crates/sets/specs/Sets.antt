@@ -6,7 +6,7 @@ use Prim.Native.Nat.{ℕ, _/_, _%_, _^_, _≤_, _<_}
 use lib.ListN.{getD}
 use Rattle.signed.specs.declared.Amount.{Amount}
 use Rattle.sets.specs.declared.Class.{Class}
-use Rattle.sets.specs.declared.Class.the-variants.{Permanent, Free, Wind, Earthquake}
+use Rattle.sets.specs.declared.Class.the-variants.{Permanent, Wind, Earthquake}
 use Rattle.sets.specs.declared.Combination.{Combination}
 use Rattle.sets.specs.declared.Combination.the-variants.{I, II, III, IV}
 use Rattle.sets.specs.declared.Load.{Load}
@@ -66,7 +66,7 @@ pub record Permitted (combination : Combination) (loads : Loads) (set : ℕ) : T
   -- IV, only if some row has phase 1.
   pub erection : combination ≡ IV → Erected loads
 
--- What DESIGN's bounds let a load be: |V| in kN, |x| in mm, |H| in kN, |H y| in kN mm.
+-- How large a load may be: |V| in kN, |x| in mm, |H| in kN, |H y| in kN mm.
 pub record BoundedLoad (load : Load) : Type 0 where
   pub v : load .v .size ≤ 50000
   pub x : load .x .size ≤ 32000

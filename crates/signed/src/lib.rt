@@ -4,7 +4,7 @@
 // numbers, so every amount is taken apart into what lies above and what lies below zero, and the difference of two sums
 // comes last. What is hard is the bridge: that a product's two parts are made of the factors' parts.
 ghost use mathlib.Core.Path.{_≡_};
-ghost use Prim.Native.Nat.{_+_, _-_, _^_, _≤_};
+ghost use Prim.Native.Nat.{_+_, _-_};
 ghost use lib.IntN.{pos, _-ℤ_};
 ghost use Rattle.signed.specs.Whole.{worth, above, below, amount, partsOf, times, Small};
 

@@ -1,6 +1,6 @@
 -- A line is one, and the worst figure passes its limit exactly if the figure of every permitted set does.
 use mathlib.Core.Path.{_≡_, refl, subst}
-use mathlib.Core.Bool.{Bool, true, false}
+use mathlib.Core.Bool.{Bool}
 use Prim.Native.Nat.{ℕ}
 use Rattle.decides.specs.Decides.{Decides, decides-same, decides-one}
 use Rattle.sets.specs.declared.Combination.{Combination}
@@ -16,7 +16,7 @@ use Rattle.checks.proofs.Passing.{limit-one, passes-better}
 use Rattle.worst.specs.declared.Line.{Line}
 use Rattle.worst.specs.declared.Line.the-variants.{Missing, Shown}
 use Rattle.named.proofs.Unique.{named-figure, named-set}
-use Rattle.worst.specs.Lines.{Printed, Says}
+use Rattle.worst.specs.Lines.{Says}
 
 -- No second line meets the promise.
 module _ (combination : Combination) (check : Check) (base : Base) (loads : Loads) where

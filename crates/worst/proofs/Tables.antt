@@ -1,7 +1,7 @@
 -- The table of the free rows, 13 numbers a row: a row that is written is read back, and the rows before it stay.
-use mathlib.Core.Path.{_≡_, refl, sym, _∙_, ap}
+use mathlib.Core.Path.{_≡_, sym, _∙_, ap}
 use mathlib.Core.List.{List}
-use Prim.Native.Nat.{ℕ, _+_, _*_, _<_, _≤_}
+use Prim.Native.Nat.{ℕ, _+_, _*_, _<_}
 use native.Mathlib.Omega.{arith}
 use native.Mathlib.Nat.{add-zero}
 use native.Mathlib.Decide.{decLt}
@@ -11,7 +11,7 @@ use lib.Seq.{getD-set-same, getD-set-other}
 use Rattle.signed.proofs.Laws.{same-parts}
 use Rattle.sets.specs.declared.Sums.{Sums}
 use Rattle.sets.proofs.Adding.{same-sums, same-balance}
-use Rattle.worst.specs.Search.{rowOf, cells, Puts}
+use Rattle.worst.specs.Search.{rowOf, cells}
 
 -- one number more
 pub write-own : (t row : List ℕ) (base f : ℕ) → base + f < length t → ((g : ℕ) → g < f → getD t (base + g) 0 ≡ getD row g 0)

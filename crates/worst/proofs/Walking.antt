@@ -2,27 +2,26 @@
 use mathlib.Core.Path.{_≡_, refl, sym, _∙_, ap, ap₂, subst, subst⁻¹}
 use mathlib.Core.Logic.{_⊎_, inl, inr, ⊎-elim}
 use mathlib.Core.Bool.{Bool, true, false}
-use mathlib.Core.List.{List}
-use Prim.Native.Nat.{ℕ, zero, suc, _+_, _*_, _-_, _^_, _≤_, _<_}
+use Prim.Native.Nat.{ℕ, zero, suc, _+_, _-_, _^_, _≤_, _<_}
 use native.Mathlib.Omega.{arith}
 use native.Mathlib.Numerals.{add-one}
-use native.Mathlib.Nat.{lt-of-lt-of-le, le-trans}
+use native.Mathlib.Nat.{lt-of-lt-of-le}
 use native.Mathlib.Decide.{decLt}
 use lib.Pow.{pow-mono}
-use Rattle.decides.specs.Decides.{Decides, decided}
+use Rattle.decides.specs.Decides.{Decides}
 use Rattle.sets.specs.declared.Combination.{Combination}
 use Rattle.sets.specs.declared.Loads.{Loads}
 use Rattle.sets.specs.declared.Sums.{Sums}
 use Rattle.sets.specs.Sets.{bit, row, Bounded, Opens, Permitted, Admits, RowFits}
-use Rattle.sets.specs.Sums.{noSums, add, addIf, termsOf, sumsTo, sumsOf, Room}
-use Rattle.sets.proofs.Adding.{room-none, room-add, room-more, room-if, room-row, room-all, low-place, add-if-in, add-if-out}
+use Rattle.sets.specs.Sums.{noSums, addIf, sumsOf, Room}
+use Rattle.sets.proofs.Adding.{room-none, room-add, room-more, room-if, room-row, low-place}
 use Rattle.sets.proofs.Permits.{Fit, permits, admitted}
 use Rattle.checks.specs.declared.Base.{Base}
 use Rattle.checks.specs.declared.Check.{Check}
 use Rattle.checks.specs.declared.Check.the-variants.{OP, OM, SL, PR, RK}
 use Rattle.checks.specs.declared.Figure.{Figure}
-use Rattle.checks.specs.Figures.{Shows, Judged, Sized}
-use Rattle.checks.specs.Order.{Side, side, Sound, rank, Ranks}
+use Rattle.checks.specs.Figures.{Shows, Judged}
+use Rattle.checks.specs.Order.{side, rank}
 use Rattle.checks.specs.Limits.{Service, HasCheck}
 use Rattle.checks.proofs.Showing.{judged-shows, shows-one, ranks-map}
 use Rattle.worst.specs.declared.Best.{Best}
@@ -30,11 +29,10 @@ use Rattle.named.specs.declared.Mark.{Mark}
 use Rattle.choices.specs.declared.Stance.{Stance}
 use Rattle.choices.specs.declared.Stance.the-variants.{Never, Always, Either}
 use Rattle.worst.specs.declared.Table.{Table}
-use Rattle.named.specs.Named.{Named}
-use Rattle.choices.specs.Stance.{stanceOf, held, next, free, pick, fixedBy, fixed, chosen}
+use Rattle.choices.specs.Stance.{next, free, pick, fixedBy, fixed, chosen}
 use Rattle.named.specs.Marks.{Offered}
 use Rattle.choices.specs.Stance.{rowTerms, stanceAt}
-use Rattle.worst.specs.Search.{markOf, Weighed, Low, Visits, rowOf, Grows, Filled, Found, Walked}
+use Rattle.worst.specs.Search.{markOf, Weighed, Visits, rowOf, Grows, Filled, Walked}
 use Rattle.named.proofs.Weights.{Extends, nothing-yet, offer, skip, ends-named, ends-empty}
 use Rattle.choices.proofs.Choices.{next-le, free-room, pick-low, pick-bit, Stands, Made, made, sums-number, Tabled, pick-sums}
 use Rattle.choices.proofs.Rows.{stance-says, held-never, held-always, stance-fits}

@@ -1,4 +1,4 @@
-// The worst permitted set of a combination for each check, and the line that names it (document 01, Load sets; DESIGN §4 and §9).
+// The worst permitted set of a combination for each check, and the line that names it (document 01, Load sets).
 //
 // One walk goes through the choices of the combination's free rows and weighs all its checks at once. What is hard is that every
 // permitted set is a choice and no other, and that the promise of the walk names no order: it is only that no permitted set comes
@@ -17,8 +17,7 @@ use sets::Sums;
 use signed::Parts;
 ghost use mathlib.Core.Path.{_≡_};
 ghost use mathlib.Core.Bool.{true};
-ghost use Prim.Native.Nat.{ℕ, _+_, _*_, _^_, _<_, _≤_};
-ghost use lib.ListN.{getD};
+ghost use Prim.Native.Nat.{ℕ, _+_, _*_, _-_, _^_, _<_, _≤_};
 ghost use Rattle.decides.specs.Decides.{Decides};
 ghost use Rattle.sets.specs.Sets.{Bounded, Opens};
 ghost use Rattle.sets.specs.Sums.{Room};
@@ -67,6 +66,9 @@ pub struct Lines {
 
 const TOP: u64 = 18446744073709551615;
 
+// Up to here a figure so far may be multiplied out to see, with no division, that a set is plainly no worse.
+const PLAIN: u64 = 16777216;
+
 // Of two sets with the same figure, whether s comes before t: it has fewer rows, or as many and the smaller number.
 fn fewer(s: u64, t: u64) -> bool
     requires { ⌜ (0 < s) × (s < 65536) × (t < 65536) ⌝ }
@@ -108,23 +110,39 @@ fn better(best: Mark, rank: u64, set: u64) -> Mark
 }
 
 fn tipped(on: bool, best: Mark, balance: Balance, set: u64) -> Mark
-    requires { ⌜ balance .resisting ≤ 2 ^ 40 ⌝ }
+    requires { ⌜ (balance .resisting ≤ 2 ^ 40) × (balance .overturning ≤ 2 ^ 38) ⌝ }
     requires { ⌜ (0 < set) × (set < 65536) × (best .set < 65536) ⌝ }
     ensures { λ r. ⌜ (r .set < 65536) × (on ≡ true → Offered lowest (Tips (balance .resisting) (balance .overturning)) best set r) ⌝ }
 {
     if !on {
         return best;
     }
+    let last = best.rank;
+    let over = balance.overturning;
+    let held = 100 * balance.resisting;
+    if last < PLAIN {
+        if over * (last + 1) <= held {
+            return best;
+        }
+    }
     better(best, checks::tip_rank(balance), set)
 }
 
 fn slid(on: bool, best: Mark, friction: u64, n: u64, h: u64, set: u64) -> Mark
-    requires { ⌜ (friction ≤ 1000) × (n ≤ 2 ^ 20) × (h ≤ 2 ^ 40) ⌝ }
+    requires { ⌜ (friction ≤ 1000) × (n ≤ 2 ^ 20) × (h ≤ 2 ^ 24) ⌝ }
     requires { ⌜ (0 < set) × (set < 65536) × (best .set < 65536) ⌝ }
     ensures { λ r. ⌜ (r .set < 65536) × (on ≡ true → Offered lowest (Slides friction n h) best set r) ⌝ }
 {
     if !on {
         return best;
+    }
+    let last = best.rank;
+    if 0 < n {
+        if last < PLAIN {
+            if 10 * h * (last + 1) <= friction * n {
+                return best;
+            }
+        }
     }
     better(best, checks::slide_rank(friction, n, h), set)
 }
@@ -138,6 +156,20 @@ fn pressed(best: Mark, base: Base, n: u64, m: u64, set: u64) -> Mark
     better(best, checks::press_rank(base.width, base.length, n, m), set)
 }
 
+// Whether RK of a set is plainly below the figure shown.
+fn plainly(m: u64, shown: u64, full: u64) -> bool
+    requires { ⌜ (m ≤ 2 ^ 40) × (shown < 2 ^ 24) × (full ≤ 2 ^ 36) ⌝ }
+    ensures { λ r. ⌜ (r ≡ true → (0 < shown) × (1000 * m ≤ (shown - 1) * (2 * full))) ⌝ }
+{
+    if shown == 0 {
+        return false;
+    }
+    if 1000 * m <= (shown - 1) * (2 * full) {
+        return true;
+    }
+    false
+}
+
 fn leaned(on: bool, best: Mark, base: Base, n: u64, m: u64, set: u64) -> Mark
     requires { ⌜ Sized base ⌝ }
     requires { ⌜ (n ≤ 2 ^ 20) × (m ≤ 2 ^ 40) ⌝ }
@@ -146,6 +178,14 @@ fn leaned(on: bool, best: Mark, base: Base, n: u64, m: u64, set: u64) -> Mark
 {
     if !on {
         return best;
+    }
+    let shown = TOP - best.rank;
+    if 0 < n {
+        if shown < PLAIN {
+            if plainly(m, shown, n * base.width) {
+                return best;
+            }
+        }
     }
     better(best, checks::lean_rank(base.width, n, m), set)
 }

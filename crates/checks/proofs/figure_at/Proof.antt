@@ -1,7 +1,6 @@
 use borrow.Author.Needs.{needs}
 use mathlib.Core.Path.{_≡_, subst⁻¹}
 use Rattle.checks.specs.declared.Check.{Check}
-use Rattle.checks.specs.declared.Check.the-variants.{OP, OM, SL, PR, RK}
 use Rattle.checks.specs.Order.{side, Sound, rank}
 use Rattle.checks.proofs.figure_at.Statement.{statement}
 use Rattle.checks.proofs.figure_at.Tie as tie

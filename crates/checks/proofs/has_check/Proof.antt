@@ -3,7 +3,6 @@ use mathlib.Core.Path.{_≡_, refl, sym, subst⁻¹}
 use mathlib.Core.Bool.{Bool, true, false, true≢false}
 use Rattle.decides.specs.Decides.{Decides}
 use Rattle.checks.specs.declared.Check.{Check}
-use Rattle.checks.specs.declared.Check.the-variants.{OP, OM, SL, PR, RK}
 use Rattle.checks.specs.Limits.{HasCheck}
 use Rattle.checks.proofs.has_check.Statement.{statement}
 use Rattle.checks.proofs.has_check.Tie as tie

@@ -3,7 +3,7 @@ use native.Mathlib.Omega.{arith}
 use mathlib.Core.Path.{_≡_}
 use native.Mathlib.Nat.{mul-le-mul, mul-pos}
 use lib.Dec.{lit<}
-use Prim.Native.Nat.{ℕ, _*_, _-_, _^_, _≤_, _<_}
+use Prim.Native.Nat.{_*_, _<_}
 use Rattle.checks.proofs.Ranking.{lean-off, lean-some}
 use Rattle.checks.proofs.lean_rank.Statement.{statement}
 use Rattle.checks.proofs.lean_rank.Tie as tie

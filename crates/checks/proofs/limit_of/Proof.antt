@@ -1,7 +1,6 @@
 use borrow.Author.Needs.{needs}
 use mathlib.Core.Path.{refl, subst, subst⁻¹}
 use Rattle.checks.specs.declared.Check.{Check}
-use Rattle.checks.specs.declared.Check.the-variants.{OP, OM, SL, PR, RK}
 use Rattle.checks.specs.Limits.{Limit, HasCheck}
 use Rattle.checks.proofs.limit_of.Statement.{statement}
 use Rattle.checks.proofs.limit_of.Tie as tie

@@ -2,7 +2,6 @@ use borrow.Author.Needs.{needs}
 use mathlib.Core.Path.{subst⁻¹}
 use Rattle.decides.specs.Decides.{Decides}
 use Rattle.checks.specs.declared.Check.{Check}
-use Rattle.checks.specs.declared.Check.the-variants.{OP, OM, SL, PR, RK}
 use Rattle.checks.specs.Order.{side}
 use Rattle.checks.specs.Limits.{Passes}
 use Rattle.checks.proofs.passes.Statement.{statement}

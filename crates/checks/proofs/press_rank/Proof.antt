@@ -3,7 +3,7 @@ use borrow.Author.Needs.{needs}
 use native.Mathlib.Omega.{arith}
 use native.Mathlib.Nat.{mul-le-mul, mul-pos}
 use lib.Dec.{lit<}
-use Prim.Native.Nat.{ℕ, _*_, _-_, _^_, _≤_, _<_}
+use Prim.Native.Nat.{_*_, _-_, _^_, _≤_, _<_}
 use Rattle.checks.proofs.Ranking.{press-off, press-full, press-part}
 use Rattle.checks.proofs.press_rank.Statement.{statement}
 use Rattle.checks.proofs.press_rank.Tie as tie

@@ -1,9 +1,10 @@
 -- Each check by its own rank, at the parts of N, H and M.
 use borrow.Author.Needs.{needs}
+use native.Mathlib.Nat.{le-trans}
+use lib.Dec.{lit≤}
 use mathlib.Core.Path.{subst⁻¹, subst₂}
 use Prim.Native.Nat.{ℕ}
 use Rattle.checks.specs.declared.Check.{Check}
-use Rattle.checks.specs.declared.Check.the-variants.{OP, OM, SL, PR, RK}
 use Rattle.checks.specs.Figures.{Slides, Presses, Leans, Judged, apart}
 use Rattle.checks.specs.Order.{side, lowest, highest, Ranks}
 use Rattle.checks.proofs.Showing.{slight}
@@ -39,7 +40,7 @@ unfolding apart
 slide-rank-requires c κs =
     let e = c .before .before .before .before .before .before .before in
     let s = slight (e .pre .1) in
-    (e .pre .0 .friction, rw (c .before .before .before .before .before .before .excess .ensures) (s .n), rw (c .before .before .before .before .before .distance .ensures) (s .h))
+    (e .pre .0 .friction, rw (c .before .before .before .before .before .before .excess .ensures) (s .n), rw (c .before .before .before .before .before .distance .ensures) (le-trans (s .h) (lit≤ tt)))
 
 enum-told-4 : tie.Need-enum-told-4
 enum-told-4 c = search needs

@@ -1,6 +1,6 @@
 -- What a row exerts, by where its forces come from. In range and with a coefficient, an E row has a push.
 use borrow.Author.Needs.{needs}
-use mathlib.Core.Path.{_≡_, sym, _∙_, subst, subst⁻¹}
+use mathlib.Core.Path.{sym, _∙_, subst, subst⁻¹}
 use lib.Dec.{lit≤}
 use Rattle.earth.specs.declared.EarthAnswer.{EarthAnswer}
 use Rattle.earth.specs.Earth.{told, Pressed}

@@ -3,7 +3,7 @@ use native.Mathlib.Omega.{arith}
 use mathlib.Core.Path.{_≡_, sym, _∙_, subst}
 use Prim.Native.Nat.{ℕ}
 use Rattle.earth.specs.declared.EarthAnswer.{EarthAnswer}
-use Rattle.earth.specs.Earth.{Told, refused, push, told, Pressed}
+use Rattle.earth.specs.Earth.{refused, push, told, Pressed}
 use Rattle.earth.specs.Table2.{table2-fill}
 use Rattle.earth.proofs.Pressures.{pressed-one}
 use Rattle.loads.specs.Taken.{BlankThere}

@@ -1,12 +1,9 @@
 use borrow.Author.Needs.{needs}
 use mathlib.Core.Path.{subst}
 use borrow.Author.Tests.{not-true, not-false}
-use Prim.Native.Nat.{ℕ}
 use Rattle.decides.specs.Decides.{Decides, decided, refuted}
-use Rattle.sets.specs.declared.Combination.{Combination}
-use Rattle.sets.specs.declared.Loads.{Loads}
 use Rattle.sets.specs.declared.Sums.{Sums}
-use Rattle.sets.specs.Sets.{Permitted, Opens, Admits}
+use Rattle.sets.specs.Sets.{Opens, Admits}
 use Rattle.sets.proofs.Permits.{Fit, permitted-fits, decides-permitted}
 use Rattle.sets.proofs.permitted.Statement.{statement}
 use Rattle.sets.proofs.permitted.Tie as tie

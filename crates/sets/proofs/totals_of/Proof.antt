@@ -1,9 +1,7 @@
 use borrow.Author.Needs.{needs}
 use mathlib.Core.Path.{_≡_, _∙_, sym, ap}
 use lib.IntN.{pos, _-ℤ_}
-use Rattle.signed.specs.declared.Amount.{Amount}
 use Rattle.signed.specs.Whole.{amount}
-use Rattle.sets.specs.declared.Balance.{Balance}
 use Rattle.sets.specs.declared.Totals.{Totals}
 use Rattle.sets.specs.Totals.{totalsOf}
 use Rattle.sets.proofs.Adding.{n-is, h-is, m-is, plus-is, minus-is}

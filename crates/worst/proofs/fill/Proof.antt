@@ -3,7 +3,7 @@ use borrow.Author.Needs.{needs}
 use native.Mathlib.Omega.{arith}
 use mathlib.Core.Path.{_≡_, refl, _∙_, ap, subst, subst⁻¹}
 use native.Mathlib.Nat.{le-antisymm}
-use Prim.Native.Nat.{ℕ, _-_, _^_, _≤_, _<_}
+use Prim.Native.Nat.{ℕ, _-_, _^_, _≤_}
 use Rattle.sets.specs.Sets.{row}
 use Rattle.sets.specs.Sums.{termsOf, Room}
 use Rattle.sets.proofs.Bits.{next-place}

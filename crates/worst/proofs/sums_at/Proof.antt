@@ -4,7 +4,7 @@ use native.Mathlib.Omega.{arith}
 use mathlib.Core.Path.{_≡_, _∙_, sym, ap, subst⁻¹}
 use mathlib.Core.Logic.{⊎-elim}
 use native.Mathlib.Nat.{le-antisymm}
-use Prim.Native.Nat.{ℕ, _-_, _/_, _^_, _≤_, _<_}
+use Prim.Native.Nat.{_-_, _/_, _^_, _≤_}
 use Rattle.sets.specs.Sets.{bit}
 use Rattle.sets.specs.Sums.{add, addIf, Room}
 use Rattle.sets.proofs.Bits.{bit-is, next-bits, bit-not-one}

@@ -1,22 +1,54 @@
+use borrow.Author.Needs.{needs}
+use native.Mathlib.Omega.{arith}
 use mathlib.Core.Path.{sym, _∙_}
 use mathlib.Core.Bool.{true≢false}
 use borrow.Author.Tests.{not-true}
-use Rattle.named.proofs.Weights.{better-low}
+use native.Mathlib.Nat.{mul-le-mul}
+use Prim.Native.Nat.{_+_, _^_, _≤_}
+use Rattle.checks.proofs.Ranking.{tip-above}
+use Rattle.named.proofs.Weights.{better-low, offered-old}
 use Rattle.worst.proofs.tipped.Statement.{statement}
 use Rattle.worst.proofs.tipped.Tie as tie
 
 returns : tie.Need-returns
 returns c = (c .before .pre .1 .2, λ e. absurd (true≢false (sym e ∙ not-true (c .before .args .on) (c .if1 .taken))))
 
-tip-rank-requires : tie.Need-tip-rank-requires
-tip-rank-requires c κs = c .before .pre .0
+mul-held : tie.Need-mul-held
+mul-held c = search needs
 
-better-requires : tie.Need-better-requires
-better-requires c κs = c .before .before .pre .1
+add-if3 : tie.Need-add-if3
+add-if3 c = search needs
+
+mul-if3 : tie.Need-mul-if3
+mul-if3 c =
+    let l : c .before .before .before .args .best .rank + 1 ≤ 2 ^ 24 = omega (arith, c .if2 .taken) in
+    omega (arith, mul-le-mul (c .before .before .before .pre .0 .1) l)
 
 returns-2 : tie.Need-returns-2
 returns-2 c =
-    (better-low (c .before .before .before .pre .1 .2) (c .before .before .before .pre .1 .1) (c .better .ensures), λ _. record { rank = _; ranks = c .before .tip-rank .ensures; better = c .better .ensures })
+    let e = c .before .before .before .before in
+    let w = tip-above _ _ _ (e .pre .0 .0) (c .before .if2 .taken) (c .if3 .taken) in
+    (e .pre .1 .2, λ _. offered-old _ _ _ _ (w .0) (w .1) (w .2) (e .pre .1 .2) (e .pre .1 .1))
+
+tip-rank-requires : tie.Need-tip-rank-requires
+tip-rank-requires c κs = c .before .before .before .pre .0 .0
+
+better-requires : tie.Need-better-requires
+better-requires c κs = c .before .before .before .before .pre .1
+
+returns-3 : tie.Need-returns-3
+returns-3 c =
+    (better-low (c .before .before .before .before .before .pre .1 .2) (c .before .before .before .before .before .pre .1 .1) (c .better .ensures), λ _. record { rank = _; ranks = c .before .tip-rank .ensures; better = c .better .ensures })
 
 pub tipped-spec : {M : Type 1} → statement M
-tipped-spec = tie.close (tie.spec returns tip-rank-requires better-requires returns-2)
+tipped-spec =
+    tie.close
+    (tie.spec
+    returns
+    mul-held
+    add-if3
+    mul-if3
+    returns-2
+    tip-rank-requires
+    better-requires
+    returns-3)

@@ -55,14 +55,14 @@ unfolding Low markOf
 tipped-requires c κs =
     let e = c .before .before .before .before .before .before .before .before .before .before in
     let s = slight (e .pre .1 .0) in
-    (s .plus, (e .pre .1 .1 .0 .0, e .pre .1 .1 .0 .1, e .pre .1 .1 .1 OP))
+    ((s .plus, s .over-plus), (e .pre .1 .1 .0 .0, e .pre .1 .1 .0 .1, e .pre .1 .1 .1 OP))
 
 tipped-requires-2 : tie.Need-tipped-requires-2
 unfolding Low markOf
 tipped-requires-2 c κs =
     let e = c .before .before .before .before .before .before .before .before .before .before .before in
     let s = slight (e .pre .1 .0) in
-    (s .minus, (e .pre .1 .1 .0 .0, e .pre .1 .1 .0 .1, e .pre .1 .1 .1 OM))
+    ((s .minus, s .over-minus), (e .pre .1 .1 .0 .0, e .pre .1 .1 .0 .1, e .pre .1 .1 .1 OM))
 
 slid-requires : tie.Need-slid-requires
 unfolding Low markOf apart

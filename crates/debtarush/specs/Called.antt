@@ -1,0 +1,53 @@
+-- Document 01, Refusals of a book and The printed answer: a call for one job's lines, named by its place in the book, from 1.
+use Prim.Native.Nat.{ℕ, _≤_, _<_}
+use mathlib.Core.Path.{_≡_}
+use mathlib.Core.List.{List, _++_}
+use lib.ListN.{length, drop}
+use Rattle.jobs.specs.declared.Job.{Job}
+use Rattle.book.specs.JobBook.{Jobs, JobBook}
+use Rattle.book.specs.Values.{values}
+use Rattle.book.specs.Says as book
+use Rattle.book.specs.Notes.{RowIn}
+use Rattle.earth.specs.declared.Coefficient.{Coefficient}
+use Rattle.lines.specs.declared.Answer.{Answer}
+use Rattle.answer.specs.Answer.{AnswerIs}
+use Rattle.printing.specs.Text.{text}
+use Rattle.block.specs.Block.{block-of}
+use Rattle.block.specs.declared.Block.{Block}
+use Rattle.debtarush.specs.declared.Written.{Written}
+use Rattle.debtarush.specs.declared.Written.the-variants.{Length, Book, NoPlace, TooShort}
+
+-- what a call is told: so many bytes written, or a refusal's number and its row
+pub data Told : Type 0 where
+  written : ℕ → Told
+  refused : ℕ → ℕ → Told
+
+-- 1 to 6 as the book's; 10, the place is 0 or past the last job; 7, the buffer lent is shorter than the lines; both with row 0
+abbrev pub told : Written → Told
+told (Length n) = written n
+told (Book why row) = refused (book.refusal-number why) row
+told NoPlace = refused 10 0
+told TooShort = refused 7 0
+
+-- the bytes of a job's lines
+pub record TextOf (fill : ℕ → ℕ → Coefficient) (job : Job) (t : List ℕ) : Type 0 where
+  pub answer : Answer
+  pub is : AnswerIs fill job answer
+  pub are : t ≡ text (job .key) answer
+
+-- the same in a block, whole
+pub record LinesIn (fill : ℕ → ℕ → Coefficient) (job : Job) (block : Block) : Type 0 where
+  pub bytes : List ℕ
+  pub lines : TextOf fill job bytes
+  pub fits : length bytes ≤ 2048
+  pub held : block ≡ block-of bytes
+
+-- a call for the lines of the job at a place of a book, with a buffer that held `before` and holds `after` then.
+-- "Nothing is written by a call refused with 1 to 7 or 10. Otherwise exactly the lines' bytes are written from the start and the rest is untouched"
+pub data Called (fill : ℕ → ℕ → Coefficient) (b : List ℕ) (place : ℕ) (before after : List ℕ) (t : Told) : Type 0 where
+  no-book : {n row : ℕ} → book.Says b (book.refused n row) → after ≡ before → t ≡ refused n row → Called fill b place before after t
+  no-place : {js : Jobs} → JobBook b js → ((job : Job) → RowIn (values js) place job → ⊥) → after ≡ before → t ≡ refused 10 0 → Called fill b place before after t
+  too-short : {js : Jobs} {job : Job} {bytes : List ℕ} → JobBook b js → RowIn (values js) place job → TextOf fill job bytes → length before < length bytes → after ≡ before
+      → t ≡ refused 7 0 → Called fill b place before after t
+  lines : {js : Jobs} {job : Job} {bytes : List ℕ} → JobBook b js → RowIn (values js) place job → TextOf fill job bytes → length bytes ≤ length before
+      → after ≡ bytes ++ drop (length bytes) before → t ≡ written (length bytes) → Called fill b place before after t

@@ -1,0 +1,2 @@
+-- Laws of the text of a line's fields. Other crates' proofs cite them.
+pub mod Injective

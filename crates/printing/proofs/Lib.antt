@@ -1,0 +1,4 @@
+-- Laws of the text of lines. Other crates' proofs cite them.
+pub mod Printed
+pub mod Room
+pub mod Injective

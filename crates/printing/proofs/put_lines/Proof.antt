@@ -1,0 +1,44 @@
+use Rattle.lines.specs.Lines.{combination-lines}
+use Rattle.printing.specs.Room.{lines-room}
+use Rattle.printing.proofs.Printed.{then-lines}
+use borrow.Author.Needs.{needs}
+use Rattle.printing.proofs.put_lines.Statement.{statement}
+use Rattle.printing.proofs.put_lines.Tie as tie
+
+put-line-requires : tie.Need-put-line-requires
+put-line-requires c κs = search needs
+
+put-line-requires-2 : tie.Need-put-line-requires-2
+put-line-requires-2 c κs = search needs
+
+put-line-requires-3 : tie.Need-put-line-requires-3
+put-line-requires-3 c κs = search needs
+
+put-line-requires-4 : tie.Need-put-line-requires-4
+put-line-requires-4 c κs = search needs
+
+put-line-requires-5 : tie.Need-put-line-requires-5
+put-line-requires-5 c κs = search needs
+
+returns : tie.Need-returns
+unfolding combination-lines lines-room
+returns c =
+    let fourth = c .before .before in
+    let third = fourth .before .before in
+    let second = third .before .before in
+    let first = second .before .before in
+    then-lines _ _ _ _ _ _ _ _ (first .put-line .ensures)
+    (then-lines _ _ _ _ _ _ _ _ (second .put-line2 .ensures)
+    (then-lines _ _ _ _ _ _ _ _ (third .put-line3 .ensures)
+    (then-lines _ _ _ _ _ _ _ _ (fourth .put-line4 .ensures) (c .put-line5 .ensures))))
+
+pub put-lines-spec : {M : Type 1} → statement M
+put-lines-spec =
+    tie.close
+    (tie.spec
+    put-line-requires
+    put-line-requires-2
+    put-line-requires-3
+    put-line-requires-4
+    put-line-requires-5
+    returns)
