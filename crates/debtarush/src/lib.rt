@@ -2,10 +2,10 @@
 //
 // A call takes the book as it is lent and keeps nothing: the same bytes give the same answer. What is hard is in the rooms
 // below; here the refusals stand in their order, 1 to 6, then 10, then 7, and a refused call writes nothing.
+use block::Block;
 use book::Count;
 use book::Refusal;
 use jobs::Job;
-use block::Block;
 ghost use mathlib.Core.Path.{_≡_};
 ghost use Rattle.earth.specs.Table2.{table2-fill};
 ghost use Rattle.debtarush.specs.Called.{LinesIn, Called, told};

@@ -1,12 +1,28 @@
 -- Every starred figure holds of the definitions: each by a test that is computed.
+use mathlib.Core.Path.{_≡_, refl}
+use Prim.Native.Nat.{ℕ, _*_, _≤_, _<_}
 use native.Mathlib.Nat.{not-le-of-lt}
 use lib.Dec.{lit<, lit≤}
 use Rattle.rounding.proofs.Compute.{up-test, cube-test, cube-test′}
 use Rattle.river.specs.River.{to-500, to-5000, to-25000}
 use Rattle.earth.specs.Earth.{value}
-use Rattle.figures.specs.Figures.{needed, Says, All, none, more, starred}
+use Rattle.signed.specs.Whole.{worth, amount, above, below}
+use Rattle.sets.specs.Sets.{bit, row}
+use Rattle.sets.specs.Totals.{counted, sum, arm, upright, push, resists, overturns, resisting, overturning}
+use Rattle.checks.specs.declared.Figure.the-variants.{Number}
+use Rattle.checks.specs.Figures.{Presses}
+use Rattle.figures.specs.Figures.{needed, pressure, pressure-either, Says, All, none, more, starred, PressesWhole, PressesPart}
+use Rattle.figures.proofs.Loaded.{overturns-test}
+
+-- the two rules of PR are those of `Presses`, each where it applies
+pub two-rules : (B L N M figure : ℕ)
+    → Presses B L N M (Number figure)
+    ≡ ((0 < N) × (M < N * B) × (3 * M ≤ N * B → PressesWhole B L N M figure) × (N * B < 3 * M → PressesPart B L N M figure))
+unfolding Presses
+two-rules B L N M figure = refl
 
 pub figures : All Says starred
+unfolding worth amount bit row sum counted resists overturns upright push arm above below resisting overturning Presses
 figures =
     more (to-500 (lit≤ tt) (up-test _ _ _ tt))
     (more (to-5000 (lit< tt) (lit≤ tt) (up-test _ _ _ tt))
@@ -14,9 +30,18 @@ figures =
     (more (lit≤ tt)
     (more (not-le-of-lt (lit< tt))
     (more (cube-test _ _ _ tt)
-    (more {x = needed 5163 4 13734} (record { greatest = 10326; scour = up-test _ _ _ tt; rounded = up-test _ _ _ tt })
+    (more {x = needed _ _ _} (record { greatest = 10326; scour = up-test _ _ _ tt; rounded = up-test _ _ _ tt })
     (more (cube-test′ _ _ _ tt)
     (more (cube-test′ _ _ _ tt)
     (more (up-test _ _ _ tt)
     (more (value (up-test _ _ _ tt) (up-test _ _ _ tt))
-    none))))))))))
+    (more (overturns-test _ _ _ _ _ _ tt tt)
+    (more (overturns-test _ _ _ _ _ _ tt tt)
+    (more {x = pressure _ _ _ _ _} (lit< tt, lit< tt, (λ h. absurd (not-le-of-lt (lit< tt) h)), λ h. up-test _ _ _ tt)
+    (more {x = pressure-either _ _ _ _ _}
+    (record {
+      presses = (lit< tt, lit< tt, (λ h. up-test _ _ _ tt), λ h. absurd (not-le-of-lt h (lit≤ tt)));
+      whole = up-test _ _ _ tt;
+      part = up-test _ _ _ tt;
+    })
+    none))))))))))))))

@@ -1,11 +1,46 @@
 -- Document 01, "Figures on each side": the starred ones as one list, each said of the definitions that the promises cite.
+use mathlib.Core.Path.{_≡_}
 use mathlib.Core.Bool.{Bool, true, false}
 use mathlib.Core.List.{List, [], _∷_}
-use Prim.Native.Nat.{ℕ}
+use Prim.Native.Nat.{ℕ, _+_, _*_, _-_}
 use Rattle.decides.specs.Decides.{Decides}
+use Rattle.rounding.specs.Least.{RoundedUp}
+use Rattle.fields.specs.Numbers.{positive, absent}
+use Rattle.kinds.specs.declared.Kind.the-variants.{DL}
+use Rattle.kinds.specs.declared.Row.{Row}
 use Rattle.river.specs.River.{FoundationDischarge, RegimeMet, RegimeDepth, ConstrictedDepth, DepthNeeded, Afflux}
 use Rattle.earth.specs.Table2.{table2-fill}
 use Rattle.earth.specs.Earth.{Pushed, push}
+use Rattle.sets.specs.declared.Loads.{Loads}
+use Rattle.checks.specs.declared.Base.{Base}
+use Rattle.checks.specs.declared.Check.the-variants.{OP}
+use Rattle.checks.specs.declared.Figure.the-variants.{Number}
+use Rattle.checks.specs.Figures.{Presses, Shows}
+use Rattle.loads.specs.Taken.{AreLoads}
+
+-- a DL row as it is written: V, x, H, y, in service
+abbrev pub dead-load : (v x h y : ℕ) → Row
+dead-load v x h y =
+    record { kind = DL; numbers = record { n1 = positive v; n2 = positive x; n3 = positive h; n4 = positive y; n5 = positive 0; n6 = absent } }
+
+-- OP of the set of one row, on a base of width B whatever else it is: the loads are those of that row and of no other, and the row counts 1
+pub record Overturns (B : ℕ) (row : Row) (figure : ℕ) : Type 0 where
+  pub loads : Loads
+  pub its-loads : AreLoads table2-fill (row ∷ []) 1 loads
+  pub shows : (base : Base) → base .width ≡ B → Shows OP base loads 1 (Number figure)
+
+-- PR's two rules: where the whole base is pressed, and past the middle third
+abbrev pub PressesWhole : ℕ → ℕ → ℕ → ℕ → ℕ → Type 0
+PressesWhole B L N M figure = RoundedUp (1000000 * (N * B + 3 * M)) (B * B * L) figure
+
+abbrev pub PressesPart : ℕ → ℕ → ℕ → ℕ → ℕ → Type 0
+PressesPart B L N M figure = RoundedUp (4000000 * (N * N)) (3 * L * (N * B - M)) figure
+
+-- PR by either rule
+pub record PressesEither (B L N M figure : ℕ) : Type 0 where
+  pub presses : Presses B L N M (Number figure)
+  pub whole : PressesWhole B L N M figure
+  pub part : PressesPart B L N M figure
 
 -- a figure: what is asked, and what 01 says
 pub data Figure : Type 0 where
@@ -16,6 +51,9 @@ pub data Figure : Type 0 where
   constricted : (q f D : ℕ) → Figure
   afflux : (v A a h : ℕ) → Figure
   earth : (soil slope height length H y : ℕ) → Figure
+  overturning : (B v x h y figure : ℕ) → Figure
+  pressure : (B L N M figure : ℕ) → Figure
+  pressure-either : (B L N M figure : ℕ) → Figure
 
 abbrev pub Says : Figure → Type 0
 Says (flood Q Z Qf) = FoundationDischarge Q Z Qf
@@ -25,6 +63,9 @@ Says (needed D reach d) = DepthNeeded D reach d
 Says (constricted q f D) = ConstrictedDepth q f D
 Says (afflux v A a h) = Afflux v A a h
 Says (earth soil slope height length H y) = Pushed height length (table2-fill soil slope) (push H y)
+Says (overturning B v x h y figure) = Overturns B (dead-load v x h y) figure
+Says (pressure B L N M figure) = Presses B L N M (Number figure)
+Says (pressure-either B L N M figure) = PressesEither B L N M figure
 
 -- all of a list say what holds
 pub data All (P : Figure → Type 0) : List Figure → Type 0 where
@@ -37,6 +78,9 @@ pub data All (P : Figure → Type 0) : List Figure → Type 0 where
 -- *q = 8,000, f = 1,000: D = 5,352. *8,001: 5,353.
 -- *v = 3,000, A = 1,200, a = 1,000: 229.
 -- *Soil a, level, 6,000 by 8,000: 664 at y 2,000.
+-- *B 4,000, one row of V 1,000 at x 0, H 100: y 10,000 gives OP 200, *10,001 gives 199.
+-- *B 4,000, L 8,000, N 1,000, M = 2,000,000: PR 84.
+-- *N 900, M 1,200,000: PR 57 by either rule.
 abbrev pub starred : List Figure
 starred =
     flood 1000000 500 1300000
@@ -50,4 +94,8 @@ starred =
     ∷ constricted 8001 1000 5353
     ∷ afflux 3000 1200 1000 229
     ∷ earth 1 1 6000 8000 664 2000
+    ∷ overturning 4000 1000 0 100 10000 200
+    ∷ overturning 4000 1000 0 100 10001 199
+    ∷ pressure 4000 8000 1000 2000000 84
+    ∷ pressure-either 4000 8000 900 1200000 57
     ∷ []

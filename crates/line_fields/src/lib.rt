@@ -31,10 +31,10 @@ pub fn put_key(out: &mut [u8; 2048], at: usize, key: Key) -> usize
 {
     let member = key.member;
     let job = key.job;
-    let a = put_name(out, at, member);
-    let b = block::push(out, a, b',');
-    let c = put_name(out, b, job);
-    block::push(out, c, b',')
+    let end = put_name(out, at, member);
+    let end = block::push(out, end, b',');
+    let end = put_name(out, end, job);
+    block::push(out, end, b',')
 }
 
 // I, II, III or IV.

@@ -1,5 +1,5 @@
 -- The set numbers of a combination's lines are below 65,536, since each line names a permitted set of at most 16 load rows.
-use Prim.Native.Nat.{ℕ, _^_, _≤_, _<_}
+use Prim.Native.Nat.{_≤_}
 use native.Mathlib.Nat.{lt-of-lt-of-le, pow-le-pow-right}
 use lib.Dec.{lit<}
 use Rattle.sets.specs.declared.Combination.{Combination}

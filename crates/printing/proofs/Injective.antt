@@ -5,7 +5,7 @@ use mathlib.Core.List.{List, [], _∷_, _++_, append-assoc}
 use native.Mathlib.Omega.{arith}
 use lib.Seq.{take-append-seam}
 use Rattle.csv.specs.Rfc4180.{COMMA, CR, LF}
-use Rattle.fields.specs.Names.{name}
+use Rattle.fields.specs.Names.{NameIn, name}
 use Rattle.rows.specs.declared.Key.{Key}
 use Rattle.lines.specs.declared.Answer.{Answer}
 use Rattle.lines.specs.Lines.{PrintedLine, lines-of}
@@ -91,6 +91,17 @@ member-without h = rw (member-bytes h) (name-without (h .member) (h .member-name
 
 job-without : {key : Key} → IsKey key → Without COMMA (name-bytes (key .job))
 job-without h = rw (job-bytes h) (name-without (h .job) (h .job-named))
+
+-- two fields that are names make a key
+pub key-read : {raw raw′ : List ℕ} (key : Key) → NameIn raw (key .member) → NameIn raw′ (key .job) → IsKey key
+key-read key p q =
+    record {
+      member = p .content;
+      job = q .content;
+      member-named = p .is;
+      job-named = q .is;
+      held = λ i. record { member = p .held i; job = q .held i };
+    }
 
 -- The text of a job's lines says its key and its lines.
 pub text-injective : {k k′ : Key} (a a′ : Answer) → IsKey k → IsKey k′ → text k a ≡ text k′ a′ → (k ≡ k′) × (lines-of a ≡ lines-of a′)

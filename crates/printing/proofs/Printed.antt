@@ -5,7 +5,6 @@ use mathlib.Core.Bool.{Bool, true, false}
 use mathlib.Core.List.{List, [], _∷_, _++_, append-assoc, append-nil}
 use native.Mathlib.Omega.{arith}
 use lib.ListN.{length}
-use Rattle.csv.specs.Rfc4180.{COMMA}
 use Rattle.rows.specs.declared.Key.{Key}
 use Rattle.sets.specs.declared.Combination.{Combination}
 use Rattle.checks.specs.declared.Check.{Check}
@@ -17,16 +16,14 @@ use Rattle.lines.specs.declared.DepthLine.the-variants as depth
 use Rattle.lines.specs.declared.ClearLine.{ClearLine}
 use Rattle.lines.specs.declared.ClearLine.the-variants as clear
 use Rattle.lines.specs.declared.Verdict.{Verdict}
-use Rattle.lines.specs.declared.Verdict.the-variants.{Accepted, NotAccepted, Refused}
 use Rattle.lines.specs.declared.Answer.{Answer}
-use Rattle.lines.specs.Lines.{SC, CL, number, holds, empty, check, PrintedLine, mark-of, value-of, signed-value, verdict-value, verdict-line, check-line, depth-line, clear-line, later-lines, unless-refused, lines-of}
+use Rattle.lines.specs.Lines.{SC, CL, PrintedLine, value-of, signed-value, verdict-line, check-line, depth-line, clear-line, later-lines, unless-refused, lines-of}
 use Rattle.block.specs.declared.Block.{Block}
 use Rattle.block.specs.Decimal.{decimal}
-use Rattle.block.specs.Block.{puts, Put}
-use Rattle.block.specs.Block.{field}
-use Rattle.line_fields.specs.Text.{HYPHEN, key-text, combination-text, check-text, name-text, value-text, cell-text, mark-text, ending}
+use Rattle.block.specs.Block.{field, puts, Put}
+use Rattle.line_fields.specs.Text.{HYPHEN, key-text, combination-text, check-text, name-text, value-text, cell-text, ending}
 use Rattle.printing.specs.Text.{Alone, line-text, texts, text}
-use Rattle.printing.specs.Room.{line-room, answer-room}
+use Rattle.printing.specs.Room.{line-room}
 use Rattle.block.proofs.Pages.{spelled, then-put, put-as, put-nothing}
 
 -- ---- lists of lines

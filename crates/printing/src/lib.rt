@@ -23,10 +23,10 @@ ghost use Rattle.printing.specs.Room.{line-room, lines-room, answer-room
 fn put_verdict(out: &mut [u8; 2048], at: usize, key: Key, verdict: Verdict) -> usize
     ensures { λ r. ⌜ Adds (now (out .entry)) at (line-text key (verdict-line verdict)) 42 (now (out .exit)) r ⌝ }
 {
-    let a = line_fields::put_key(out, at, key);
-    let b = block::put(out, a, b"VERDICT");
-    let c = line_fields::put_verdict_value(out, b, verdict);
-    block::put(out, c, b",,,\r\n")
+    let end = line_fields::put_key(out, at, key);
+    let end = block::put(out, end, b"VERDICT");
+    let end = line_fields::put_verdict_value(out, end, verdict);
+    block::put(out, end, b",,,\r\n")
 }
 
 // The line of a check in a combination, if there is one.
@@ -48,13 +48,13 @@ fn put_line(
             set,
             passes,
         } => {
-            let a = line_fields::put_key(out, at, key);
-            let b = line_fields::put_combination(out, a, combination);
-            let c = line_fields::put_check(out, b, check);
-            let d = line_fields::put_figure(out, c, figure);
-            let e = block::put_number(out, d, limit);
-            let f = block::put_number(out, e, set);
-            line_fields::put_ending(out, f, passes)
+            let end = line_fields::put_key(out, at, key);
+            let end = line_fields::put_combination(out, end, combination);
+            let end = line_fields::put_check(out, end, check);
+            let end = line_fields::put_figure(out, end, figure);
+            let end = block::put_number(out, end, limit);
+            let end = block::put_number(out, end, set);
+            line_fields::put_ending(out, end, passes)
         }
     }
 }
@@ -74,11 +74,11 @@ fn put_lines(
     let sl = lines.sl;
     let pr = lines.pr;
     let rk = lines.rk;
-    let a = put_line(out, at, key, combination, Check::OP, op);
-    let b = put_line(out, a, key, combination, Check::OM, om);
-    let c = put_line(out, b, key, combination, Check::SL, sl);
-    let d = put_line(out, c, key, combination, Check::PR, pr);
-    put_line(out, d, key, combination, Check::RK, rk)
+    let end = put_line(out, at, key, combination, Check::OP, op);
+    let end = put_line(out, end, key, combination, Check::OM, om);
+    let end = put_line(out, end, key, combination, Check::SL, sl);
+    let end = put_line(out, end, key, combination, Check::PR, pr);
+    put_line(out, end, key, combination, Check::RK, rk)
 }
 
 // SC, if there is one.
@@ -92,12 +92,12 @@ fn put_depth(out: &mut [u8; 2048], at: usize, key: Key, line: DepthLine) -> usiz
             found,
             passes,
         } => {
-            let a = line_fields::put_key(out, at, key);
-            let b = block::put(out, a, b"SC");
-            let c = block::put_number(out, b, needed);
-            let d = block::put_number(out, c, found);
-            let e = block::push(out, d, b',');
-            line_fields::put_ending(out, e, passes)
+            let end = line_fields::put_key(out, at, key);
+            let end = block::put(out, end, b"SC");
+            let end = block::put_number(out, end, needed);
+            let end = block::put_number(out, end, found);
+            let end = block::push(out, end, b',');
+            line_fields::put_ending(out, end, passes)
         }
     }
 }
@@ -114,12 +114,12 @@ fn put_clear(out: &mut [u8; 2048], at: usize, key: Key, line: ClearLine) -> usiz
             needed,
             passes,
         } => {
-            let a = line_fields::put_key(out, at, key);
-            let b = block::put(out, a, b"CL");
-            let c = line_fields::put_signed(out, b, minus, size);
-            let d = block::put_number(out, c, needed);
-            let e = block::push(out, d, b',');
-            line_fields::put_ending(out, e, passes)
+            let end = line_fields::put_key(out, at, key);
+            let end = block::put(out, end, b"CL");
+            let end = line_fields::put_signed(out, end, minus, size);
+            let end = block::put_number(out, end, needed);
+            let end = block::push(out, end, b',');
+            line_fields::put_ending(out, end, passes)
         }
     }
 }
@@ -134,12 +134,12 @@ fn put_later(out: &mut [u8; 2048], at: usize, key: Key, answer: Answer) -> usize
     let four = answer.four;
     let depth = answer.depth;
     let clear = answer.clear;
-    let a = put_lines(out, at, key, Combination::I, one);
-    let b = put_lines(out, a, key, Combination::II, two);
-    let c = put_lines(out, b, key, Combination::III, three);
-    let d = put_lines(out, c, key, Combination::IV, four);
-    let e = put_depth(out, d, key, depth);
-    put_clear(out, e, key, clear)
+    let end = put_lines(out, at, key, Combination::I, one);
+    let end = put_lines(out, end, key, Combination::II, two);
+    let end = put_lines(out, end, key, Combination::III, three);
+    let end = put_lines(out, end, key, Combination::IV, four);
+    let end = put_depth(out, end, key, depth);
+    put_clear(out, end, key, clear)
 }
 
 // Whether VERDICT stands alone.
@@ -181,9 +181,9 @@ pub fn book_line(number: u8, row: usize) -> Block
     ensures whole { λ _. ⌜ length (book-text number row) ≤ 2048 ⌝ }
 {
     let mut bytes = [0u8; 2048];
-    let a = block::put(&mut bytes, 0, b",,BOOK");
-    let b = block::put_number(&mut bytes, a, number as u64);
-    let c = block::put_number(&mut bytes, b, row as u64);
-    let len = block::put(&mut bytes, c, b",,\r\n");
+    let end = block::put(&mut bytes, 0, b",,BOOK");
+    let end = block::put_number(&mut bytes, end, number as u64);
+    let end = block::put_number(&mut bytes, end, row as u64);
+    let len = block::put(&mut bytes, end, b",,\r\n");
     Block { bytes, len }
 }

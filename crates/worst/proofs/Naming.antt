@@ -8,6 +8,7 @@ use Rattle.sets.specs.declared.Loads.{Loads}
 use Rattle.sets.specs.Sets.{Permitted}
 use Rattle.checks.specs.declared.Base.{Base}
 use Rattle.checks.specs.declared.Check.{Check}
+use Rattle.checks.specs.declared.Check.the-variants.{OP, OM, SL, PR, RK}
 use Rattle.checks.specs.declared.Figure.{Figure}
 use Rattle.checks.specs.Figures.{Shows}
 use Rattle.checks.specs.Order.{side}
@@ -16,7 +17,8 @@ use Rattle.checks.proofs.Passing.{limit-one, passes-better}
 use Rattle.worst.specs.declared.Line.{Line}
 use Rattle.worst.specs.declared.Line.the-variants.{Missing, Shown}
 use Rattle.named.proofs.Unique.{named-figure, named-set}
-use Rattle.worst.specs.Lines.{Says}
+use Rattle.worst.specs.declared.Lines.{Lines}
+use Rattle.worst.specs.Lines.{Says, line}
 
 -- No second line meets the promise.
 module _ (combination : Combination) (check : Check) (base : Base) (loads : Loads) where
@@ -41,3 +43,16 @@ module _ (combination : Combination) (check : Check) (base : Base) (loads : Load
   unfolding Says
   worst-decides v limit s passes p =
       decides-same passes (λ y t w h k. passes-better (side check) limit v w (p .named .no-worse t w h k) y) (λ f. f s v (p .named .permitted) (p .named .reaches)) (p .marked)
+
+-- No second answer meets the promise of `worst_lines`.
+pub lines-one : (combination : Combination) (base : Base) (loads : Loads) (a b : Lines) → ((check : Check) → Says combination check base loads (line check a))
+    → ((check : Check) → Says combination check base loads (line check b)) → a ≡ b
+unfolding line
+lines-one combination base loads a b p q =
+    λ i. record {
+      op = says-one combination OP base loads (a .op) (b .op) (p OP) (q OP) i;
+      om = says-one combination OM base loads (a .om) (b .om) (p OM) (q OM) i;
+      sl = says-one combination SL base loads (a .sl) (b .sl) (p SL) (q SL) i;
+      pr = says-one combination PR base loads (a .pr) (b .pr) (p PR) (q PR) i;
+      rk = says-one combination RK base loads (a .rk) (b .rk) (p RK) (q RK) i;
+    }

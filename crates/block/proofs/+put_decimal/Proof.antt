@@ -1,3 +1,4 @@
+-- The digits of a tenth of the number first, then its last one. The number falls at each call.
 use borrow.Author.Needs.{needs}
 use native.Mathlib.Omega.{arith}
 use Rattle.block.proofs.Pages.{decimal-last, decimal-next}

@@ -1,3 +1,4 @@
+-- A byte behind the text where there is room, and the page as it was where there is none.
 use borrow.Author.Needs.{needs}
 use borrow.Author.Tests.{lt-ltb, le-ltb}
 use Rattle.block.specs.Block.{pushed, puts}

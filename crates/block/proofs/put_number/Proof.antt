@@ -1,3 +1,4 @@
+-- A comma, then the digits; a number of 64 bits has at most 20.
 use Prim.Native.Nat.{_<_}
 use mathlib.Core.List.{[], _∷_}
 use native.Mathlib.Omega.{arith}

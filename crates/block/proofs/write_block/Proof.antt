@@ -1,3 +1,4 @@
+-- The block's text is its first bytes, at most 2,048; they are copied where the buffer has room for them.
 use Prim.Native.Nat.{ℕ, _-_}
 use mathlib.Core.Path.{_≡_, ap}
 use native.Mathlib.Omega.{arith}

@@ -1,3 +1,4 @@
+-- The bytes of each case are those of its definition.
 use mathlib.Core.Path.{ap}
 use mathlib.Core.List.{_∷_}
 use Rattle.line_fields.specs.Text.{HYPHEN, check-text}

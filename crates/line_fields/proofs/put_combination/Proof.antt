@@ -1,3 +1,4 @@
+-- The bytes of each case are those of its definition.
 use mathlib.Core.Path.{ap}
 use Rattle.line_fields.specs.Text.{combination-text}
 use Rattle.block.proofs.Pages.{spelled}

@@ -1,3 +1,4 @@
+-- A word is its own bytes; a number has at most 20 digits.
 use Prim.Native.Nat.{ℕ}
 use mathlib.Core.Path.{ap}
 use mathlib.Core.List.{List}

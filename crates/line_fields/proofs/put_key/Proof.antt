@@ -1,3 +1,4 @@
+-- Member, comma, job and comma, one behind the other.
 use mathlib.Core.Path.{refl}
 use Rattle.line_fields.specs.Text.{key-text}
 use Rattle.block.proofs.Pages.{spelled, then-put}

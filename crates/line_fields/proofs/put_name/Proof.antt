@@ -1,3 +1,4 @@
+-- A name's first len bytes are put, all 12 where len is above that.
 use Prim.Native.Nat.{_-_, ℕ}
 use mathlib.Core.Path.{_≡_, ap}
 use native.Mathlib.Omega.{arith}

@@ -1,3 +1,4 @@
+-- A minus stands before the digits of a number below zero.
 use mathlib.Core.Path.{refl, ap}
 use Prim.Native.Nat.{_<_, ℕ}
 use Rattle.block.proofs.Numbers.{decimal-length}

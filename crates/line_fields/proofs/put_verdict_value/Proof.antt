@@ -1,3 +1,4 @@
+-- A letter is its own byte; a refusal's number has at most three digits.
 use Prim.Native.Nat.{_<_, ℕ}
 use mathlib.Core.Path.{ap}
 use mathlib.Core.List.{List}

@@ -1,3 +1,4 @@
+-- The lines, put into an empty page, are the block of their text; the room that they take was counted along.
 use mathlib.Core.Path.{_∙_}
 use native.Mathlib.Omega.{arith}
 use Rattle.block.specs.Block.{blank}

@@ -1,3 +1,4 @@
+-- The four parts of the line, put into an empty page, are the block of their text.
 use mathlib.Core.Path.{refl, _∙_}
 use native.Mathlib.Omega.{arith}
 use Rattle.block.specs.Block.{blank}

@@ -1,3 +1,4 @@
+-- VERDICT, and behind it the other lines unless it stands alone.
 use Rattle.lines.specs.Lines.{later-lines}
 use mathlib.Core.Path.{refl}
 use mathlib.Core.List.{[]}

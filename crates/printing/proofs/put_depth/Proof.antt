@@ -1,3 +1,4 @@
+-- The fields are put one behind the other; a missing line has no text.
 use Rattle.line_fields.specs.Text.{name-text}
 use mathlib.Core.Path.{ap}
 use Rattle.lines.specs.Lines.{depth-line}

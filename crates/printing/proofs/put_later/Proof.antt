@@ -1,3 +1,4 @@
+-- The lines of four combinations, then SC, then CL.
 use Rattle.lines.specs.Lines.{later-lines}
 use Rattle.printing.specs.Room.{answer-room}
 use Rattle.printing.proofs.Printed.{then-lines}

@@ -1,3 +1,4 @@
+-- The fields are put one behind the other; a missing line has no text.
 use mathlib.Core.Path.{ap}
 use Rattle.lines.specs.Lines.{check-line}
 use Rattle.printing.proofs.Printed.{no-line, check-printed}

@@ -1,3 +1,4 @@
+-- The five lines of a combination, one behind the other.
 use Rattle.lines.specs.Lines.{combination-lines}
 use Rattle.printing.specs.Room.{lines-room}
 use Rattle.printing.proofs.Printed.{then-lines}

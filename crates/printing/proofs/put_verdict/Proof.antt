@@ -1,3 +1,4 @@
+-- Key, VERDICT, value and three empty fields, one behind the other.
 use mathlib.Core.Path.{refl}
 use Rattle.lines.specs.Lines.{verdict-line}
 use Rattle.line_fields.specs.Text.{name-text, cell-text, mark-text}

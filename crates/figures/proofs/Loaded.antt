@@ -1,0 +1,64 @@
+-- What one DL row exerts, the loads of that row alone, and OP of the set of it: by a test that is computed of what resists and what overturns.
+use mathlib.Core.Path.{_≡_, refl, subst⁻¹}
+use mathlib.Core.List.{[], _∷_}
+use Prim.Native.Nat.{ℕ, zero, suc, _*_, _≤_, _<_}
+use native.Mathlib.Omega.{arith}
+use lib.Dec.{T, ltb, ltb→lt}
+use lib.IntN.{pos, _*ℤ_}
+use lib.ListN.{replicate}
+use Rattle.rounding.proofs.Compute.{isDown, down-test}
+use Rattle.kinds.specs.Range.{value}
+use Rattle.earth.specs.Table2.{table2-fill}
+use Rattle.signed.specs.Whole.{amount}
+use Rattle.sets.specs.declared.Class.the-variants.{Permanent}
+use Rattle.sets.specs.declared.Load.{Load}
+use Rattle.sets.specs.declared.Loads.{Loads}
+use Rattle.sets.specs.Sets.{row, noLoad}
+use Rattle.sets.specs.Totals.{plus, resisting, overturning}
+use Rattle.checks.specs.declared.Figure.the-variants.{Number}
+use Rattle.checks.specs.Figures.{Shows, Tips}
+use Rattle.loads.specs.Exerts.{classOf, source, Forces, Exerts}
+use Rattle.loads.specs.Taken.{rowAt, AreLoads}
+use Rattle.loads.proofs.Exerting.{all-no-load}
+use Rattle.figures.specs.Figures.{dead-load, Overturns}
+
+module _ (v x h y : ℕ) where
+  abbrev pub exerted : Load
+  exerted =
+      record {
+        class = Permanent;
+        phase = 0;
+        v = amount (pos v);
+        x = amount (pos x);
+        h = amount (pos h);
+        twist = amount (pos h *ℤ pos y);
+      }
+
+  abbrev pub alone : Loads
+  alone = record { count = 1; loads = exerted ∷ replicate 15 noLoad }
+
+  exerts : Exerts table2-fill (dead-load v x h y) exerted
+  unfolding classOf source Forces value
+  exerts = record { class = refl; phase = refl; forces = record { v = refl; x = refl; h = refl; twist = refl } }
+
+  are-loads : AreLoads table2-fill (dead-load v x h y ∷ []) 1 alone
+  unfolding row rowAt
+  are-loads = record { count = refl; whole = refl; each = each; rest = rest }
+    where
+      each : (i : ℕ) → i < 1 → Exerts table2-fill (rowAt (dead-load v x h y ∷ []) i) (row alone i)
+      each zero h = exerts
+      each (suc i) h = absurd (omega arith)
+
+      rest : (i : ℕ) → 1 ≤ i → row alone i ≡ noLoad
+      rest zero h = absurd (omega arith)
+      rest (suc i) h = all-no-load 15 i
+
+  pub overturns-test : (B figure : ℕ) → T (ltb 0 (overturning plus B alone 1)) → T (isDown (100 * resisting plus B alone 1) (overturning plus B alone 1) figure)
+      → Overturns B (dead-load v x h y) figure
+  unfolding Shows Tips
+  overturns-test B figure s t =
+      record {
+        loads = alone;
+        its-loads = are-loads;
+        shows = λ base e. subst⁻¹ (λ (b : ℕ). Tips (resisting plus b alone 1) (overturning plus b alone 1) (Number figure)) e (ltb→lt 0 _ s, down-test _ _ figure t);
+      }
