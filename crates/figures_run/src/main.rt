@@ -1,5 +1,6 @@
 // Runs every figure of document 01's "Figures on each side", starred or not, through the public functions. One line a
-// figure: its name, the rows asked, what came and what 01 says; and a last line with how many were asked and how many agree.
+// figure: its name, each row asked (a DL row alone on B 4,000 and L 8,000), what came and what 01 says; and a last line with
+// how many were asked and how many agree.
 //
 // Qf, D, q and the regime width are inner rules, and the depth that an S row needs stands for them: in reach 4 one mm of D
 // moves it, and the two silt factors of a Qf are such that one l/s less moves the first depth and one l/s more the second.
@@ -44,20 +45,17 @@ fn shown(came: u64, says: u64) -> bool {
     put_number(came);
     put(b", 01 says ");
     put_number(says);
-    put(b". ");
+    put(b".");
     came == says
 }
 
-// The end of a figure's line.
+// One figure more.
 fn counted(before: Tally, agrees: bool) -> Tally {
     let asked = std::num::wrapping_add_u64(before.asked, 1);
+    let mut agree = before.agree;
     if agrees {
-        put(b"\n");
-        let agree = std::num::wrapping_add_u64(before.agree, 1);
-        return Tally { asked, agree };
+        agree = std::num::wrapping_add_u64(agree, 1);
     }
-    put(b"DIFFERS\n");
-    let agree = before.agree;
     Tally { asked, agree }
 }
 
@@ -175,8 +173,12 @@ fn example_base() -> Base
     }
 }
 
-// A figure of the set of one row on that base.
-fn figure_of_row(check: Check, row: Row) -> Told {
+// A figure of the set of one DL row on that base.
+fn figure_of_row(check: Check, numbers: Numbers) -> Told {
+    let row = Row {
+        kind: Kind::DL,
+        numbers,
+    };
     let rows = [row; 16];
     let taken = loads::loads_of(rows, 1);
     let told = taken.answer;
@@ -192,7 +194,7 @@ fn figure_of_row(check: Check, row: Row) -> Told {
 // What an S row is told.
 fn scour(q: u32, catchment: u32, silt: u32, waterway: u32, reach: u32) -> Told {
     let row = numbers(q, catchment, silt, waterway, reach, filled(0));
-    put_row(b"S", row);
+    put_row(b" S", row);
     scoured(river::scour(row))
 }
 
@@ -230,18 +232,10 @@ fn flood(
     counted(before, first && second)
 }
 
-// The refusal of a catchment at Q = 1,000,000.
-fn catchment(before: Tally, words: &[u8], z: u32, says: u64) -> Tally {
-    put(words);
-    let told = scour(1000000, z, 1000, 200000, 4);
-    let agrees = shown(told.refusal, says);
-    counted(before, agrees)
-}
-
 // What a C row of underside 1,000 and flood 0 is told.
 fn clearance(velocity: u32, area: u32, obstructed: u32, q: u32) -> Told {
     let row = numbers(velocity, area, obstructed, 1000, 0, fields::blank_entry());
-    put_row(b"C", row);
+    put_row(b" C", row);
     cleared(river::clearance(row, filled(q)))
 }
 
@@ -254,106 +248,106 @@ fn afflux(before: Tally, words: &[u8], obstructed: u32, says: u64) -> Tally {
 }
 
 // The clearance needed for a discharge.
-fn needed(before: Tally, q: u32, says: u64) -> Tally {
-    put(b"clearance needed for Q ");
-    put_number(q as u64);
-    put(b": ");
+fn needed(before: Tally, words: &[u8], q: u32, says: u64) -> Tally {
+    put(words);
     let told = clearance(3000, 1200, 1000, q);
     let agrees = shown(told.second, says);
     counted(before, agrees)
 }
 
-// The thrust and the arm of a fill.
-fn fill(
-    before: Tally,
-    words: &[u8],
-    soil: u32,
-    slope: u32,
-    height: u32,
-    length: u32,
-    h: u64,
-    y: u64,
-) -> Tally {
-    put(words);
+// What an E row is told.
+fn pressure(soil: u32, slope: u32, height: u32, length: u32) -> Told {
     let row = numbers(soil, slope, height, length, 0, fields::blank_entry());
-    put_row(b"E", row);
-    let told = pushed(earth::pressure(row));
-    let first = shown(told.first, h);
-    let second = shown(told.second, y);
+    put_row(b" E", row);
+    pushed(earth::pressure(row))
+}
+
+// The thrust and the arm of a fill of soil a, level, 6,000 by 8,000.
+fn fill(before: Tally) -> Tally {
+    put(b"\nH and y:");
+    let told = pressure(1, 1, 6000, 8000);
+    let first = shown(told.first, 664);
+    let second = shown(told.second, 2000);
     counted(before, first && second)
 }
 
 // A figure of a DL row alone.
 fn dead_load(check: Check, v: u32, x: u32, h: u32, y: u32, says: u64) -> bool {
-    let written = numbers(v, x, h, y, 0, fields::blank_entry());
-    put_row(b"DL", written);
-    let row = Row {
-        kind: Kind::DL,
-        numbers: written,
-    };
+    let row = numbers(v, x, h, y, 0, fields::blank_entry());
+    put_row(b" DL", row);
     let told = figure_of_row(check, row);
     shown(told.first, says)
 }
 
-fn overturning(before: Tally, y: u32, says: u64) -> Tally {
-    put(b"OP on B,4000,8000,300,600,0, of ");
+// OP of a row of V 1,000 at x 0 and H 100.
+fn overturning(before: Tally, words: &[u8], y: u32, says: u64) -> Tally {
+    put(words);
     let agrees = dead_load(Check::OP, 1000, 0, 100, y, says);
     counted(before, agrees)
 }
 
+// Beside each Qf, what one l/s less gives of the first silt factor, and one l/s more of the second.
 fn floods(before: Tally) -> Tally {
+    // 15,585 and 12,585
     let to_500 = flood(
         before,
-        b"Qf 1300000 (1299999 gives 15585 first, 1300001 gives 12585 second): ",
+        b"Qf 1300000, so depths needed:",
         500,
         684,
         15588,
         1300,
         12582,
     );
+    // 13,793 and 12,585
     let to_5000 = flood(
         to_500,
-        b"Qf 1200000 (1199999 gives 13793 first, 1200001 gives 12585 second): ",
+        b"\nQf 1200000, so depths needed:",
         5000,
         911,
         13795,
         1200,
         12582,
     );
+    // 12,351 and 12,585
     let to_25000 = flood(
         to_5000,
-        b"Qf 1100000 (1099999 gives 12351 first, 1100001 gives 12585 second): ",
+        b"\nQf 1100000, so depths needed:",
         25000,
         1163,
         12354,
         1100,
         12582,
     );
-    catchment(to_25000, b"refusal 12: ", 25001, 12)
+    put(b"\nrefusal 12:");
+    let told = scour(1000000, 25001, 1000, 200000, 4);
+    let agrees = shown(told.refusal, 12);
+    counted(to_25000, agrees)
 }
 
 fn depths(before: Tally) -> Tally {
     let met = depth(
         before,
-        b"regime width met, so D 5163: ",
+        b"\nregime width met, so depth needed:",
         1000000,
         1000,
         152908,
         4,
         13734,
     );
+    // q is 8,502 and D 5,574
     let narrow = depth(
         met,
-        b"not met, so q 8502 and D 5574: ",
+        b"\nnot met, so depth needed:",
         1000000,
         1000,
         152907,
         4,
         14827,
     );
+    // of 5,162 it is 8,583, and of 5,164 it is 8,586
     let lacey = depth(
         narrow,
-        b"D 5163 (5162 gives 8583, 5164 gives 8586): ",
+        b"\nD 5163, so depth needed:",
         1000000,
         1000,
         200000,
@@ -362,16 +356,17 @@ fn depths(before: Tally) -> Tally {
     );
     let reach = depth(
         lacey,
-        b"depth needed in reach 4: ",
+        b"\ndepth needed in reach 4:",
         1000000,
         1000,
         200000,
         4,
         13734,
     );
+    // of 5,351 it is 14,234, and of 5,354 it is 14,242
     let at_8000 = depth(
         reach,
-        b"q 8000, D 5352 (5351 gives 14234): ",
+        b"\nq 8000, D 5352, so depth needed:",
         80000,
         1000,
         13000,
@@ -380,7 +375,7 @@ fn depths(before: Tally) -> Tally {
     );
     depth(
         at_8000,
-        b"q 8001, D 5353 (5354 gives 14242): ",
+        b"\nq 8001, D 5353, so depth needed:",
         80000,
         1000,
         12999,
@@ -390,36 +385,39 @@ fn depths(before: Tally) -> Tally {
 }
 
 fn clearances(before: Tally) -> Tally {
-    let raised = afflux(before, b"afflux 229, off 1000: ", 1000, 771);
-    let level = afflux(raised, b"afflux 0, off 1000: ", 1200, 1000);
-    let at_30000 = needed(level, 30000, 600);
-    let at_30001 = needed(at_30000, 30001, 601);
-    needed(at_30001, 300001, 1500)
+    let raised = afflux(before, b"\nafflux 229, off 1000:", 1000, 771);
+    let level = afflux(raised, b"\nafflux 0, off 1000:", 1200, 1000);
+    let at_30000 = needed(level, b"\nclearance needed, Q 30000:", 30000, 600);
+    let at_30001 = needed(at_30000, b"\nclearance needed, Q 30001:", 30001, 601);
+    needed(at_30001, b"\nclearance needed, Q 300001:", 300001, 1500)
 }
 
-// PR past the middle third, and at it: by the first rule at M = 1,200,000, and by the second at the next M that rows give.
+// PR past the middle third, N 1,000 and M 2,000,000; and by either rule, N 900: the first at M 1,200,000, the second at
+// 1,200,002, the next M that rows give.
 fn pressures(before: Tally) -> Tally {
-    put(b"PR on B,4000,8000,300,600,0, of N 1000, M 2000000: ");
+    put(b"\nPR:");
     let agrees = dead_load(Check::PR, 1000, 1000, 0, 0, 84);
     let past = counted(before, agrees);
-    put(b"PR by either rule, of N 900, M 1200000: ");
+    put(b"\nPR by either rule:");
     let first = dead_load(Check::PR, 900, 0, 100, 6000, 57);
-    put(b"M 1200002: ");
     let second = dead_load(Check::PR, 900, 666, 1, 601, 57);
     counted(past, first && second)
 }
 
+fn forces(before: Tally) -> Tally {
+    let earth = fill(before);
+    let safe = overturning(earth, b"\nOP:", 10000, 200);
+    let less = overturning(safe, b"\nOP:", 10001, 199);
+    pressures(less)
+}
+
 fn main() {
     let none = Tally { asked: 0, agree: 0 };
-    let t1 = floods(none);
-    let t2 = depths(t1);
-    let t3 = clearances(t2);
-    let t4 = fill(t3, b"H and y: ", 1, 1, 6000, 8000, 664, 2000);
-    let t5 = overturning(t4, 10000, 200);
-    let t6 = overturning(t5, 10001, 199);
-    let t7 = pressures(t6);
-    put_number(t7.asked);
+    let rivers = depths(floods(none));
+    let all = forces(clearances(rivers));
+    put(b"\n");
+    put_number(all.asked);
     put(b" figures, ");
-    put_number(t7.agree);
+    put_number(all.agree);
     put(b" agree\n");
 }
