@@ -62,6 +62,10 @@ pub rank-one : (s : Side) (v w : Figure) → Sound s v → Sound s w → rank s 
 rank-one s v w p q e =
     connex s v w (λ h. absurd (omega (arith, rank-worse s v w p q h))) (λ h. absurd (omega (arith, rank-worse s w v q p h)))
 
+-- where one figure has P, one rank does
+pub ranks-one : {s : Side} {P : Figure → Type 0} {r q : ℕ} → ((v w : Figure) → P v → P w → v ≡ w) → Ranks s P r → Ranks s P q → r ≡ q
+ranks-one {s} one x y = sym (x .ranked) ∙ ap (rank s) (one (x .figure) (y .figure) (x .holds) (y .holds)) ∙ y .ranked
+
 -- ---- a figure is one
 pub tips-one : (r o : ℕ) (v w : Figure) → Tips r o v → Tips r o w → v ≡ w
 unfolding Tips
