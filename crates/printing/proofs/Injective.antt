@@ -103,13 +103,19 @@ key-read key p q =
       held = λ i. record { member = p .held i; job = q .held i };
     }
 
+-- A line and what follows it say the key, the line, and what follows; lines say themselves.
+module _ {k k′ : Key} (h : IsKey k) (h′ : IsKey k′) where
+  pub line-injective : (l l′ : PrintedLine) (later later′ : List ℕ) → line-text k l ++ later ≡ line-text k′ l′ ++ later′ → (k ≡ k′) × (l ≡ l′)
+  line-injective l l′ later later′ e =
+      let same = line-same k k′ l l′ later later′ (member-without h) (member-without h′) (job-without h) (job-without h′) e in
+      let member : h .member ≡ h′ .member = sym (member-bytes h) ∙ same .members ∙ member-bytes h′ in
+      let job : h .job ≡ h′ .job = sym (job-bytes h) ∙ same .jobs ∙ job-bytes h′ in
+      (h .held ∙ (λ i. record { member = name (member i); job = name (job i) }) ∙ sym (h′ .held), same .lines)
+
+  pub texts-injective : (ls ms : List PrintedLine) → texts k ls ≡ texts k′ ms → ls ≡ ms
+  texts-injective = texts-same k k′ (member-without h) (member-without h′) (job-without h) (job-without h′)
+
 -- The text of a job's lines says its key and its lines.
 pub text-injective : {k k′ : Key} (a a′ : Answer) → IsKey k → IsKey k′ → text k a ≡ text k′ a′ → (k ≡ k′) × (lines-of a ≡ lines-of a′)
 unfolding text texts lines-of
-text-injective {k} {k′} a a′ h h′ e =
-    let same = line-same k k′ _ _ _ _ (member-without h) (member-without h′) (job-without h) (job-without h′) e in
-    let member : h .member ≡ h′ .member = sym (member-bytes h) ∙ same .members ∙ member-bytes h′ in
-    let job : h .job ≡ h′ .job = sym (job-bytes h) ∙ same .jobs ∙ job-bytes h′ in (
-      h .held ∙ (λ i. record { member = name (member i); job = name (job i) }) ∙ sym (h′ .held),
-      texts-same k k′ (member-without h) (member-without h′) (job-without h) (job-without h′) (lines-of a) (lines-of a′) e,
-    )
+text-injective a a′ h h′ e = (line-injective h h′ _ _ _ _ e .0, texts-injective h h′ (lines-of a) (lines-of a′) e)

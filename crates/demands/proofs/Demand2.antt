@@ -1,0 +1,92 @@
+-- Demand 2 holds.
+use Prim.Native.Nat.{ℕ}
+use native.Mathlib.Omega.{arith}
+use mathlib.Core.Path.{_≡_, refl, sym, ap, subst, _∙_}
+use mathlib.Core.List.{List, _∷_, _++_}
+use lib.ListN.{take}
+use Rattle.rows.specs.declared.Key.{Key}
+use Rattle.jobs.specs.declared.Job.{Job}
+use Rattle.book.specs.JobBook.{Jobs, JobBook}
+use Rattle.book.specs.Values.{values}
+use Rattle.book.specs.Notes.{RowIn}
+use Rattle.earth.specs.declared.Coefficient.{Coefficient}
+use Rattle.sets.specs.declared.Combination.{Combination}
+use Rattle.checks.specs.declared.Check.{Check}
+use Rattle.lines.specs.declared.Verdict.{Verdict}
+use Rattle.lines.specs.declared.Verdict.the-variants.{Accepted, NotAccepted, Refused}
+use Rattle.lines.specs.Lines.{PrintedLine, check, accepted, not-accepted, number, verdict-value, verdict-line, unless-refused, later-lines, lines-of}
+use Rattle.printing.specs.Keys.{IsKey}
+use Rattle.printing.specs.Text.{line-text, texts, text}
+use Rattle.printing.proofs.Injective.{line-injective, texts-injective}
+use Rattle.debtarush.specs.Called.{written, Called}
+use Rattle.demands.specs.Words.{Begins, Tells, LinesOf, Sound, Named}
+use Rattle.demands.specs.Demand2.{Demand2}
+use Rattle.demands.proofs.Keys.{job-key}
+use Rattle.demands.proofs.Sound.{sound-accepted, accepted-sound}
+use Rattle.demands.proofs.Lines.{line-named}
+use Rattle.demands.proofs.Wrote.{Wrote, reached, wrote}
+
+-- the verdict line says the verdict
+verdict-same : (v : Verdict) → verdict-line Accepted ≡ verdict-line v → v ≡ Accepted
+unfolding verdict-line verdict-value
+verdict-same Accepted e = refl
+verdict-same NotAccepted e = let v : accepted ≡ not-accepted = ap (λ (l : PrintedLine). l .value) e in let z : _≡_ {A = ℕ} 0 1 = cc in absurd (omega arith)
+verdict-same (Refused n) e = let v : accepted ≡ number n = ap (λ (l : PrintedLine). l .value) e in let z : _≡_ {A = ℕ} 0 1 = cc in absurd (omega arith)
+
+module _ (fill : ℕ → ℕ → Coefficient) {b : List ℕ} {place : ℕ} {before after : List ℕ} {len : ℕ} (c : Called fill b place before after (written len))
+    (js : Jobs) (job : Job) (book : JobBook b js) (at : RowIn (values js) place job) where
+  own : Wrote fill job before after len
+  own = wrote (reached book at c)
+
+  bytes-are : take len after ≡ texts (job .key) (lines-of (own .text .answer))
+  unfolding own text
+  bytes-are = own .first ∙ own .text .are
+
+  told : (lines : List PrintedLine) × Tells (take len after) (job .key) lines × LinesOf fill job lines
+  unfolding own
+  told = (
+    lines-of (own .text .answer),
+    record { is-key = job-key book at; are = bytes-are },
+    record { answer = own .text .answer; is = own .text .is; are = refl },
+  )
+
+  lines-same : (key : Key) (lines : List PrintedLine) → Tells (take len after) key lines → lines ≡ lines-of (own .text .answer)
+  lines-same key lines t = texts-injective (t .is-key) (job-key book at) lines _ (sym (t .are) ∙ bytes-are)
+
+  laid : texts (job .key) (lines-of (own .text .answer)) ≡ line-text (job .key) (verdict-line (own .text .answer .verdict)) ++ texts (job .key) (unless-refused (own .text .answer .verdict) (later-lines (own .text .answer)))
+  unfolding texts lines-of
+  laid = refl
+
+  key-same : (key : Key) (lines : List PrintedLine) → Tells (take len after) key lines → key ≡ job .key
+  unfolding texts lines-of
+  key-same key lines t =
+      let e = lines-same key lines t in
+      line-injective (t .is-key) (job-key book at) _ _ _ _ (ap (texts key) (sym e) ∙ sym (t .are) ∙ bytes-are) .0
+
+  nothing-else : (key : Key) (lines : List PrintedLine) → Tells (take len after) key lines → (key ≡ job .key) × LinesOf fill job lines
+  unfolding own
+  nothing-else key lines t = (key-same key lines t, record { answer = own .text .answer; is = own .text .is; are = lines-same key lines t })
+
+  accepted-bytes : Begins (line-text (job .key) (verdict-line Accepted)) (take len after) → Sound fill job
+  unfolding own
+  accepted-bytes p =
+      let k = job-key book at in
+      let e = line-injective k k _ _ (p .rest) _ (sym (p .are) ∙ bytes-are ∙ laid) .1 in
+      accepted-sound fill job (own .text .answer) (own .text .is) (verdict-same (own .text .answer .verdict) e)
+
+  accepts : Sound fill job → Begins (line-text (job .key) (verdict-line Accepted)) (take len after)
+  unfolding own
+  accepts s =
+      let v = sound-accepted fill job (own .text .answer) (own .text .is) s in
+      record {
+        rest = texts (job .key) (unless-refused (own .text .answer .verdict) (later-lines (own .text .answer)));
+        are = subst (λ (x : Verdict). take len after ≡ line-text (job .key) (verdict-line x) ++ texts (job .key) (unless-refused (own .text .answer .verdict) (later-lines (own .text .answer)))) v (bytes-are ∙ laid);
+      }
+
+  named : (key : Key) (lines : List PrintedLine) → Tells (take len after) key lines
+      → (n : ℕ) (line : PrintedLine) (combination : Combination) (of : Check) → RowIn lines n line → line .name ≡ check combination of → Named fill job combination of line
+  unfolding own
+  named key lines t n line combination of r e = line-named fill job (own .text .is) (subst (λ (l : List PrintedLine). RowIn l n line) (lines-same key lines t) r) e
+
+pub demand2 : (fill : ℕ → ℕ → Coefficient) → Demand2 fill
+demand2 fill = record { told = told fill; nothing-else = nothing-else fill; accepted = accepted-bytes fill; accepts = accepts fill; named = named fill }

@@ -1,0 +1,10 @@
+-- The proofs of the demands: `demand1`, `demand2` and `demand3`, for whatever is held for a soil and a slope.
+mod All
+mod Keys
+mod Numbers
+mod Sound
+mod Lines
+mod Wrote
+pub mod Demand1
+pub mod Demand2
+pub mod Demand3

@@ -1,0 +1,176 @@
+-- A job's answer says A exactly if the job is sound: every line says Y, and the worst figure passes exactly if every permitted set's does.
+use Prim.Native.Nat.{ℕ, _≤_}
+use native.Mathlib.Omega.{arith}
+use mathlib.Core.Path.{_≡_, refl, sym, ap, subst, _∙_}
+use mathlib.Core.Bool.{Bool, true, false}
+use Rattle.decides.specs.Decides.{Decides, decided}
+use Rattle.jobs.specs.declared.Job.{Job}
+use Rattle.river.proofs.Scours.{scoured-one}
+use Rattle.earth.specs.declared.Coefficient.{Coefficient}
+use Rattle.sets.specs.declared.Combination.{Combination}
+use Rattle.sets.specs.declared.Combination.the-variants.{I, II, III, IV}
+use Rattle.sets.specs.declared.Loads.{Loads}
+use Rattle.sets.specs.Sets.{Permitted}
+use Rattle.checks.specs.declared.Base.{Base}
+use Rattle.checks.specs.declared.Check.{Check}
+use Rattle.checks.specs.declared.Check.the-variants.{OP, OM, SL, PR, RK}
+use Rattle.checks.specs.declared.Figure.{Figure}
+use Rattle.checks.specs.Figures.{Shows}
+use Rattle.checks.specs.Order.{side}
+use Rattle.checks.specs.Limits.{Limit, TippingLimit, SlidingLimit, HasCheck, Service, Passes}
+use Rattle.checks.proofs.Passing.{limit-one}
+use Rattle.worst.specs.declared.Line.{Line}
+use Rattle.worst.specs.declared.Line.the-variants.{Missing, Shown}
+use Rattle.worst.specs.declared.Lines.{Lines}
+use Rattle.worst.specs.Lines as worst
+use Rattle.worst.proofs.Naming.{worst-decides}
+use Rattle.loads.specs.Taken.{rowsOf}
+use Rattle.loads.proofs.Answering.{loads-one}
+use Rattle.lines.specs.declared.Verdict.{Verdict}
+use Rattle.lines.specs.declared.Verdict.the-variants.{Accepted, NotAccepted, Refused}
+use Rattle.lines.specs.declared.DepthLine.{DepthLine}
+use Rattle.lines.specs.declared.DepthLine.the-variants as depth
+use Rattle.lines.specs.declared.ClearLine.{ClearLine}
+use Rattle.lines.specs.declared.ClearLine.the-variants as clear
+use Rattle.lines.specs.declared.Answer.{Answer}
+use Rattle.waters.specs.Waters.{HasClearance, Founded, DepthIs, ClearIs}
+use Rattle.waters.proofs.Answers.{clear-one}
+use Rattle.answer.specs.Answer.{base-of, LineYes, LinesYes, DepthYes, ClearYes, AllYes, VerdictIs, LinesAre, Given, AnswerIs, refused, answered}
+use Rattle.demands.specs.Words.{Bears, Deep, Clear, Sound}
+
+-- a combination that has a limit for a check has the check
+has-limit : (combination : Combination) (check : Check) (base : Base) (limit : ℕ) → Limit combination check base limit → HasCheck combination check base
+unfolding Limit TippingLimit SlidingLimit HasCheck Service
+has-limit I OP base limit h = tt
+has-limit II OP base limit h = tt
+has-limit III OP base limit h = tt
+has-limit I OM base limit h = tt
+has-limit II OM base limit h = tt
+has-limit III OM base limit h = tt
+has-limit I SL base limit h = tt
+has-limit II SL base limit h = tt
+has-limit III SL base limit h = tt
+has-limit I PR base limit h = tt
+has-limit II PR base limit h = tt
+has-limit III PR base limit h = tt
+has-limit IV PR base limit h = tt
+has-limit I RK base limit h = h .0
+has-limit II RK base limit h = h .0
+has-limit III RK base limit h = h .0
+has-limit IV RK base limit h = h .0
+
+-- every permitted set of one combination passes one check
+Holds : Combination → Check → Base → Loads → Type 0
+Holds combination check base loads =
+    (limit : ℕ) → Limit combination check base limit → (set : ℕ) (figure : Figure) → Permitted combination loads set → Shows check base loads set figure → Passes (side check) limit figure
+
+module _ (combination : Combination) (base : Base) (loads : Loads) where
+  line-holds : (check : Check) (l : Line) → worst.Says combination check base loads l → LineYes l → Holds combination check base loads
+  unfolding worst.Says Holds
+  line-holds check Missing p y limit h set figure a b = absurd (p (has-limit combination check base limit h) set a)
+  line-holds check (Shown v n s passes) p y limit h set figure a b =
+      let d = decided passes y (worst-decides combination check base loads v n s passes p) set figure a b in
+      subst (λ (m : ℕ). Passes (side check) m figure) (limit-one combination check base n limit (p .limited) h) d
+
+  line-yes : (check : Check) (l : Line) → worst.Says combination check base loads l → Holds combination check base loads → LineYes l
+  unfolding worst.Says Holds
+  line-yes check Missing p h = tt
+  line-yes check (Shown v n s true) p h = refl
+  line-yes check (Shown v n s false) p h = absurd (p .marked (h n (p .limited) s v (p .named .permitted) (p .named .reaches)))
+
+  lines-hold : (l : Lines) → LinesAre combination base loads l → LinesYes l → (check : Check) → Holds combination check base loads
+  unfolding worst.line
+  lines-hold l p y OP = line-holds OP (l .op) (p OP) (y .op)
+  lines-hold l p y OM = line-holds OM (l .om) (p OM) (y .om)
+  lines-hold l p y SL = line-holds SL (l .sl) (p SL) (y .sl)
+  lines-hold l p y PR = line-holds PR (l .pr) (p PR) (y .pr)
+  lines-hold l p y RK = line-holds RK (l .rk) (p RK) (y .rk)
+
+  lines-yes : (l : Lines) → LinesAre combination base loads l → ((check : Check) → Holds combination check base loads) → LinesYes l
+  unfolding worst.line
+  lines-yes l p h = record {
+    op = line-yes OP (l .op) (p OP) (h OP);
+    om = line-yes OM (l .om) (p OM) (h OM);
+    sl = line-yes SL (l .sl) (p SL) (h SL);
+    pr = line-yes PR (l .pr) (p PR) (h PR);
+    rk = line-yes RK (l .rk) (p RK) (h RK);
+  }
+
+module _ (job : Job) where
+  depth-deep : (d : DepthLine) → DepthIs job d → DepthYes d → Founded job → Deep job
+  depth-deep depth.Missing p y f = absurd (p f)
+  depth-deep (depth.Shown n m true) p y f = record { depth = n; needed = p .value; found = subst (λ (k : ℕ). n ≤ k) (p .limit) (p .mark) }
+  depth-deep (depth.Shown n m false) p y f = let z : _≡_ {A = ℕ} 0 1 = cc in absurd (omega arith)
+
+  deep-depth : (d : DepthLine) → DepthIs job d → (Founded job → Deep job) → DepthYes d
+  deep-depth depth.Missing p h = tt
+  deep-depth (depth.Shown n m true) p h = refl
+  deep-depth (depth.Shown n m false) p h =
+      let d = h (p .founded) in
+      let e = scoured-one (p .value) (d .needed) in
+      let a : n ≡ d .depth = cc in
+      let b = p .limit in
+      let c = d .found in
+      absurd (p .mark (omega arith))
+
+  clear-clears : (c : ClearLine) → ClearIs job c → ClearYes c → HasClearance (job .stage) → Clear job
+  clear-clears clear.Missing p y f = absurd (p f)
+  clear-clears (clear.Shown m s n true) p y f = record { minus = m; size = s; needed = n; plain = p .plain; there = p .value; enough = p .mark }
+  clear-clears (clear.Shown m s n false) p y f = let z : _≡_ {A = ℕ} 0 1 = cc in absurd (omega arith)
+
+  clears-clear : (c : ClearLine) → ClearIs job c → (HasClearance (job .stage) → Clear job) → ClearYes c
+  clears-clear clear.Missing p h = tt
+  clears-clear (clear.Shown m s n true) p h = refl
+  clears-clear (clear.Shown m s n false) p h =
+      let c = h (p .has) in
+      let e = clear-one job (clear.Shown m s n false) (clear.Shown (c .minus) (c .size) (c .needed) true) p (record { has = p .has; value = c .there; plain = c .plain; mark = c .enough }) in
+      let z : false ≡ true = cc in
+      z
+
+module _ (fill : ℕ → ℕ → Coefficient) (job : Job) (a : Answer) where
+  given-bears : (g : Given fill job a) → AllYes a → Bears (base-of (job .base)) (g .loads)
+  unfolding Holds
+  given-bears g y I check = lines-hold I _ (g .loads) (a .one) (g .one) (y .one) check
+  given-bears g y II check = lines-hold II _ (g .loads) (a .two) (g .two) (y .two) check
+  given-bears g y III check = lines-hold III _ (g .loads) (a .three) (g .three) (y .three) check
+  given-bears g y IV check = lines-hold IV _ (g .loads) (a .four) (g .four) (y .four) check
+
+  yes-sound : Given fill job a → AllYes a → Sound fill job
+  yes-sound g y = record {
+    unrefused = g .unrefused;
+    loads = g .loads;
+    are = g .are;
+    bears = given-bears g y;
+    deep = depth-deep job (a .depth) (g .depth) (y .depth);
+    clear = clear-clears job (a .clear) (g .clear) (y .clear);
+  }
+
+  sound-yes : Given fill job a → Sound fill job → AllYes a
+  unfolding Holds
+  sound-yes g s =
+      let e = loads-one fill (job .loads) (rowsOf (job .count)) (s .loads) (g .loads) (s .are) (g .are) in
+      let h = subst (Bears (base-of (job .base))) e (s .bears) in
+      record {
+        one = lines-yes I _ (g .loads) (a .one) (g .one) (h I);
+        two = lines-yes II _ (g .loads) (a .two) (g .two) (h II);
+        three = lines-yes III _ (g .loads) (a .three) (g .three) (h III);
+        four = lines-yes IV _ (g .loads) (a .four) (g .four) (h IV);
+        depth = deep-depth job (a .depth) (g .depth) (s .deep);
+        clear = clears-clear job (a .clear) (g .clear) (s .clear);
+      }
+
+  verdict-accepted : (v : Verdict) → Given fill job a → Sound fill job → VerdictIs v a → v ≡ Accepted
+  verdict-accepted Accepted g s p = refl
+  verdict-accepted NotAccepted g s p = absurd (p (sound-yes g s))
+  verdict-accepted (Refused n) g s p = absurd p
+
+  pub sound-accepted : AnswerIs fill job a → Sound fill job → a .verdict ≡ Accepted
+  sound-accepted (refused {n} p e) s = absurd (s .unrefused n (p .holds))
+  sound-accepted (answered g) s = verdict-accepted (a .verdict) g s (g .verdict)
+
+  pub accepted-sound : AnswerIs fill job a → a .verdict ≡ Accepted → Sound fill job
+  accepted-sound (refused {n} p e) v =
+      let w : Refused n ≡ Accepted = sym (ap (λ (x : Answer). x .verdict) e) ∙ v in
+      let z : _≡_ {A = ℕ} 0 1 = cc in
+      absurd (omega arith)
+  accepted-sound (answered g) v = yes-sound g (subst (λ (x : Verdict). VerdictIs x a) v (g .verdict))

@@ -1,0 +1,49 @@
+-- What a call for a job that is there wrote, or why it wrote nothing.
+use Prim.Native.Nat.{ℕ, _≤_, _<_}
+use native.Mathlib.Omega.{arith}
+use mathlib.Core.Path.{_≡_, refl, sym, ap, subst, _∙_}
+use mathlib.Core.List.{List, _++_}
+use lib.ListN.{length, take, drop}
+use lib.Seq.{take-at}
+use Rattle.jobs.specs.declared.Job.{Job}
+use Rattle.book.specs.JobBook.{Jobs, JobBook}
+use Rattle.book.specs.Values.{values}
+use Rattle.book.specs.Notes.{RowIn}
+use Rattle.book.proofs.Answers.{refused-none, book-one}
+use Rattle.book.proofs.Noting.{row-one}
+use Rattle.earth.specs.declared.Coefficient.{Coefficient}
+use Rattle.debtarush.specs.Called.{Told, written, refused, TextOf, Called, no-book, no-place, too-short, lines}
+
+pub data Reached (fill : ℕ → ℕ → Coefficient) (job : Job) (before after : List ℕ) (t : Told) : Type 0 where
+  short : {bytes : List ℕ} → TextOf fill job bytes → length before < length bytes → t ≡ refused 7 0 → Reached fill job before after t
+  full : {bytes : List ℕ} → TextOf fill job bytes → length bytes ≤ length before → after ≡ bytes ++ drop (length bytes) before → t ≡ written (length bytes) → Reached fill job before after t
+
+module _ {fill : ℕ → ℕ → Coefficient} {b : List ℕ} {place : ℕ} {js : Jobs} {job : Job} (book : JobBook b js) (at : RowIn (values js) place job) where
+  own-text : {ks : Jobs} {k : Job} {bytes : List ℕ} → JobBook b ks → RowIn (values ks) place k → TextOf fill k bytes → TextOf fill job bytes
+  own-text {k = k} {bytes} p r t = subst (λ (x : Job). TextOf fill x bytes) (row-one (subst (λ (l : Jobs). RowIn (values l) place k) (book-one p book) r) at) t
+
+  pub reached : {before after : List ℕ} {t : Told} → Called fill b place before after t → Reached fill job before after t
+  reached (no-book s a e) = absurd (refused-none s js book)
+  reached (no-place p n a e) = absurd (n job (subst (λ (l : Jobs). RowIn (values l) place job) (book-one book p) at))
+  reached (too-short p r s l a e) = short (own-text p r s) l e
+  reached (lines p r s l a e) = full (own-text p r s) l a e
+
+-- the bytes written
+pub record Wrote (fill : ℕ → ℕ → Coefficient) (job : Job) (before after : List ℕ) (len : ℕ) : Type 0 where
+  pub bytes : List ℕ
+  pub text : TextOf fill job bytes
+  pub long : len ≡ length bytes
+  pub first : take len after ≡ bytes
+  pub whole : after ≡ bytes ++ drop len before
+
+pub wrote : {fill : ℕ → ℕ → Coefficient} {job : Job} {before after : List ℕ} {len : ℕ} → Reached fill job before after (written len) → Wrote fill job before after len
+wrote (short s l e) = let z : _≡_ {A = ℕ} 0 1 = cc in absurd (omega arith)
+wrote {before = before} {after} {len} (full {bytes} s l a e) =
+    let n : len ≡ length bytes = cc in
+    record {
+      bytes = bytes;
+      text = s;
+      long = n;
+      first = ap (take len) a ∙ take-at bytes (drop (length bytes) before) len (sym n);
+      whole = a ∙ ap (λ (k : ℕ). bytes ++ drop k before) (sym n);
+    }

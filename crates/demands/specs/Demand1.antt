@@ -1,0 +1,43 @@
+-- Demand 1: every string of bytes is a book. A call has one answer, lines or a numbered refusal in the paper's order; a refused call writes
+-- nothing, and a refused job has its one line. (That each call ends, with an answer as `Called` has it, is the promise of `job_lines`.)
+use Prim.Native.Nat.{ℕ, _≤_, _<_}
+use mathlib.Core.Path.{_≡_}
+use mathlib.Core.Logic.{_⊎_}
+use mathlib.Core.List.{List, _++_}
+use lib.ListN.{length, drop}
+use Rattle.jobs.specs.declared.Job.{Job}
+use Rattle.book.specs.JobBook.{Jobs, JobBook}
+use Rattle.book.specs.Values.{values}
+use Rattle.book.specs.Says as book
+use Rattle.book.specs.Notes.{RowIn}
+use Rattle.earth.specs.declared.Coefficient.{Coefficient}
+use Rattle.lines.specs.declared.Verdict.the-variants.{Refused}
+use Rattle.lines.specs.Lines.{verdict-line}
+use Rattle.answer.specs.Rules.{Refuses}
+use Rattle.printing.specs.Text.{line-text}
+use Rattle.debtarush.specs.Called.{Told, written, refused, TextOf, Called}
+
+pub record Demand1 (fill : ℕ → ℕ → Coefficient) : Type 0 where
+  -- one answer, and one state of the buffer
+  pub one : {b : List ℕ} {place : ℕ} {before x y : List ℕ} {t u : Told} → Called fill b place before x t → Called fill b place before y u → (x ≡ y) × (t ≡ u)
+  -- first the book's refusal, whatever the place and the buffer
+  pub book-first : {b : List ℕ} {place : ℕ} {before after : List ℕ} {t : Told} → Called fill b place before after t
+      → (n row : ℕ) → book.Says b (book.refused n row) → t ≡ refused n row
+  -- then 10, whatever the buffer
+  pub then-place : {b : List ℕ} {place : ℕ} {before after : List ℕ} {t : Told} → Called fill b place before after t
+      → (js : Jobs) → JobBook b js → ((job : Job) → RowIn (values js) place job → ⊥) → t ≡ refused 10 0
+  -- then 7
+  pub then-buffer : {b : List ℕ} {place : ℕ} {before after : List ℕ} {t : Told} → Called fill b place before after t
+      → (js : Jobs) (job : Job) (text : List ℕ) → JobBook b js → RowIn (values js) place job → TextOf fill job text → length before < length text → t ≡ refused 7 0
+  -- else exactly the lines' bytes from the start, and the rest untouched
+  pub then-lines : {b : List ℕ} {place : ℕ} {before after : List ℕ} {t : Told} → Called fill b place before after t
+      → (js : Jobs) (job : Job) (text : List ℕ) → JobBook b js → RowIn (values js) place job → TextOf fill job text → length text ≤ length before
+      → (t ≡ written (length text)) × (after ≡ text ++ drop (length text) before)
+  -- no other number
+  pub numbers : {b : List ℕ} {place : ℕ} {before after : List ℕ} {n row : ℕ} → Called fill b place before after (refused n row) → ((1 ≤ n) × (n ≤ 7)) ⊎ (n ≡ 10)
+  -- a refused call writes nothing
+  pub untouched : {b : List ℕ} {place : ℕ} {before after : List ℕ} {n row : ℕ} → Called fill b place before after (refused n row) → after ≡ before
+  -- a job refused with 11 to 16 has its one line and no other
+  pub alone : {b : List ℕ} {place : ℕ} {before after : List ℕ} {len : ℕ} → Called fill b place before after (written len)
+      → (js : Jobs) (job : Job) (n : ℕ) → JobBook b js → RowIn (values js) place job → Refuses fill job n
+      → (len ≡ length (line-text (job .key) (verdict-line (Refused n)))) × (after ≡ line-text (job .key) (verdict-line (Refused n)) ++ drop len before)

@@ -1,0 +1,36 @@
+-- Demand 2: each answer is the code's. It is said of the bytes that a call wrote, which are the first `len` of the buffer.
+use Prim.Native.Nat.{ℕ}
+use mathlib.Core.Path.{_≡_}
+use mathlib.Core.List.{List}
+use lib.ListN.{take}
+use Rattle.rows.specs.declared.Key.{Key}
+use Rattle.jobs.specs.declared.Job.{Job}
+use Rattle.book.specs.JobBook.{Jobs, JobBook}
+use Rattle.book.specs.Values.{values}
+use Rattle.book.specs.Notes.{RowIn}
+use Rattle.earth.specs.declared.Coefficient.{Coefficient}
+use Rattle.sets.specs.declared.Combination.{Combination}
+use Rattle.checks.specs.declared.Check.{Check}
+use Rattle.lines.specs.declared.Verdict.the-variants.{Accepted}
+use Rattle.lines.specs.Lines.{PrintedLine, check, verdict-line}
+use Rattle.printing.specs.Text.{line-text}
+use Rattle.debtarush.specs.Called.{written, Called}
+use Rattle.demands.specs.Words.{Begins, Tells, LinesOf, Sound, Named}
+
+pub record Demand2 (fill : ℕ → ℕ → Coefficient) : Type 0 where
+  -- they are lines of the job's key: those of its answer
+  pub told : {b : List ℕ} {place : ℕ} {before after : List ℕ} {len : ℕ} → Called fill b place before after (written len)
+      → (js : Jobs) (job : Job) → JobBook b js → RowIn (values js) place job → (lines : List PrintedLine) × Tells (take len after) (job .key) lines × LinesOf fill job lines
+  -- and no other key or lines can be read from them
+  pub nothing-else : {b : List ℕ} {place : ℕ} {before after : List ℕ} {len : ℕ} → Called fill b place before after (written len)
+      → (js : Jobs) (job : Job) → JobBook b js → RowIn (values js) place job → (key : Key) (lines : List PrintedLine) → Tells (take len after) key lines
+      → (key ≡ job .key) × LinesOf fill job lines
+  -- they begin with the key and VERDICT,A exactly if the job isn't refused and every check passes under every permitted set, and SC and CL pass
+  pub accepted : {b : List ℕ} {place : ℕ} {before after : List ℕ} {len : ℕ} → Called fill b place before after (written len)
+      → (js : Jobs) (job : Job) → JobBook b js → RowIn (values js) place job → Begins (line-text (job .key) (verdict-line Accepted)) (take len after) → Sound fill job
+  pub accepts : {b : List ℕ} {place : ℕ} {before after : List ℕ} {len : ℕ} → Called fill b place before after (written len)
+      → (js : Jobs) (job : Job) → JobBook b js → RowIn (values js) place job → Sound fill job → Begins (line-text (job .key) (verdict-line Accepted)) (take len after)
+  -- each line of a check names a permitted set that reaches its figure, and no permitted set of its combination is worse
+  pub named : {b : List ℕ} {place : ℕ} {before after : List ℕ} {len : ℕ} → Called fill b place before after (written len)
+      → (js : Jobs) (job : Job) → JobBook b js → RowIn (values js) place job → (key : Key) (lines : List PrintedLine) → Tells (take len after) key lines
+      → (n : ℕ) (line : PrintedLine) (combination : Combination) (of : Check) → RowIn lines n line → line .name ≡ check combination of → Named fill job combination of line

@@ -1,0 +1,97 @@
+-- What the demands speak of: what bytes say, a job that passes, and the line of a check. Document 01, Load sets and The printed answer.
+use Prim.Native.Nat.{ℕ, _≤_}
+use mathlib.Core.Path.{_≡_}
+use mathlib.Core.Bool.{Bool, true}
+use mathlib.Core.List.{List, [], _∷_, _++_}
+use Rattle.kinds.specs.Range.{value}
+use Rattle.rows.specs.declared.Key.{Key}
+use Rattle.jobs.specs.declared.Job.{Job}
+use Rattle.book.specs.JobBook.{Written, Jobs, none, _and_}
+use Rattle.river.specs.Scour as scour
+use Rattle.river.specs.Clear.{Cleared, given, signed}
+use Rattle.earth.specs.declared.Coefficient.{Coefficient}
+use Rattle.sets.specs.declared.Combination.{Combination}
+use Rattle.sets.specs.declared.Loads.{Loads}
+use Rattle.sets.specs.Sets.{Permitted}
+use Rattle.checks.specs.declared.Base.{Base}
+use Rattle.checks.specs.declared.Check.{Check}
+use Rattle.checks.specs.declared.Figure.{Figure}
+use Rattle.checks.specs.Figures.{Shows}
+use Rattle.checks.specs.Order.{side}
+use Rattle.checks.specs.Limits.{Limit, Passes}
+use Rattle.worst.specs.Lines.{Printed}
+use Rattle.loads.specs.Taken.{AreLoads, rowsOf}
+use Rattle.lines.specs.declared.Answer.{Answer}
+use Rattle.lines.specs.Lines.{PrintedLine, check, holds, value-of, mark-of, lines-of}
+use Rattle.waters.specs.Waters.{HasClearance, Founded, AtLeast}
+use Rattle.answer.specs.Rules.{Unrefused}
+use Rattle.answer.specs.Answer.{base-of, AnswerIs}
+use Rattle.printing.specs.Keys.{IsKey}
+use Rattle.printing.specs.Text.{texts}
+
+-- ---- what bytes say
+
+pub record Begins (front bytes : List ℕ) : Type 0 where
+  pub rest : List ℕ
+  pub are : bytes ≡ front ++ rest
+
+-- the bytes are these lines of this key
+pub record Tells (bytes : List ℕ) (key : Key) (lines : List PrintedLine) : Type 0 where
+  pub is-key : IsKey key
+  pub are : bytes ≡ texts key lines
+
+-- the lines are those of the job's answer
+pub record LinesOf (fill : ℕ → ℕ → Coefficient) (job : Job) (lines : List PrintedLine) : Type 0 where
+  pub answer : Answer
+  pub is : AnswerIs fill job answer
+  pub are : lines ≡ lines-of answer
+
+-- ---- a job that passes
+
+-- every check of every combination passes under every permitted set
+abbrev pub Bears : Base → Loads → Type 0
+Bears base loads = (combination : Combination) (check : Check) (limit : ℕ) → Limit combination check base limit → (set : ℕ) (figure : Figure) → Permitted combination loads set
+    → Shows check base loads set figure → Passes (side check) limit figure
+
+-- "SC needs value <= limit": the depth needed is found
+pub record Deep (job : Job) : Type 0 where
+  pub depth : ℕ
+  pub needed : scour.Scoured (job .scour .n1 .size) (job .scour .n2 .size) (job .scour .n3 .size) (job .scour .n4 .size) (job .scour .n5 .size) (scour.needs depth)
+  pub found : depth ≤ job .scour .n6 .size
+
+-- "CL value >= limit": underside - flood - afflux is the clearance needed or more
+pub record Clear (job : Job) : Type 0 where
+  pub minus : Bool
+  pub size : ℕ
+  pub needed : ℕ
+  pub plain : minus ≡ true → 1 ≤ size
+  pub there : Cleared (job .clearance .n1 .size) (job .clearance .n2 .size) (job .clearance .n3 .size) (value (job .clearance .n4)) (value (job .clearance .n5)) (job .scour .n1 .size) (given (signed minus size) needed)
+  pub enough : AtLeast minus size needed
+
+-- "A is given exactly if the job isn't refused and every line after VERDICT says Y", said of the job and of its permitted sets
+pub record Sound (fill : ℕ → ℕ → Coefficient) (job : Job) : Type 0 where
+  pub unrefused : Unrefused fill job
+  pub loads : Loads
+  pub are : AreLoads fill (job .loads) (rowsOf (job .count)) loads
+  pub bears : Bears (base-of (job .base)) loads
+  pub deep : Founded job → Deep job
+  pub clear : HasClearance (job .stage) → Clear job
+
+-- ---- the line of a check
+
+-- it shows the figure of the permitted set that it names, beside the limit; no permitted set is worse (`Printed`)
+pub record Named (fill : ℕ → ℕ → Coefficient) (job : Job) (combination : Combination) (of : Check) (line : PrintedLine) : Type 0 where
+  pub loads : Loads
+  pub are : AreLoads fill (job .loads) (rowsOf (job .count)) loads
+  pub figure : Figure
+  pub limit : ℕ
+  pub set : ℕ
+  pub passes : Bool
+  pub printed : Printed combination of (base-of (job .base)) loads figure limit set passes
+  pub is : line ≡ record { name = check combination of; value = value-of figure; limit = holds limit; set = holds set; mark = mark-of passes }
+
+-- ---- the jobs of a book, as it writes them
+
+abbrev pub listed : Jobs → List Written
+listed none = []
+listed (js and j) = listed js ++ j ∷ []
