@@ -1,6 +1,7 @@
--- What holds of every one in a list.
-use Prim.Native.Nat.{ℕ}
-use mathlib.Core.Path.{_≡_, subst}
+-- What holds of every one in a list, and of some one.
+use Prim.Native.Nat.{ℕ, _+_}
+use native.Mathlib.Omega.{arith}
+use mathlib.Core.Path.{_≡_, refl, ap, subst}
 use mathlib.Core.List.{List, [], _∷_, _++_}
 use Rattle.book.specs.Notes.{RowIn}
 
@@ -26,3 +27,24 @@ module _ {A : Type 0} {P : A → Type 0} where
 
   pub all-at : {xs : List A} {n : ℕ} {x : A} → All P xs → RowIn xs n x → P x
   all-at {x = x} p r = all-first (all-behind (r .before) (x ∷ r .behind) (subst (All P) (r .are) p))
+
+pub data Some {A : Type 0} (P : A → Type 0) : List A → Type 0 where
+  here : {x : A} {xs : List A} → P x → Some P (x ∷ xs)
+  later : {x : A} {xs : List A} → Some P xs → Some P (x ∷ xs)
+
+module _ {A : Type 0} {P : A → Type 0} where
+  pub some-front : {xs : List A} (ys : List A) → Some P xs → Some P (xs ++ ys)
+  some-front ys (here p) = here p
+  some-front ys (later p) = later (some-front ys p)
+
+  pub some-behind : (xs : List A) {ys : List A} → Some P ys → Some P (xs ++ ys)
+  some-behind [] p = p
+  some-behind (x ∷ xs) p = later (some-behind xs p)
+
+  pub some-at : {xs : List A} → Some P xs → (n : ℕ) × (x : A) × RowIn xs n x × P x
+  some-at (here {x} {xs} p) = (1, x, record { before = []; behind = xs; are = refl; number = refl }, p)
+  some-at (later {x} p) =
+      let w = some-at p in
+      let r = w .2 in
+      let n = r .number in
+      (w .0 + 1, w .1, record { before = x ∷ r .before; behind = r .behind; are = ap (λ (l : List A). x ∷ l) (r .are); number = omega arith }, w .3)

@@ -11,10 +11,16 @@ use Rattle.book.specs.Values.{values}
 use Rattle.book.specs.Notes.{RowIn}
 use Rattle.earth.specs.declared.Coefficient.{Coefficient}
 use Rattle.sets.specs.declared.Combination.{Combination}
+use Rattle.sets.specs.declared.Loads.{Loads}
+use Rattle.sets.specs.Sets.{Permitted}
 use Rattle.checks.specs.declared.Check.{Check}
+use Rattle.checks.specs.Limits.{HasCheck}
+use Rattle.loads.specs.Taken.{AreLoads, rowsOf}
 use Rattle.lines.specs.declared.Verdict.{Verdict}
 use Rattle.lines.specs.declared.Verdict.the-variants.{Accepted, NotAccepted, Refused}
 use Rattle.lines.specs.Lines.{PrintedLine, check, accepted, not-accepted, number, verdict-value, verdict-line, unless-refused, later-lines, lines-of}
+use Rattle.answer.specs.Rules.{Unrefused}
+use Rattle.answer.specs.Answer.{base-of}
 use Rattle.printing.specs.Keys.{IsKey}
 use Rattle.printing.specs.Text.{line-text, texts, text}
 use Rattle.printing.proofs.Injective.{line-injective, texts-injective}
@@ -23,7 +29,7 @@ use Rattle.demands.specs.Words.{Begins, Tells, LinesOf, Sound, Named}
 use Rattle.demands.specs.Demand2.{Demand2}
 use Rattle.demands.proofs.Keys.{job-key}
 use Rattle.demands.proofs.Sound.{sound-accepted, accepted-sound}
-use Rattle.demands.proofs.Lines.{line-named}
+use Rattle.demands.proofs.Lines.{line-named, line-shown}
 use Rattle.demands.proofs.Wrote.{Wrote, reached, wrote}
 
 -- the verdict line says the verdict
@@ -88,5 +94,13 @@ module _ (fill : ℕ → ℕ → Coefficient) {b : List ℕ} {place : ℕ} {befo
   unfolding own
   named key lines t n line combination of r e = line-named fill job (own .text .is) (subst (λ (l : List PrintedLine). RowIn l n line) (lines-same key lines t) r) e
 
+  shown : (key : Key) (lines : List PrintedLine) → Tells (take len after) key lines → (loads : Loads) (combination : Combination) (of : Check) (set : ℕ) → Unrefused fill job
+      → AreLoads fill (job .loads) (rowsOf (job .count)) loads → HasCheck combination of (base-of (job .base)) → Permitted combination loads set
+      → (n : ℕ) × (line : PrintedLine) × RowIn lines n line × (line .name ≡ check combination of)
+  unfolding own
+  shown key lines t loads combination of set u are h p =
+      subst (λ (l : List PrintedLine). (n : ℕ) × (line : PrintedLine) × RowIn l n line × (line .name ≡ check combination of)) (sym (lines-same key lines t))
+      (line-shown fill job loads are (own .text .answer) combination of set (own .text .is) u h p)
+
 pub demand2 : (fill : ℕ → ℕ → Coefficient) → Demand2 fill
-demand2 fill = record { told = told fill; nothing-else = nothing-else fill; accepted = accepted-bytes fill; accepts = accepts fill; named = named fill }
+demand2 fill = record { told = told fill; nothing-else = nothing-else fill; accepted = accepted-bytes fill; accepts = accepts fill; named = named fill; shown = shown fill }

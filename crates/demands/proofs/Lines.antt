@@ -1,4 +1,4 @@
--- Each line of a check in a job's answer names a permitted set that reaches its figure, and none is worse.
+-- Each line of a check in a job's answer names a permitted set that reaches its figure, and none is worse; and no check that applies is left out.
 use Prim.Native.Nat.{ℕ}
 use native.Mathlib.Omega.{arith}
 use mathlib.Core.Path.{_≡_, refl, sym, ap, subst}
@@ -8,13 +8,16 @@ use Rattle.earth.specs.declared.Coefficient.{Coefficient}
 use Rattle.sets.specs.declared.Combination.{Combination}
 use Rattle.sets.specs.declared.Combination.the-variants.{I, II, III, IV}
 use Rattle.sets.specs.declared.Loads.{Loads}
+use Rattle.sets.specs.Sets.{Permitted}
 use Rattle.checks.specs.declared.Check.{Check}
 use Rattle.checks.specs.declared.Check.the-variants.{OP, OM, SL, PR, RK}
+use Rattle.checks.specs.Limits.{HasCheck}
 use Rattle.worst.specs.declared.Line.{Line}
 use Rattle.worst.specs.declared.Line.the-variants.{Missing, Shown}
 use Rattle.worst.specs.declared.Lines.{Lines}
 use Rattle.worst.specs.Lines as worst
 use Rattle.loads.specs.Taken.{AreLoads, rowsOf}
+use Rattle.loads.proofs.Answering.{loads-one}
 use Rattle.lines.specs.declared.Verdict.{Verdict}
 use Rattle.lines.specs.declared.Verdict.the-variants.{Accepted, NotAccepted, Refused}
 use Rattle.lines.specs.declared.DepthLine.{DepthLine}
@@ -23,7 +26,8 @@ use Rattle.lines.specs.declared.ClearLine.{ClearLine}
 use Rattle.lines.specs.declared.ClearLine.the-variants as clear
 use Rattle.lines.specs.declared.Answer.{Answer}
 use Rattle.lines.specs.Lines.{PrintedLine, LineName, VERDICT, check, SC, CL, verdict-line, check-line, combination-lines, depth-line, clear-line, later-lines, unless-refused, lines-of}
-use Rattle.answer.specs.Answer.{base-of, LinesAre, Given, refusal, AnswerIs, refused, answered}
+use Rattle.answer.specs.Rules.{Unrefused}
+use Rattle.answer.specs.Answer.{base-of, LinesAre, VerdictIs, Given, refusal, AnswerIs, refused, answered}
 use Rattle.book.specs.Notes.{RowIn}
 use Rattle.demands.specs.Words.{Named}
 use Rattle.demands.proofs.All as all
@@ -98,3 +102,55 @@ module _ (fill : ℕ → ℕ → Coefficient) (job : Job) where
   pub line-named : {a : Answer} {n : ℕ} {l : PrintedLine} {c : Combination} {k : Check} → AnswerIs fill job a → RowIn (lines-of a) n l → l .name ≡ check c k → Named fill job c k l
   unfolding IsNamed
   line-named {c = c} {k} p r e = all.all-at (answer-named p) r c k e
+
+-- a line of this check in this combination
+IsOf : Combination → Check → PrintedLine → Type 0
+IsOf combination of l = l .name ≡ check combination of
+
+module _ (fill : ℕ → ℕ → Coefficient) (job : Job) (loads : Loads) (are : AreLoads fill (job .loads) (rowsOf (job .count)) loads) where
+  module _ (c : Combination) (set : ℕ) (permitted : Permitted c loads set) where
+    check-shown : (k : Check) (l : Line) → worst.Says c k (base-of (job .base)) loads l → HasCheck c k (base-of (job .base)) → all.Some (IsOf c k) (check-line c k l)
+    unfolding IsOf check-line worst.Says
+    check-shown k Missing p h = absurd (p h set permitted)
+    check-shown k (Shown figure limit s passes) p h = all.here refl
+
+    lines-shown : (k : Check) (l : Lines) → LinesAre c (base-of (job .base)) loads l → HasCheck c k (base-of (job .base)) → all.Some (IsOf c k) (combination-lines c l)
+    unfolding combination-lines worst.line
+    lines-shown OP l p h = all.some-front _ (check-shown OP (l .op) (p OP) h)
+    lines-shown OM l p h = all.some-behind (check-line c OP (l .op)) (all.some-front _ (check-shown OM (l .om) (p OM) h))
+    lines-shown SL l p h = all.some-behind (check-line c OP (l .op)) (all.some-behind (check-line c OM (l .om)) (all.some-front _ (check-shown SL (l .sl) (p SL) h)))
+    lines-shown PR l p h =
+        all.some-behind (check-line c OP (l .op))
+        (all.some-behind (check-line c OM (l .om)) (all.some-behind (check-line c SL (l .sl)) (all.some-front _ (check-shown PR (l .pr) (p PR) h))))
+    lines-shown RK l p h =
+        all.some-behind (check-line c OP (l .op))
+        (all.some-behind (check-line c OM (l .om))
+        (all.some-behind (check-line c SL (l .sl)) (all.some-behind (check-line c PR (l .pr)) (check-shown RK (l .rk) (p RK) h))))
+
+  later-shown : (c : Combination) (k : Check) (set : ℕ) → Permitted c loads set → HasCheck c k (base-of (job .base)) → (a : Answer) (g : Given fill job a) → g .loads ≡ loads → all.Some (IsOf c k) (later-lines a)
+  unfolding later-lines
+  later-shown I k set p h a g e = all.some-front _ (lines-shown I set p k (a .one) (subst (λ (l : Loads). LinesAre I (base-of (job .base)) l (a .one)) e (g .one)) h)
+  later-shown II k set p h a g e =
+      all.some-behind (combination-lines I (a .one)) (all.some-front _ (lines-shown II set p k (a .two) (subst (λ (l : Loads). LinesAre II (base-of (job .base)) l (a .two)) e (g .two)) h))
+  later-shown III k set p h a g e =
+      all.some-behind (combination-lines I (a .one))
+      (all.some-behind (combination-lines II (a .two)) (all.some-front _ (lines-shown III set p k (a .three) (subst (λ (l : Loads). LinesAre III (base-of (job .base)) l (a .three)) e (g .three)) h)))
+  later-shown IV k set p h a g e =
+      all.some-behind (combination-lines I (a .one))
+      (all.some-behind (combination-lines II (a .two))
+      (all.some-behind (combination-lines III (a .three))
+      (all.some-front _ (lines-shown IV set p k (a .four) (subst (λ (l : Loads). LinesAre IV (base-of (job .base)) l (a .four)) e (g .four)) h))))
+
+  unless-shown : (v : Verdict) (a : Answer) (c : Combination) (k : Check) {later : List PrintedLine} → VerdictIs v a → all.Some (IsOf c k) later → all.Some (IsOf c k) (unless-refused v later)
+  unfolding unless-refused
+  unless-shown Accepted a c k p s = s
+  unless-shown NotAccepted a c k p s = s
+  unless-shown (Refused n) a c k p s = absurd p
+
+  pub line-shown : (a : Answer) (c : Combination) (k : Check) (set : ℕ) → AnswerIs fill job a → Unrefused fill job → HasCheck c k (base-of (job .base)) → Permitted c loads set
+      → (n : ℕ) × (l : PrintedLine) × RowIn (lines-of a) n l × (l .name ≡ check c k)
+  unfolding lines-of IsOf
+  line-shown a c k set (refused {n} p e) u h s = absurd (u n (p .holds))
+  line-shown a c k set (answered g) u h s =
+      let e = loads-one fill (job .loads) (rowsOf (job .count)) (g .loads) loads (g .are) are in
+      all.some-at (all.later (unless-shown (a .verdict) a c k (g .verdict) (later-shown c k set s h a g e)))

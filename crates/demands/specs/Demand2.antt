@@ -10,9 +10,15 @@ use Rattle.book.specs.Values.{values}
 use Rattle.book.specs.Notes.{RowIn}
 use Rattle.earth.specs.declared.Coefficient.{Coefficient}
 use Rattle.sets.specs.declared.Combination.{Combination}
+use Rattle.sets.specs.declared.Loads.{Loads}
+use Rattle.sets.specs.Sets.{Permitted}
 use Rattle.checks.specs.declared.Check.{Check}
+use Rattle.checks.specs.Limits.{HasCheck}
+use Rattle.loads.specs.Taken.{AreLoads, rowsOf}
 use Rattle.lines.specs.declared.Verdict.the-variants.{Accepted}
 use Rattle.lines.specs.Lines.{PrintedLine, check, verdict-line}
+use Rattle.answer.specs.Rules.{Unrefused}
+use Rattle.answer.specs.Answer.{base-of}
 use Rattle.printing.specs.Text.{line-text}
 use Rattle.debtarush.specs.Called.{written, Called}
 use Rattle.demands.specs.Words.{Begins, Tells, LinesOf, Sound, Named}
@@ -34,3 +40,8 @@ pub record Demand2 (fill : ℕ → ℕ → Coefficient) : Type 0 where
   pub named : {b : List ℕ} {place : ℕ} {before after : List ℕ} {len : ℕ} → Called fill b place before after (written len)
       → (js : Jobs) (job : Job) → JobBook b js → RowIn (values js) place job → (key : Key) (lines : List PrintedLine) → Tells (take len after) key lines
       → (n : ℕ) (line : PrintedLine) (combination : Combination) (of : Check) → RowIn lines n line → line .name ≡ check combination of → Named fill job combination of line
+  -- and no check that a combination has, and under which a set is permitted, is left out
+  pub shown : {b : List ℕ} {place : ℕ} {before after : List ℕ} {len : ℕ} → Called fill b place before after (written len)
+      → (js : Jobs) (job : Job) → JobBook b js → RowIn (values js) place job → (key : Key) (lines : List PrintedLine) → Tells (take len after) key lines
+      → (loads : Loads) (combination : Combination) (of : Check) (set : ℕ) → Unrefused fill job → AreLoads fill (job .loads) (rowsOf (job .count)) loads
+      → HasCheck combination of (base-of (job .base)) → Permitted combination loads set → (n : ℕ) × (line : PrintedLine) × RowIn lines n line × (line .name ≡ check combination of)
