@@ -1,6 +1,5 @@
 -- A job has one answer.
 use Prim.Native.Nat.{ℕ}
-use native.Mathlib.Omega.{arith}
 use mathlib.Core.Path.{_≡_, refl, sym, ap, subst, _∙_}
 use Rattle.rounding.proofs.Laws.{least-one}
 use Rattle.jobs.specs.declared.Job.{Job}
@@ -18,8 +17,6 @@ use Rattle.loads.proofs.Answering.{loads-one}
 use Rattle.lines.specs.declared.Answer.{Answer}
 use Rattle.lines.specs.declared.Verdict.{Verdict}
 use Rattle.lines.specs.declared.Verdict.the-variants.{Accepted, NotAccepted, Refused}
-use Rattle.lines.specs.declared.DepthLine.{DepthLine}
-use Rattle.lines.specs.declared.ClearLine.{ClearLine}
 use Rattle.waters.proofs.Answers.{depth-one, clear-one}
 use Rattle.answer.specs.Answer.{base-of, LinesYes, DepthYes, ClearYes, AllYes, VerdictIs, LinesAre, Given, refusal, AnswerIs, refused, answered}
 

@@ -4,8 +4,7 @@ use Prim.Native.Nat.{ℕ, zero, suc, _+_, _≤_, _<_}
 use native.Mathlib.Omega.{arith}
 use mathlib.Core.Path.{_≡_, refl, sym, ap, subst, _∙_}
 use mathlib.Core.List.{List, [], _∷_, _++_, append-assoc, append-nil}
-use mathlib.Core.Logic.{⊎-elim, _↔_}
-use lib.ListN.{length, length-append}
+use lib.ListN.{length}
 use native.Mathlib.Decide.{decLt}
 use lib.Seq.{append-snoc}
 use Rattle.csv.specs.Rfc4180.{Cell, File, Readable}
@@ -15,13 +14,14 @@ use Rattle.rows.proofs.Forms.{form-one}
 use Rattle.jobs.specs.declared.Job.{Job}
 use Rattle.book.specs.JobBook.{Jobs, count, Loaded, Different, Placed, rows-of, Forms, no-form, form, Begins, JobBook, Shaped, no-job, one-more, Whole, no-whole, one-whole}
 use Rattle.book.specs.Values.{values, places}
-use Rattle.book.specs.Says.{Told, given, refused, Fault, formless, misplaced, surplus, reused, number, Unplaced, Surplus, Reused, Bad, FirstBad, Unfinished, Says, too-long, not-csv, bad-row, unfinished, book, refusal-number, told, jobs-told, BookIs, CountIs}
-use Rattle.book.specs.declared.Refusal.{Refusal}
-use Rattle.book.specs.declared.Refusal.the-variants.{TooLong, NotCsv, NoForm, NoPlace, TooMany, UsedKey}
+use Rattle.book.specs.Says.{Told, given, refused, Fault, formless, misplaced, surplus, reused, number, Unplaced, Surplus, Reused, Bad, FirstBad, Unfinished, Says, too-long, not-csv, bad-row, unfinished, book, told, jobs-told, BookIs, CountIs}
+use Rattle.refusals.specs.Numbers.{refusal-number}
+use Rattle.refusals.specs.declared.Refusal.{Refusal}
+use Rattle.refusals.specs.declared.Refusal.the-variants.{TooLong, NotCsv, NoForm, NoPlace, TooMany, UsedKey}
 use Rattle.book.specs.declared.Count.{Count}
 use Rattle.book.specs.declared.Count.the-variants.{Given, Refused}
 use Rattle.book.specs.declared.Book.{Book}
-use Rattle.book.proofs.Steps.{Back, retract, placed-one, step-count, step-keys}
+use Rattle.book.proofs.Steps.{retract, placed-one, step-count, step-keys}
 
 forms-one : {css : List (List Cell)} {rs qs : List BookRow} → Forms css rs → Forms css qs → rs ≡ qs
 forms-one no-form no-form = refl

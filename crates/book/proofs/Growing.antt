@@ -1,8 +1,8 @@
 -- Placing on values and on the book's rows are one: the last job's value takes a row exactly if the jobs grow by it, and then to the same value.
-use Prim.Native.Nat.{ℕ, suc, _+_, _-_, _≤_, _<_}
+use Prim.Native.Nat.{ℕ, suc, _+_, _-_, _<_}
 use native.Mathlib.Omega.{arith}
-use mathlib.Core.Path.{_≡_, refl, sym, ap, subst, _∙_}
-use mathlib.Core.Logic.{_⊎_, inl, inr}
+use mathlib.Core.Path.{_≡_, refl, sym, ap, subst}
+use mathlib.Core.Logic.{inl, inr}
 use mathlib.Core.List.{List, [], _∷_, _++_}
 use lib.ListN.{length, set, replicate, length-append}
 use lib.Seq.{set-at, append-snoc}
@@ -11,11 +11,12 @@ use Rattle.kinds.specs.declared.Role.{Role}
 use Rattle.kinds.specs.declared.Role.the-variants.{Base, Scour, Clearance, Load}
 use Rattle.kinds.specs.declared.Row.{Row}
 use Rattle.rows.specs.Form.{BookRow}
-use Rattle.rows.specs.Answer.{no-row}
-use Rattle.jobs.specs.Place.{Fits, InPlace, with-row, grown}
+use Rattle.keys.specs.Keyed.{no-row}
+use Rattle.placing.specs.Fits.{Fits}
+use Rattle.jobs.specs.Place.{InPlace, with-row, grown}
 use Rattle.jobs.specs.declared.Job.{Job}
-use Rattle.jobs.specs.declared.Stage.the-variants.{Unbegun}
-use Rattle.book.specs.JobBook.{IsA, SameKey, River, dry, scoured, crossed, Written, job, Jobs, none, _and_, Loaded}
+use Rattle.placing.specs.declared.Stage.the-variants.{Unbegun}
+use Rattle.book.specs.JobBook.{River, dry, scoured, crossed, job, Jobs, none, _and_, Loaded}
 use Rattle.book.specs.Values.{stage-of, scour-of, clearance-of, load-rows, value, held}
 use Rattle.book.proofs.Steps.{Step, starts, scours, crosses, bears}
 

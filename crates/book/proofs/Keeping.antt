@@ -1,28 +1,22 @@
 -- The values held for the jobs so far: their keys and the jobs themselves, in 64 places.
-use Prim.Native.Nat.{ℕ, zero, suc, _+_, _-_, _≤_, _<_}
-use native.Mathlib.Numerals.{add-one}
+use Prim.Native.Nat.{ℕ, suc, _+_, _-_, _≤_, _<_}
 use native.Mathlib.Decide.{decLt}
 use native.Mathlib.Omega.{arith}
 use mathlib.Core.Path.{_≡_, refl, sym, ap, subst, _∙_}
 use mathlib.Core.List.{List, [], _∷_, _++_}
 use lib.ListN.{length, getD, set, replicate, length-append, List·getD-append}
 use lib.Seq.{set-at, append-snoc, getD-at}
-use Rattle.kinds.specs.declared.Role.the-variants.{Base, Scour, Clearance, Load}
+use Rattle.kinds.specs.declared.Role.the-variants.{Base}
 use Rattle.rows.specs.Form.{BookRow}
-use Rattle.rows.specs.Answer.{no-row}
-use Rattle.rows.specs.declared.Key.{Key}
+use Rattle.keys.specs.Keyed.{no-row}
+use Rattle.keys.specs.declared.Key.{Key}
 use Rattle.jobs.specs.Place.{no-job}
 use Rattle.jobs.specs.declared.Job.{Job}
-use Rattle.book.specs.JobBook.{IsA, SameKey, River, dry, scoured, crossed, Written, job, base, Jobs, none, _and_, count, Different, new-key, Used, last, before}
-use Rattle.book.specs.Values.{value, values, held, in-places, places, keys-of, key-places, void-key, Among}
+use Rattle.book.specs.JobBook.{IsA, River, dry, job, base, Jobs, none, _and_, count, Different, new-key, Used, last, before}
+use Rattle.keys.specs.Among.{void-key, Among}
+use Rattle.book.specs.Values.{value, values, held, in-places, places, keys-of, key-places}
+use Rattle.book.proofs.Roles.{one-role}
 use Rattle.book.proofs.Steps.{Step, starts, scours, crosses, bears}
-
-pub nowhere-more : (l : List Key) (k : Key) (i : ℕ) → (getD l i void-key ≡ k → ⊥) → ((j : ℕ) → j < i → getD l j void-key ≡ k → ⊥) → (j : ℕ) → j < i + 1 → getD l j void-key ≡ k → ⊥
-nowhere-more l k i n h j q = by (decLt j i)
-  where
-    by : Dec (j < i) → getD l j void-key ≡ k → ⊥
-    by (yes y) e = h j y e
-    by (no y) e = let m : j ≡ i = omega arith in n (subst (λ (x : ℕ). getD l x void-key ≡ k) m e)
 
 -- a value in the first unused place, and a value in place of the last
 module _ {A : Type 0} (blank : A) (l : List A) (h : length l < 64) where
@@ -105,9 +99,9 @@ pub record Standing (js : Jobs) (n : ℕ) (ks : List Key) (vs : List Job) (last 
 -- a row that starts a job
 pub base-jobs : {js ks : Jobs} {r : BookRow} → IsA Base r → Step js r ks → ks ≡ js and job r dry []
 base-jobs k (starts l h) = refl
-base-jobs k (scours h e) = let z : _≡_ {A = ℕ} 0 1 = cc in absurd (omega arith)
-base-jobs k (crosses h e) = let z : _≡_ {A = ℕ} 0 1 = cc in absurd (omega arith)
-base-jobs k (bears h e n) = let z : _≡_ {A = ℕ} 0 1 = cc in absurd (omega arith)
+base-jobs k (scours h e) = let z = one-role k h in absurd (omega arith)
+base-jobs k (crosses h e) = let z = one-role k h in absurd (omega arith)
+base-jobs k (bears h e n) = let z = one-role k h in absurd (omega arith)
 
 pub standing-starts : {js : Jobs} {n : ℕ} {ks : List Key} {vs : List Job} {last next : Job} (r : BookRow) (k : Key) → Standing js n ks vs last → n < 64 → k ≡ r .keyed .key → held (js and job r dry []) ≡ next
     → Standing (js and job r dry []) (n + 1) (set ks n k) (set vs n next) next

@@ -5,15 +5,13 @@ use mathlib.Core.Path.{_≡_, refl, sym, ap, _∙_}
 use mathlib.Core.List.{List, [], _∷_, _++_}
 use lib.ListN.{length, replicate}
 use Rattle.kinds.specs.Table.{role}
-use Rattle.kinds.specs.declared.Numbers.{Numbers}
-use Rattle.kinds.specs.declared.Role.{Role}
-use Rattle.kinds.specs.declared.Role.the-variants.{Scour, Clearance, Load}
-use Rattle.kinds.specs.declared.Row.{Row}
+use Rattle.kinds.specs.declared.Role.the-variants.{Load}
 use Rattle.rows.specs.Form.{BookRow}
-use Rattle.rows.specs.Answer.{no-row}
-use Rattle.rows.specs.declared.Keyed.{Keyed}
-use Rattle.jobs.specs.declared.Stage.{Stage}
-use Rattle.book.specs.JobBook.{IsA, River, dry, scoured, crossed, Written, job, Loads, no-load, load, Rivers, is-dry, is-scoured, is-crossed, GoodJob, good, river-rows}
+use Rattle.keys.specs.Keyed.{no-row}
+use Rattle.keys.specs.declared.Keyed.{Keyed}
+use Rattle.book.proofs.Roles.{one-role}
+use Rattle.book.proofs.Ends.{first-same, rest-same}
+use Rattle.book.specs.JobBook.{IsA, River, Written, Loads, no-load, load, Rivers, is-dry, is-scoured, is-crossed, GoodJob, good, river-rows}
 use Rattle.book.specs.Values.{stage-of, scour-of, clearance-of, load-rows, value, keyed-rows, SameJob}
 
 loads-same : (ls ms : List BookRow) → keyed-rows ls ≡ keyed-rows ms → (load-rows ls ≡ load-rows ms) × (length ls ≡ length ms)
@@ -21,20 +19,14 @@ loads-same [] [] e = (refl, refl)
 loads-same [] (m ∷ ms) e = let z : _≡_ {A = ℕ} 0 1 = cc in absurd (omega arith)
 loads-same (l ∷ ls) [] e = let z : _≡_ {A = ℕ} 0 1 = cc in absurd (omega arith)
 loads-same (l ∷ ls) (m ∷ ms) e =
-    let h : l .keyed ≡ m .keyed = cc in
-    let t : keyed-rows ls ≡ keyed-rows ms = cc in
-    let w = loads-same ls ms t in
-    let r : l .keyed .row ≡ m .keyed .row = ap (λ (k : Keyed). k .row) h in
-    let a = w .0 in
-    let b = w .1 in
-    (cc, ap suc b)
+    let w = loads-same ls ms (rest-same e) in
+    (λ i. first-same e i .row ∷ w .0 i, ap suc (w .1))
 
 -- no load row stands where a river row does
 head-loads : {b : BookRow} {ls : List BookRow} (r : BookRow) (rs : List BookRow) → Loads b ls → keyed-rows ls ≡ keyed-rows (r ∷ rs) → IsA Load r
 head-loads r rs no-load e = let z : _≡_ {A = ℕ} 0 1 = cc in absurd (omega arith)
 head-loads r rs (load {r = l} k s ls) e =
-    let h : l .keyed ≡ r .keyed = cc in
-    sym (ap (λ (x : Keyed). role (x .row .kind)) h) ∙ k
+    sym (ap (λ (x : Keyed). role (x .row .kind)) (first-same e)) ∙ k
 
 -- the same river, by its numbers
 record Alike (v w : River) (ls ms : List BookRow) : Type 0 where
@@ -45,35 +37,26 @@ record Alike (v w : River) (ls ms : List BookRow) : Type 0 where
 
 rivers-alike : {b c : BookRow} {v w : River} {ls ms : List BookRow} → Rivers b v → Rivers c w → Loads b ls → Loads c ms → keyed-rows (river-rows v ++ ls) ≡ keyed-rows (river-rows w ++ ms) → Alike v w ls ms
 rivers-alike is-dry is-dry l m e = record { stage = refl; scour = refl; clearance = refl; rest = e }
-rivers-alike {ms = ms} is-dry (is-scoured {s} k i) l m e = let h = head-loads s ms l e in let z : _≡_ {A = ℕ} 0 1 = cc in absurd (omega arith)
-rivers-alike {ms = ms} is-dry (is-crossed {s} {c} k i n j) l m e = let h = head-loads s (c ∷ ms) l e in let z : _≡_ {A = ℕ} 0 1 = cc in absurd (omega arith)
-rivers-alike {ls = ls} (is-scoured {s} k i) is-dry l m e = let h = head-loads s ls m (sym e) in let z : _≡_ {A = ℕ} 0 1 = cc in absurd (omega arith)
+rivers-alike {ms = ms} is-dry (is-scoured {s} k i) l m e = let z = one-role (head-loads s ms l e) k in absurd (omega arith)
+rivers-alike {ms = ms} is-dry (is-crossed {s} {c} k i n j) l m e = let z = one-role (head-loads s (c ∷ ms) l e) k in absurd (omega arith)
+rivers-alike {ls = ls} (is-scoured {s} k i) is-dry l m e = let z = one-role (head-loads s ls m (sym e)) k in absurd (omega arith)
 rivers-alike {ls = ls} {ms} (is-scoured {s} k i) (is-scoured {s = t} n j) l m e =
-    let h : s .keyed ≡ t .keyed = cc in
-    let r : keyed-rows ls ≡ keyed-rows ms = cc in
-    record { stage = refl; scour = ap (λ (x : Keyed). x .row .numbers) h; clearance = refl; rest = r }
+    record { stage = refl; scour = ap (λ (x : Keyed). x .row .numbers) (first-same e); clearance = refl; rest = rest-same e }
 rivers-alike {ls = ls} {ms} (is-scoured {s} k i) (is-crossed {s = t} {c} n j o p) l m e =
-    let r : keyed-rows ls ≡ keyed-rows (c ∷ ms) = cc in
-    let h = head-loads c ms l r in
-    let z : _≡_ {A = ℕ} 0 1 = cc in
+    let z = one-role (head-loads c ms l (rest-same e)) o in
     absurd (omega arith)
-rivers-alike {ls = ls} (is-crossed {s} {c} k i n j) is-dry l m e = let h = head-loads s (c ∷ ls) m (sym e) in let z : _≡_ {A = ℕ} 0 1 = cc in absurd (omega arith)
+rivers-alike {ls = ls} (is-crossed {s} {c} k i n j) is-dry l m e = let z = one-role (head-loads s (c ∷ ls) m (sym e)) k in absurd (omega arith)
 rivers-alike {ls = ls} {ms} (is-crossed {s} {c} k i n j) (is-scoured {s = t} o p) l m e =
-    let r : keyed-rows ms ≡ keyed-rows (c ∷ ls) = cc in
-    let h = head-loads c ls m r in
-    let z : _≡_ {A = ℕ} 0 1 = cc in
+    let z = one-role (head-loads c ls m (sym (rest-same e))) n in
     absurd (omega arith)
 rivers-alike {ls = ls} {ms} (is-crossed {s} {c} k i n j) (is-crossed {s = t} {c = d} o p q u) l m e =
-    let h : s .keyed ≡ t .keyed = cc in
-    let g : c .keyed ≡ d .keyed = cc in
-    let r : keyed-rows ls ≡ keyed-rows ms = cc in
-    record { stage = refl; scour = ap (λ (x : Keyed). x .row .numbers) h; clearance = ap (λ (x : Keyed). x .row .numbers) g; rest = r }
+    let behind = rest-same e in
+    record { stage = refl; scour = ap (λ (x : Keyed). x .row .numbers) (first-same e); clearance = ap (λ (x : Keyed). x .row .numbers) (first-same behind); rest = rest-same behind }
 
 pub same-value : {a b : Written} → GoodJob a → GoodJob b → SameJob a b → value a ≡ value b
 same-value (good {b} {v} {ls} p q r s) (good {b = c} {v = w} {ls = ms} t u x y) e =
-    let h : b .keyed ≡ c .keyed = cc in
-    let f : keyed-rows (river-rows v ++ ls) ≡ keyed-rows (river-rows w ++ ms) = cc in
-    let k = rivers-alike q u r x f in
+    let h : b .keyed ≡ c .keyed = first-same e in
+    let k = rivers-alike q u r x (rest-same e) in
     let g = loads-same ls ms (k .rest) in
     λ i. record {
       stage = k .stage i;

@@ -2,11 +2,12 @@
 use Prim.Native.Nat.{ℕ, zero, suc, _+_, _≤_, _<_}
 use native.Mathlib.Omega.{arith}
 use mathlib.Core.Path.{_≡_, refl, sym, ap, subst, _∙_}
-use mathlib.Core.List.{List, [], _∷_, _++_, append-assoc, append-nil}
+use mathlib.Core.List.{List, [], _∷_, _++_, append-assoc}
 use lib.ListN.{length, length-append}
 use Rattle.rows.specs.Form.{BookRow}
 use Rattle.kinds.specs.declared.Role.the-variants.{Base, Scour, Clearance, Load}
-use Rattle.book.specs.JobBook.{IsA, SameKey, River, dry, scoured, crossed, Written, job, river-rows, Loads, no-load, load, Rivers, is-dry, is-scoured, is-crossed, GoodJob, good, Jobs, none, _and_, count, rows-of, Loaded, Shaped, no-job, one-more, Used, last, before, Different, no-key, new-key, Placed}
+use Rattle.book.specs.JobBook.{IsA, SameKey, River, dry, scoured, crossed, job, river-rows, Loads, no-load, load, is-dry, is-scoured, is-crossed, good, Jobs, none, _and_, count, rows-of, Loaded, Shaped, one-more, last, before, Different, new-key, Placed}
+use Rattle.book.proofs.Roles.{one-role}
 use Rattle.book.proofs.Ends.{Ended, empty, ended, ends, not-empty, ends-same}
 
 -- the jobs grow by a row
@@ -85,18 +86,18 @@ retract {ts} {r} (js and job b v ls) p = by-loads (ends ls) (p .are) (p .shaped)
 
 pub step-one : {js ks ls : Jobs} {r : BookRow} → Step js r ks → Step js r ls → ks ≡ ls
 step-one (starts l k) (starts m h) = refl
-step-one (starts l k) (scours h e) = let z : _≡_ {A = ℕ} 0 1 = cc in absurd (omega arith)
-step-one (starts l k) (crosses h e) = let z : _≡_ {A = ℕ} 0 1 = cc in absurd (omega arith)
-step-one (starts l k) (bears h e n) = let z : _≡_ {A = ℕ} 0 1 = cc in absurd (omega arith)
-step-one (scours k e) (starts l h) = let z : _≡_ {A = ℕ} 0 1 = cc in absurd (omega arith)
+step-one (starts l k) (scours h e) = let z = one-role k h in absurd (omega arith)
+step-one (starts l k) (crosses h e) = let z = one-role k h in absurd (omega arith)
+step-one (starts l k) (bears h e n) = let z = one-role k h in absurd (omega arith)
+step-one (scours k e) (starts l h) = let z = one-role k h in absurd (omega arith)
 step-one (scours k e) (scours h f) = refl
-step-one (scours k e) (bears h f n) = let z : _≡_ {A = ℕ} 0 1 = cc in absurd (omega arith)
-step-one (crosses k e) (starts l h) = let z : _≡_ {A = ℕ} 0 1 = cc in absurd (omega arith)
+step-one (scours k e) (bears h f n) = let z = one-role k h in absurd (omega arith)
+step-one (crosses k e) (starts l h) = let z = one-role k h in absurd (omega arith)
 step-one (crosses k e) (crosses h f) = refl
-step-one (crosses k e) (bears h f n) = let z : _≡_ {A = ℕ} 0 1 = cc in absurd (omega arith)
-step-one (bears k e n) (starts l h) = let z : _≡_ {A = ℕ} 0 1 = cc in absurd (omega arith)
-step-one (bears k e n) (scours h f) = let z : _≡_ {A = ℕ} 0 1 = cc in absurd (omega arith)
-step-one (bears k e n) (crosses h f) = let z : _≡_ {A = ℕ} 0 1 = cc in absurd (omega arith)
+step-one (crosses k e) (bears h f n) = let z = one-role k h in absurd (omega arith)
+step-one (bears k e n) (starts l h) = let z = one-role k h in absurd (omega arith)
+step-one (bears k e n) (scours h f) = let z = one-role k h in absurd (omega arith)
+step-one (bears k e n) (crosses h f) = let z = one-role k h in absurd (omega arith)
 step-one (bears k e n) (bears h f m) = refl
 
 -- no rows, no jobs

@@ -1,37 +1,37 @@
 -- The loop over the rows: those passed are rows that a job book may begin with, and the values held are those of their jobs.
-use Prim.Native.Nat.{ℕ, suc, _+_, _-_, _≤_, _<_}
+use Prim.Native.Nat.{ℕ, _+_, _-_, _≤_, _<_}
 use native.Mathlib.Omega.{arith}
 use mathlib.Core.Path.{_≡_, refl, sym, ap, subst, _∙_}
 use mathlib.Core.Bool.{Bool, true, false}
 use mathlib.Core.List.{List, [], _∷_, _++_}
-use lib.ListN.{length, take, drop, set, replicate, length-append}
+use lib.ListN.{length, take, drop, set, length-append}
 use lib.Seq.{append-snoc, take-at}
 use Rattle.csv.specs.Rfc4180.{Cell, File, Readable, Rest, nothing, more}
 use Rattle.csv.proofs.Parts.{at-index, past}
 use Rattle.csv.proofs.Unique.{nil-cons}
 use Rattle.csv.proofs.First.{first, some-row}
-use Rattle.kinds.specs.Table.{role}
-use Rattle.kinds.specs.declared.Role.{Role}
-use Rattle.kinds.specs.declared.Role.the-variants.{Base}
 use Rattle.rows.specs.Form.{BookRow, raw, Form}
 use Rattle.rows.specs.Answer.{formed, RowSeen, SeenAt}
-use Rattle.rows.specs.declared.Key.{Key}
+use Rattle.keys.specs.declared.Key.{Key}
 use Rattle.rows.specs.declared.RowRead.{RowRead}
-use Rattle.jobs.specs.Place.{InPlace, with-row, grown}
+use Rattle.jobs.specs.Place.{InPlace, grown}
 use Rattle.jobs.specs.Taking as taking
 use Rattle.jobs.specs.declared.Job.{Job}
-use Rattle.book.specs.JobBook.{Jobs, none, _and_, job, dry, count, Loaded, no-job, Placed, Forms, no-form, form, Begins, JobBook, Different, no-key, new-key, Used}
-use Rattle.book.specs.Values.{values, held, places, Among}
-use Rattle.book.specs.Says.{Told, given, refused, Fault, formless, misplaced, surplus, reused, number, Bad, FirstBad, Says, bad-row, unfinished, book, refusal-number, told, jobs-told, BookIs, EndedIs, missing, whole}
-use Rattle.book.specs.declared.Refusal.{Refusal}
-use Rattle.book.specs.declared.Refusal.the-variants.{NoPlace}
+use Rattle.book.specs.JobBook.{Jobs, none, _and_, job, dry, count, Loaded, no-job, Forms, no-form, form, Begins, JobBook, Different, no-key, new-key, Used}
+use Rattle.keys.specs.Among.{Among}
+use Rattle.book.specs.Values.{values, held, places}
+use Rattle.book.specs.Says.{refused, Fault, formless, misplaced, surplus, reused, number, Bad, Says, bad-row, unfinished, book, told, jobs-told, BookIs, EndedIs, missing, whole}
+use Rattle.refusals.specs.Numbers.{refusal-number}
+use Rattle.refusals.specs.declared.Refusal.{Refusal}
+use Rattle.refusals.specs.declared.Refusal.the-variants.{TooLong, NotCsv, NoForm, NoPlace, TooMany, UsedKey}
+use Rattle.steps.specs.Step.{Refuses}
 use Rattle.book.specs.declared.Count.{Count}
 use Rattle.book.specs.declared.Count.the-variants.{Given, Refused}
 use Rattle.book.specs.declared.Book.{Book}
-use Rattle.book.proofs.Steps.{Step, starts, scours, crosses, bears, extend, grows, step-count}
+use Rattle.book.proofs.Steps.{Step, starts, scours, crosses, bears, extend, grows}
 use Rattle.book.proofs.Answers.{begins-book}
 use Rattle.book.proofs.Growing.{Grown, place-grows, step-place}
-use Rattle.book.proofs.Keeping.{values-many, among-used, used-among, Standing, base-jobs, standing-starts, Joined, joins, standing-joins}
+use Rattle.book.proofs.Keeping.{values-many, among-used, used-among, Standing, base-jobs, standing-starts, joins, standing-joins}
 
 pub rest-more : {t : List ℕ} {css : List (List Cell)} → Rest t css → (t ≡ [] → ⊥) → File t css
 rest-more nothing n = absurd (n refl)
@@ -133,7 +133,7 @@ module _ {s : List ℕ} {last : Job} {jobs : List Job} {keys : List Key} {n row 
       bad-row {why = why} (i .size) (i .reading)
       (record { before = i .done; row = split .cs; behind = split .css; split = cut; number = i .number; typed = i .typed; jobs = i .written; begins = i .begins; bad = x }) refl
 
-  pub walk-formless : r .good ≡ false → Says s (refused 3 row)
+  walk-formless : r .good ≡ false → Says s (refused 3 row)
   walk-formless g = first-bad formless (subst (λ (x : Bool). formed x (split .cs) (r .row)) g (split .is .means) .0)
 
   -- the row has a form
@@ -147,7 +147,7 @@ module _ {s : List ℕ} {last : Job} {jobs : List Job} {keys : List Key} {n row 
     placing : InPlace last (r .row) → InPlace (held (i .written)) (r .row)
     placing w = subst (λ (j : Job). InPlace j (r .row)) (i .stands .job) w
 
-    pub walk-misplaced : (InPlace last (r .row) → ⊥) → Says s (refused 4 row)
+    walk-misplaced : (InPlace last (r .row) → ⊥) → Says s (refused 4 row)
     walk-misplaced w =
         first-bad misplaced
         (record {
@@ -271,3 +271,13 @@ module _ {s : List ℕ} {last : Job} {jobs : List Job} {keys : List Key} {n row 
         walk-end b (whole e c v) =
             given-is b m c (w .stands .many) (v ∙ w .stands .jobs)
             (begins-book (i .size) (i .reading) all (has-load (w .step) (λ z. e (ap (λ (j : Job). j .count) (w .stands .job) ∙ z))))
+
+-- a row that is refused where it stands is the first bad one
+module _ {s : List ℕ} {last : Job} {jobs : List Job} {keys : List Key} {n row at : ℕ} (i : Walk s last jobs keys n row at) {r : RowRead} (h : SeenAt s at r) where
+  pub walk-refused : (why : Refusal) → Refuses last (r .good) (r .row) why → Says s (refused (refusal-number why) row)
+  walk-refused TooLong w = absurd w
+  walk-refused NotCsv w = absurd w
+  walk-refused NoForm w = walk-formless i h w
+  walk-refused NoPlace w = walk-misplaced i h (w .0) (w .1)
+  walk-refused TooMany w = absurd w
+  walk-refused UsedKey w = absurd w

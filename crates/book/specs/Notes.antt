@@ -1,6 +1,6 @@
 -- Document 01, the job book: the note "is handed on as the stretch of the book from its comma to its row's end, quotes included,
 -- that comma and the row's CRLF not".
-use Prim.Native.Nat.{ℕ, _+_, _<_}
+use Prim.Native.Nat.{ℕ, _+_}
 use mathlib.Core.Path.{_≡_}
 use mathlib.Core.List.{List, [], _∷_, _++_}
 use lib.ListN.{length}

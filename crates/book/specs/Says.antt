@@ -6,10 +6,10 @@ use lib.ListN.{length, take}
 use Rattle.csv.specs.Rfc4180.{Cell, File, Readable}
 use Rattle.rows.specs.Form.{BookRow, Form}
 use Rattle.jobs.specs.declared.Job.{Job}
+use Rattle.refusals.specs.Numbers.{refusal-number}
+use Rattle.refusals.specs.declared.Refusal.the-variants.{NoPlace}
 use Rattle.book.specs.JobBook.{Jobs, count, Loaded, Different, Placed, Begins, JobBook}
 use Rattle.book.specs.Values.{values, places}
-use Rattle.book.specs.declared.Refusal.{Refusal}
-use Rattle.book.specs.declared.Refusal.the-variants.{TooLong, NotCsv, NoForm, NoPlace, TooMany, UsedKey}
 use Rattle.book.specs.declared.Count.{Count}
 use Rattle.book.specs.declared.Count.the-variants.{Given, Refused}
 use Rattle.book.specs.declared.Book.{Book}
@@ -88,15 +88,6 @@ pub data Says (s : List ℕ) (t : Told) : Type 0 where
   bad-row : {rows : List (List Cell)} {why : Fault} {n : ℕ} → length s ≤ 65536 → File s rows → FirstBad why rows n → t ≡ refused (number why) n → Says s t
   unfinished : {rows : List (List Cell)} → length s ≤ 65536 → File s rows → Unfinished rows → t ≡ refused 4 (length rows + 1) → Says s t
   book : {js : Jobs} → JobBook s js → t ≡ given (count js) (values js) → Says s t
-
--- the numbers of the code's refusals
-abbrev pub refusal-number : Refusal → ℕ
-refusal-number TooLong = 1
-refusal-number NotCsv = 2
-refusal-number NoForm = 3
-refusal-number NoPlace = 4
-refusal-number TooMany = 5
-refusal-number UsedKey = 6
 
 -- an answer in the paper's numbers and values
 abbrev pub told : Count → List Job → Told

@@ -1,20 +1,19 @@
 -- The jobs of a book as values: by key, kinds and numbers, and without their notes.
-use Prim.Native.Nat.{ℕ, _-_, _<_}
+use Prim.Native.Nat.{_-_}
 use mathlib.Core.Path.{_≡_}
 use mathlib.Core.List.{List, [], _∷_, _++_}
-use lib.ListN.{length, replicate, getD}
-use Rattle.fields.specs.declared.Name.{Name}
+use lib.ListN.{length, replicate}
 use Rattle.kinds.specs.Table.{blank-numbers}
 use Rattle.kinds.specs.declared.Numbers.{Numbers}
 use Rattle.kinds.specs.declared.Row.{Row}
 use Rattle.rows.specs.Form.{BookRow}
-use Rattle.rows.specs.Answer.{no-row}
-use Rattle.rows.specs.declared.Key.{Key}
-use Rattle.rows.specs.declared.Keyed.{Keyed}
+use Rattle.keys.specs.Keyed.{no-row}
+use Rattle.keys.specs.declared.Key.{Key}
+use Rattle.keys.specs.declared.Keyed.{Keyed}
 use Rattle.jobs.specs.Place.{no-job}
 use Rattle.jobs.specs.declared.Job.{Job}
-use Rattle.jobs.specs.declared.Stage.{Stage}
-use Rattle.jobs.specs.declared.Stage.the-variants.{Dry, Scoured, Crossed}
+use Rattle.placing.specs.declared.Stage.{Stage}
+use Rattle.placing.specs.declared.Stage.the-variants.{Dry, Scoured, Crossed}
 use Rattle.book.specs.JobBook.{River, dry, scoured, crossed, Written, job, base, Jobs, none, _and_, job-rows}
 
 abbrev pub stage-of : River → Stage
@@ -79,13 +78,3 @@ keys-of (js and j) = keys-of js ++ base j .keyed .key ∷ []
 
 abbrev pub key-places : List Key → List Key
 key-places ks = in-places (no-row .key) ks
-
--- what stands in no list
-abbrev pub void-key : Key
-void-key = record { member = record { len = 0; bytes = [] }; job = record { len = 0; bytes = [] } }
-
--- a key is among the first n
-pub record Among (ks : List Key) (n : ℕ) (k : Key) : Type 0 where
-  pub at : ℕ
-  pub within : at < n
-  pub is : getD ks at void-key ≡ k

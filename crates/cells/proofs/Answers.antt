@@ -1,14 +1,14 @@
 -- Each promise of `src/` is met by one answer only.
-use Prim.Native.Nat.{ℕ, _+_, _≤_, _<_}
+use Prim.Native.Nat.{ℕ, _≤_, _<_}
 use native.Mathlib.Decide.{decLt, decLe}
 use native.Mathlib.Omega.{arith}
-use mathlib.Core.Path.{_≡_, refl, sym, ap, subst, _∙_}
-use mathlib.Core.List.{List, [], _∷_}
+use mathlib.Core.Path.{_≡_, sym, subst, _∙_}
+use mathlib.Core.List.{List, _∷_}
 use lib.ListN.{length, getD, drop}
 use lib.Seq.{ext-getD}
 use Rattle.csv.specs.Rfc4180.{Cell, File, Readable}
 use Rattle.csv.proofs.First.{first, some-row}
-use Rattle.cells.specs.Cells.{Stretch, offset, no-cell, RowIs, RowAt, Stands, CellAt}
+use Rattle.cells.specs.Cells.{RowIs, RowAt, Stands, CellAt}
 use Rattle.cells.specs.declared.Cells.{Cells}
 
 module _ {s : List ℕ} {start : ℕ} {fs : List Cell} {rs : List (List Cell)} {r q : Cells} (h : RowIs s start fs rs r) (k : RowIs s start fs rs q) where

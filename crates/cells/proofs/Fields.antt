@@ -1,7 +1,7 @@
 -- Each field of a row is one.
 use Prim.Native.Nat.{ℕ, zero, suc, _<_}
 use native.Mathlib.Nat.{le-of-suc-le-suc, not-suc-le-zero}
-use mathlib.Core.List.{List, [], _∷_}
+use mathlib.Core.List.{List, _∷_}
 use lib.ListN.{length, getD}
 use Rattle.csv.specs.Rfc4180.{Cell, Field, Record, only, then, File, last, closed, next}
 use Rattle.cells.specs.Cells.{no-cell}

@@ -6,17 +6,15 @@ use native.Mathlib.Numerals.{add-one}
 use native.Mathlib.Omega.{arith}
 use mathlib.Core.Path.{_≡_, refl, sym, ap, subst, _∙_}
 use mathlib.Core.List.{List, [], _∷_, _++_, append-assoc, append-nil}
-use lib.ListN.{length, getD, set, take, drop, replicate, length-append, length-set, length-drop}
+use lib.ListN.{length, getD, set, drop, replicate, length-append, length-set, length-drop}
 use lib.Seq.{getD-set-same, getD-set-other, getD-at, length-take-le}
-use Rattle.csv.specs.Rfc4180.{COMMA, CR, LF, Cell, Field, File, Readable, Rest, nothing, more}
+use Rattle.csv.specs.Rfc4180.{COMMA, CR, LF, Cell, File, Readable, Rest, nothing, more}
 use Rattle.csv.specs.Answer.{part, FieldTo, FieldAt}
-use Rattle.csv.specs.declared.Ended.{Ended}
-use Rattle.csv.specs.declared.Ended.the-variants.{Comma, Row, End, Bad}
+use Rattle.csv.specs.declared.Ended.the-variants.{Comma, Row, End}
 use Rattle.csv.proofs.Parts.{part-rest, past}
 use Rattle.csv.proofs.First.{cell, comma-rows, row-rows, end-rows}
-use Rattle.csv.proofs.Steps.{Step, step-comma, step-row, step-bad}
+use Rattle.csv.proofs.Steps.{step-comma, step-row}
 use Rattle.cells.specs.Cells.{Stretch, no-cell, offset, RowIs, RowAt}
-use Rattle.cells.specs.declared.Cells.{Cells}
 
 pub offset-none : (fs : List Cell) → offset fs 0 ≡ 0
 unfolding offset

@@ -1,40 +1,7 @@
 // Reads a job book from standard input and prints its jobs' lines in book order, or the one line of a refused book
 // (document 01, The printed answer). The book is read once.
-use block::Block;
-use book::Count;
-use jobs::Job;
 use libc::STDERR_FILENO;
 use libc::STDIN_FILENO;
-use libc::STDOUT_FILENO;
-
-fn print(block: Block) {
-    let bytes = block.bytes;
-    let len = block.len;
-    if len <= 2048 {
-        io::write_all(STDOUT_FILENO, &bytes[0..len]);
-    }
-}
-
-fn print_jobs(jobs: [Job; 64], count: usize) {
-    let mut i: usize = 0;
-    while i < 64 {
-        if i < count {
-            let job = jobs[i];
-            print(debtarush::lines_of(job));
-        }
-        i += 1;
-    }
-}
-
-fn print_book(text: &[u8]) {
-    let b = book::read_book(text);
-    let count = b.count;
-    let jobs = b.jobs;
-    match count {
-        Count::Given(n) => print_jobs(jobs, n),
-        Count::Refused(why, row) => print(printing::book_line(book::number_of(why), row)),
-    }
-}
 
 // Whether the input has no more: a failed read says neither that it ended nor what follows.
 fn has_ended() -> bool {
@@ -55,5 +22,5 @@ fn main() {
             return;
         }
     }
-    print_book(&text[..len]);
+    show::print_book(&text[..len]);
 }

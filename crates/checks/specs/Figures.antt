@@ -29,12 +29,18 @@ Slides friction n h Nothing = (0 < n) × (h ≡ 0)
 Slides friction n h (Number v) = ((n ≡ 0) × (v ≡ 0)) ⊎ ((0 < n) × (0 < h) × RoundedDown (friction * n) (10 * h) v)
 Slides friction n h Off = ⊥
 
--- PR, rounded up (5.16.2.5): "off" if N ≤ 0 or |M| ≥ NB. If 3|M| ≤ NB, 10⁶(NB+3|M|)/(B²L); else 4·10⁶·N²/(3L(NB-|M|)).
+-- PR's two rules, rounded up (5.16.2.5): the whole base is pressed, 10⁶(NB+3|M|)/(B²L); or a part of it, 4·10⁶·N²/(3L(NB-|M|)).
+abbrev pub PressesWhole : ℕ → ℕ → ℕ → ℕ → ℕ → Type 0
+PressesWhole width length n m v = RoundedUp (1000000 * (n * width + 3 * m)) (width * width * length) v
+
+abbrev pub PressesPart : ℕ → ℕ → ℕ → ℕ → ℕ → Type 0
+PressesPart width length n m v = RoundedUp (4000000 * (n * n)) (3 * length * (n * width - m)) v
+
+-- PR: "off" if N ≤ 0 or |M| ≥ NB. If 3|M| ≤ NB, the first rule; else the second.
 unfoldable pub Presses : ℕ → ℕ → ℕ → ℕ → Figure → Type 0
 Presses width length n m Nothing = ⊥
 Presses width length n m (Number v) =
-    (0 < n) × (m < n * width) × (3 * m ≤ n * width → RoundedUp (1000000 * (n * width + 3 * m)) (width * width * length) v)
-    × (n * width < 3 * m → RoundedUp (4000000 * (n * n)) (3 * length * (n * width - m)) v)
+    (0 < n) × (m < n * width) × (3 * m ≤ n * width → PressesWhole width length n m v) × (n * width < 3 * m → PressesPart width length n m v)
 Presses width length n m Off = (n ≡ 0) ⊎ (n * width ≤ m)
 
 -- RK (6.5.3 note): 1,000|M|/(2NB) rounded up; "off" if N ≤ 0.

@@ -1,20 +1,17 @@
-// The figures of a set, their limits, and Y or N (document 01, Load sets and limits; 002, 5.16.2.5, 6.5.3 note, 6.7, 6.8).
+// The figures of a set (document 01, Load sets; 002, 5.16.2.5, 6.5.3 note).
 //
 // What is hard is that the search compares figures as numbers: a figure's rank is one number of 64 bits whose order is that of the
 // figures, the worst first, with "none" at one end and "off" at the other, and the figure is read back from it.
 use sets::Balance;
-use sets::Combination;
 use sets::Loads;
 use sets::Sums;
 ghost use mathlib.Core.Path.{_≡_};
 ghost use mathlib.Core.Bool.{true};
 ghost use Prim.Native.Nat.{_*_, _^_, _<_, _≤_};
-ghost use Rattle.decides.specs.Decides.{Decides};
 ghost use Rattle.sets.specs.Sets.{Bounded};
 ghost use Rattle.sets.specs.Sums.{Room};
 ghost use Rattle.checks.specs.Figures.{Tips, Slides, Presses, Leans, Shows, Judged, Sized};
 ghost use Rattle.checks.specs.Order.{lowest, highest, side, Sound, rank, Ranks};
-ghost use Rattle.checks.specs.Limits.{TippingLimit, SlidingLimit, PressureLimit, Limit, Service, HasCheck, Passes};
 
 // The base: its width along the axis and its length in mm, the allowable pressure in kN/m², the friction in thousandths.
 pub struct Base {
@@ -160,123 +157,4 @@ pub fn figure_of(check: Check, base: Base, loads: Loads, set: u64) -> Figure
     let sums = sets::sums_of(base.width, loads, set);
     let r = rank_of(check, base, sums);
     figure_at(check, r)
-}
-
-// Whether a combination is one of service, I to III.
-pub fn serves(combination: Combination) -> bool
-    ensures { λ r. ⌜ Decides r (Service combination) ⌝ }
-{
-    match combination {
-        Combination::I => true,
-        Combination::II => true,
-        Combination::III => true,
-        Combination::IV => false,
-    }
-}
-
-// Whether a combination has a check.
-pub fn has_check(combination: Combination, check: Check, base: Base) -> bool
-    ensures { λ r. ⌜ Decides r (HasCheck combination check base) ⌝ }
-{
-    match check {
-        Check::OP => serves(combination),
-        Check::OM => serves(combination),
-        Check::SL => serves(combination),
-        Check::PR => true,
-        Check::RK => base.rock,
-    }
-}
-
-fn tipping_limit(combination: Combination) -> u64
-    requires { ⌜ Service combination ⌝ }
-    ensures { λ r. ⌜ TippingLimit combination r ⌝ }
-{
-    match combination {
-        Combination::I => 200,
-        Combination::II => 150,
-        Combination::III => 150,
-        Combination::IV => 0,
-    }
-}
-
-fn sliding_limit(combination: Combination) -> u64
-    requires { ⌜ Service combination ⌝ }
-    ensures { λ r. ⌜ SlidingLimit combination r ⌝ }
-{
-    match combination {
-        Combination::I => 150,
-        Combination::II => 125,
-        Combination::III => 125,
-        Combination::IV => 0,
-    }
-}
-
-fn pressure_limit(combination: Combination, allowable: u64) -> u64
-    requires { ⌜ allowable ≤ 10000 ⌝ }
-    ensures { λ r. ⌜ PressureLimit combination allowable r ⌝ }
-{
-    match combination {
-        Combination::I => allowable,
-        Combination::II => rounding::down(4 * allowable, 3),
-        Combination::III => rounding::down(4 * allowable, 3),
-        Combination::IV => rounding::down(7 * allowable, 5),
-    }
-}
-
-// The limit of a check that a combination has.
-pub fn limit_of(combination: Combination, check: Check, base: Base) -> u64
-    requires { ⌜ base .allowable ≤ 10000 ⌝ }
-    requires { ⌜ HasCheck combination check base ⌝ }
-    ensures { λ r. ⌜ Limit combination check base r ⌝ }
-{
-    match check {
-        Check::OP => tipping_limit(combination),
-        Check::OM => tipping_limit(combination),
-        Check::SL => sliding_limit(combination),
-        Check::PR => pressure_limit(combination, base.allowable),
-        Check::RK => 250,
-    }
-}
-
-fn low_passes(limit: u64, figure: Figure) -> bool
-    ensures { λ r. ⌜ Decides r (Passes lowest limit figure) ⌝ }
-{
-    match figure {
-        Figure::Nothing => true,
-        Figure::Number(v) => {
-            if limit <= v {
-                return true;
-            }
-            false
-        }
-        Figure::Off => false,
-    }
-}
-
-fn high_passes(limit: u64, figure: Figure) -> bool
-    ensures { λ r. ⌜ Decides r (Passes highest limit figure) ⌝ }
-{
-    match figure {
-        Figure::Nothing => true,
-        Figure::Number(v) => {
-            if v <= limit {
-                return true;
-            }
-            false
-        }
-        Figure::Off => false,
-    }
-}
-
-// Whether a line says Y.
-pub fn passes(check: Check, limit: u64, figure: Figure) -> bool
-    ensures { λ r. ⌜ Decides r (Passes (side check) limit figure) ⌝ }
-{
-    match check {
-        Check::OP => low_passes(limit, figure),
-        Check::OM => low_passes(limit, figure),
-        Check::SL => low_passes(limit, figure),
-        Check::PR => high_passes(limit, figure),
-        Check::RK => high_passes(limit, figure),
-    }
 }

@@ -1,17 +1,20 @@
 -- The choices of the free rows are the sets whose rows may stand in them: choice k makes the set `pick`, every such set is made by a choice, and the sums of the
 -- choice are those of the set.
 use mathlib.Core.Path.{_≡_, refl, sym, _∙_, ap, ap₂, subst}
-use Prim.Native.Nat.{ℕ, zero, suc, _+_, _-_, _^_, _≤_, _<_}
+use Prim.Native.Nat.{ℕ, zero, suc, _+_, _*_, _-_, _/_, _%_, _^_, _≤_, _<_}
 use native.Mathlib.Omega.{arith}
-use native.Mathlib.Nat.{pow-suc, lt-of-lt-of-le}
+use native.Mathlib.Nat.{pow-suc, lt-of-lt-of-le, suc-mul, le-refl, add-zero, add-suc}
+use native.Mathlib.Numerals.{add-one}
+use lib.Pow.{shr-shr}
+use lib.Pow.{split as parts-of}
 use native.Mathlib.Decide.{decLt}
 use lib.Dec.{lit<}
 use Rattle.sets.specs.declared.Loads.{Loads}
 use Rattle.sets.specs.declared.Sums.{Sums}
 use Rattle.sets.specs.Sets.{bit, row}
-use Rattle.sets.specs.Sums.{noSums, add, addIf, termsOf, sumsTo}
+use Rattle.sets.specs.Sums.{noSums, add, addIf, termsOf, sumsTo, Room}
 use Rattle.sets.proofs.Bits.{bit-two, bit-above, bit-own, bit-kept}
-use Rattle.sets.proofs.Adding.{add-swap, add-if-in, add-if-out}
+use Rattle.sets.proofs.Adding.{add-swap, add-if-in, add-if-out, room-more, room-if}
 use Rattle.choices.specs.declared.Stance.{Stance}
 use Rattle.choices.specs.declared.Stance.the-variants.{Never, Always, Either}
 use Rattle.choices.specs.Stance.{held, next, free, join, pick, fixedBy, fixed, chosen, rowTerms}
@@ -218,3 +221,58 @@ module _ (stance : ℕ → Stance) (width : ℕ) (loads : Loads) (table : ℕ �
       nothing : sumsTo width loads (pick stance 0 k) 0 ≡ chosen (fixed stance (rowTerms width loads) 0) table k (free stance 0)
       nothing = refl
   pick-sums (suc n) k h = step n k (stance n) refl (λ e. h n (omega arith) e) (pick-sums n k (λ i l. h i (omega arith)))
+
+-- ---- a choice, one row more
+pub chosen-none : (first : Sums) (table : ℕ → Sums) (k : ℕ) → first ≡ chosen first table k 0
+unfolding chosen
+chosen-none first table k = refl
+
+pub chosen-more : (first : Sums) (table : ℕ → Sums) (k m : ℕ) → chosen first table k (m + 1) ≡ addIf (bit k m) (chosen first table k m) (table m)
+unfolding chosen
+chosen-more first table k m = rw add-one
+
+pub chosen-room : (n : ℕ) (first : Sums) (table : ℕ → Sums) (k m : ℕ) → Room n first → ((j : ℕ) → j < m → Room 1 (table j)) → Room (n + m) (chosen first table k m)
+unfolding chosen
+chosen-room n first table k zero r h = room-more (omega arith) r
+chosen-room n first table k (suc m) r h =
+    room-more (omega arith) (room-if (bit k m) (chosen-room n first table k m r (λ j l. h j (omega arith))) (h m (omega arith)))
+
+-- ---- a choice in two parts: the rows from l on first, and then those before
+add-if-swap : (x y : ℕ) (a b c : Sums) → addIf x (addIf y a b) c ≡ addIf y (addIf x a c) b
+unfolding addIf
+add-if-swap zero zero a b c = refl
+add-if-swap zero (suc y) a b c = refl
+add-if-swap (suc x) zero a b c = refl
+add-if-swap (suc x) (suc y) a b c = add-swap a b c
+
+-- a row more before the others
+chosen-late : (held : ℕ) (first row : Sums) (table : ℕ → Sums) (k m : ℕ) → chosen (addIf held first row) table k m ≡ addIf held (chosen first table k m) row
+unfolding chosen
+chosen-late held first row table k zero = refl
+chosen-late held first row table k (suc m) =
+    ap (λ (s : Sums). addIf (bit k m) s (table m)) (chosen-late held first row table k m) ∙ add-if-swap (bit k m) held (chosen first table k m) row (table m)
+
+bits-low : (c h l j : ℕ) → j < l → bit (h * 2 ^ l + c) j ≡ bit c j
+bits-low c zero l j k = ap (λ (n : ℕ). bit n j) (omega arith)
+bits-low c (suc h) l j k =
+    let e : suc h * 2 ^ l + c ≡ (h * 2 ^ l + c) + 2 ^ l = omega (arith, suc-mul h (2 ^ l)) in
+    ap (λ (n : ℕ). bit n j) e ∙ bit-kept (h * 2 ^ l + c) j l k ∙ bits-low c h l j k
+
+chosen-low : (first : Sums) (table : ℕ → Sums) (k l m : ℕ) → m ≤ l → chosen first table (k % 2 ^ l) m ≡ chosen first table k m
+unfolding chosen
+chosen-low first table k l zero h = refl
+chosen-low first table k l (suc m) h =
+    let e : bit (k % 2 ^ l) m ≡ bit k m = sym (bits-low (k % 2 ^ l) (k / 2 ^ l) l m h) ∙ ap (λ (n : ℕ). bit n m) (parts-of k l) in
+    ap₂ (λ (x : ℕ) (s : Sums). addIf x s (table m)) e (chosen-low first table k l m (omega arith))
+
+bit-high : (k l j : ℕ) → bit (k / 2 ^ l) j ≡ bit k (l + j)
+unfolding bit
+bit-high k l j = ap (λ (n : ℕ). n % 2) (shr-shr k l j)
+
+pub chosen-parts : (first : Sums) (table : ℕ → Sums) (k l n : ℕ) → chosen (chosen first (λ j. table (l + j)) (k / 2 ^ l) n) table (k % 2 ^ l) l ≡ chosen first table k (l + n)
+unfolding chosen
+chosen-parts first table k l zero = chosen-low first table k l l (le-refl l) ∙ ap (chosen first table k) (sym (add-zero l))
+chosen-parts first table k l (suc n) =
+    chosen-late (bit (k / 2 ^ l) n) (chosen first (λ j. table (l + j)) (k / 2 ^ l) n) (table (l + n)) table (k % 2 ^ l) l
+    ∙ ap₂ (λ (x : ℕ) (s : Sums). addIf x s (table (l + n))) (bit-high k l n) (chosen-parts first table k l n)
+    ∙ ap (chosen first table k) (sym (add-suc l n))

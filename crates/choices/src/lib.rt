@@ -1,11 +1,49 @@
 // The choices of a combination's free rows, and the sets that they make.
 //
-// There is only a type here, what a row is to the sets of a combination, and the laws that every permitted set is a choice and that
-// the sums of a choice are those of its set. A search in any order of the choices rests on them.
+// What a row is to the sets of a combination, and the laws that every permitted set is a choice and that the sums of a choice are
+// those of its set. A search in any order of the choices rests on them.
+use sets::Class;
+use sets::Combination;
+use sets::Load;
+ghost use mathlib.Core.Path.{_≡_};
+ghost use Rattle.choices.specs.Stance.{byClass, stanceOf};
 
 // A row is in no set of the combination, in every one, or free.
 pub enum Stance {
     Never,
     Always,
     Either,
+}
+
+fn by_class(combination: Combination, class: Class) -> Stance
+    ensures { λ r. ⌜ r ≡ byClass combination class ⌝ }
+{
+    match class {
+        Class::Permanent => Stance::Always,
+        Class::Free => Stance::Either,
+        Class::Wind => match combination {
+            Combination::I => Stance::Never,
+            Combination::II => Stance::Either,
+            Combination::III => Stance::Never,
+            Combination::IV => Stance::Either,
+        },
+        Class::Earthquake => match combination {
+            Combination::I => Stance::Never,
+            Combination::II => Stance::Never,
+            Combination::III => Stance::Either,
+            Combination::IV => Stance::Either,
+        },
+    }
+}
+
+// What a row is to the sets of a combination.
+pub fn stance_of(combination: Combination, load: Load) -> Stance
+    ensures { λ r. ⌜ r ≡ stanceOf combination load ⌝ }
+{
+    let phase = load.phase;
+    let class = load.class;
+    if !permits::acts(combination, phase) {
+        return Stance::Never;
+    }
+    by_class(combination, class)
 }

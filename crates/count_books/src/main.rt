@@ -8,10 +8,10 @@ fn put(text: &[u8]) {
 }
 
 fn show(text: &[u8]) {
-    let count = book::count_jobs(text);
+    let count = reader::count_jobs(text);
     match count {
         Count::Given(n) => {
-            let note = book::note_of(text, 1);
+            let note = reader::note_of(text, 1);
             put(b" jobs ");
             io::print_decimal(STDOUT_FILENO, n as u64);
             put(b" note ");
@@ -19,7 +19,7 @@ fn show(text: &[u8]) {
         }
         Count::Refused(why, row) => {
             put(b" refused ");
-            io::print_decimal(STDOUT_FILENO, book::number_of(why) as u64);
+            io::print_decimal(STDOUT_FILENO, refusals::number_of(why) as u64);
             put(b" row ");
             io::print_decimal(STDOUT_FILENO, row as u64);
         }

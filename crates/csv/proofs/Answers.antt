@@ -1,13 +1,12 @@
 -- Each promise of `src/` is met by one answer only.
-use Prim.Native.Nat.{ℕ, suc, _+_, _-_, _≤_, _<_}
+use Prim.Native.Nat.{ℕ, _-_, _≤_}
 use native.Mathlib.Nat.{le-refl}
 use native.Mathlib.Omega.{arith}
 use mathlib.Core.Path.{_≡_, refl, sym, ap, subst, _∙_}
-use mathlib.Core.List.{List, [], _∷_, _++_}
-use lib.ListN.{length, take, drop, length-drop}
+use mathlib.Core.List.{List}
+use lib.ListN.{length, drop, length-drop}
 use lib.Seq.{length-take-le}
-use Rattle.csv.specs.Rfc4180.{COMMA, CR, LF, Cell, Field, File, Readable, Stop, at-end, at-comma, at-row}
-use Rattle.decides.specs.Decides.{Decides}
+use Rattle.csv.specs.Rfc4180.{COMMA, CR, Cell, File, Stop, at-end, at-comma, at-row}
 use Rattle.csv.specs.Answer.{part, FieldTo, FieldAt}
 use Rattle.csv.specs.declared.Ended.{Ended}
 use Rattle.csv.specs.declared.Ended.the-variants.{Comma, Row, End, Bad}

@@ -1,15 +1,15 @@
 -- A field that the loops found, with what follows it: the answer of `field_end`.
-use Prim.Native.Nat.{ℕ, suc, _+_, _-_, _≤_, _<_}
+use Prim.Native.Nat.{ℕ, suc, _+_, _-_}
 use native.Mathlib.Omega.{arith}
-use mathlib.Core.Path.{_≡_, refl, sym, ap, subst, _∙_}
-use mathlib.Core.List.{List, [], _∷_, _++_, append-assoc, append-nil}
-use lib.ListN.{length, getD, take, drop}
-use Rattle.csv.specs.Rfc4180.{COMMA, CR, DQUOTE, LF, Textdata, Plain, Inside, Escaped, Field, plain, quoted, Stop, at-end, at-comma, at-row}
-use Rattle.csv.specs.Answer.{part, Begins, PlainTo, EscapedTo, ClosedAt, StopAt, FieldTo, FieldAt}
+use mathlib.Core.Path.{_≡_, sym, ap, subst, _∙_}
+use mathlib.Core.List.{List, [], _∷_, _++_, append-assoc}
+use lib.ListN.{getD, drop}
+use Rattle.csv.specs.Rfc4180.{COMMA, CR, DQUOTE, LF, Escaped, Field, plain, quoted, Stop}
+use Rattle.csv.specs.Answer.{part, Begins, PlainTo, EscapedTo, StopAt, FieldTo, FieldAt}
 use Rattle.csv.specs.declared.Ended.{Ended}
 use Rattle.csv.specs.declared.Ended.the-variants.{Comma, Row, End, Bad}
-use Rattle.csv.proofs.Unique.{nil-cons, heads, tails, PlainHalts, plain-unique, escaped-unique, closing-halts, plain-quote, stop-quote, stop-plain}
-use Rattle.csv.proofs.Parts.{at-index, part-more, part-rest, begins-at, begins-is, begins-lt, begins-behind}
+use Rattle.csv.proofs.Unique.{tails, plain-unique, escaped-unique, closing-halts, plain-quote, stop-quote, stop-plain}
+use Rattle.csv.proofs.Parts.{part-more, part-rest, begins-at, begins-is, begins-lt, begins-behind}
 
 -- every field at this place with an end behind it has that end where ours has it
 abbrev pub Follows : List ℕ → ℕ → ℕ → Type 0

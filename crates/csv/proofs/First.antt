@@ -4,7 +4,7 @@ use mathlib.Core.Path.{_≡_, refl, sym, ap, _∙_, subst}
 use mathlib.Core.Logic.{_↔_}
 use native.Mathlib.Omega.{arith}
 use mathlib.Core.List.{List, [], _∷_, _++_, append-assoc, append-nil}
-use Rattle.csv.specs.Rfc4180.{COMMA, CR, LF, Plain, none, Field, plain, Cell, Record, only, then, File, last, closed, next, Readable, Stop, at-end, at-comma, at-row, Rest, nothing, more}
+use Rattle.csv.specs.Rfc4180.{COMMA, CR, LF, none, Field, plain, Cell, only, then, File, last, closed, next, Readable, Stop, at-end, at-comma, at-row, Rest, nothing, more}
 use Rattle.csv.proofs.Unique.{nil-cons, heads, tails, cells, field-unique, stop-halts}
 
 -- a text's rows, and the four ways it goes on behind its first field

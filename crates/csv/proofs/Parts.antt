@@ -3,12 +3,11 @@ use Prim.Native.Nat.{ℕ, suc, _+_, _-_, _≤_, _<_}
 use native.Mathlib.Nat.{sub-self}
 use native.Mathlib.Numerals.{add-one}
 use native.Mathlib.Omega.{arith}
-use mathlib.Core.Path.{_≡_, refl, sym, ap, subst, _∙_}
-use mathlib.Core.List.{List, [], _∷_, _++_, append-assoc, append-nil}
-use lib.ListN.{length, getD, take, drop, take-append-drop, length-drop, drop-of-length-le}
+use mathlib.Core.Path.{_≡_, sym, ap, _∙_}
+use mathlib.Core.List.{List, [], _∷_, _++_}
+use lib.ListN.{length, getD, drop, take-append-drop, length-drop, drop-of-length-le}
 use lib.Seq.{take-suc, drop-cons, drop-drop, getD-drop}
-use Rattle.decides.specs.Decides.{Decides}
-use Rattle.csv.specs.Answer.{part, Begins}
+use Rattle.csv.specs.Answer.{part}
 use Rattle.csv.proofs.Unique.{nil-cons, heads, tails}
 
 module _ (s : List ℕ) where

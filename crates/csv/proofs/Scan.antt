@@ -1,14 +1,13 @@
 -- Stretches that grow at their end, as the loops go over them.
-use Prim.Native.Nat.{ℕ, suc, _+_, _-_, _≤_, _<_}
-use native.Mathlib.Nat.{add-assoc}
+use Prim.Native.Nat.{ℕ, _+_, _-_, _≤_, _<_}
 use native.Mathlib.Omega.{arith}
-use mathlib.Core.Path.{_≡_, refl, sym, ap, subst, _∙_}
-use mathlib.Core.List.{List, [], _∷_, _++_, append-assoc, append-nil}
+use mathlib.Core.Path.{_≡_, refl, sym, ap, _∙_}
+use mathlib.Core.List.{List, [], _∷_, _++_, append-assoc}
 use lib.ListN.{length, getD, drop}
-use Rattle.csv.specs.Rfc4180.{COMMA, CR, DQUOTE, LF, Textdata, Plain, none, text, Inside, Escaped, empty, byte, quotes, Field, plain, quoted, Stop, at-end, at-comma, at-row}
-use Rattle.csv.specs.Answer.{part, Begins, PlainTo, EscapedTo, ClosedAt}
-use Rattle.csv.proofs.Unique.{nil-cons, heads, tails, inside-quote, EscapedHalts, closing-halts, escaped-unique}
-use Rattle.csv.proofs.Parts.{at-index, past, part-none, part-more, part-rest, begins-at, begins-is, begins-lt, begins-behind, past-begins}
+use Rattle.csv.specs.Rfc4180.{COMMA, CR, DQUOTE, LF, Textdata, Plain, none, text, Inside, Escaped, empty, byte, quotes, Stop, at-end, at-comma, at-row}
+use Rattle.csv.specs.Answer.{part, Begins, EscapedTo}
+use Rattle.csv.proofs.Unique.{nil-cons, EscapedHalts, closing-halts, escaped-unique}
+use Rattle.csv.proofs.Parts.{at-index, part-none, part-more, part-rest, begins-at, begins-is, begins-lt}
 
 plain-snoc : {s : List ℕ} {b : ℕ} → Plain s → Textdata b → Plain (s ++ b ∷ [])
 plain-snoc none h = text h none

@@ -1,8 +1,8 @@
 -- What the two choices of `Rfc4180` come to: they refuse no text of the ABNF, and the readings of the smallest texts are the customer's.
 use Prim.Native.Nat.{ℕ}
-use mathlib.Core.Path.{_≡_, refl, sym, subst}
+use mathlib.Core.Path.{_≡_, refl, sym}
 use mathlib.Core.List.{List, [], _∷_, _++_}
-use Rattle.csv.specs.Rfc4180.{CR, LF, Cell, Plain, none, Field, plain, Record, only, File, last, closed, next, Readable}
+use Rattle.csv.specs.Rfc4180.{CR, LF, Cell, none, plain, Record, only, File, last, closed, next, Readable}
 use Rattle.csv.proofs.Unique.{nil-cons, file-unique}
 use Rattle.csv.proofs.First.{cell}
 

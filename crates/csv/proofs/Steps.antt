@@ -1,14 +1,13 @@
 -- From one field's start to the next: a text is readable from the one exactly if it is from the other.
-use Prim.Native.Nat.{ℕ, suc, _+_, _≤_, _<_}
+use Prim.Native.Nat.{ℕ, _+_, _≤_, _<_}
 use native.Mathlib.Nat.{le-refl}
 use native.Mathlib.Omega.{arith}
-use mathlib.Core.Path.{_≡_, refl, sym, ap, subst, _∙_}
+use mathlib.Core.Path.{_≡_, ap, _∙_}
 use mathlib.Core.Logic.{_↔_}
-use mathlib.Core.List.{List, [], _∷_, _++_, append-nil}
+use mathlib.Core.List.{List, _∷_, _++_, append-nil}
 use lib.ListN.{length, drop, length-drop}
-use Rattle.csv.specs.Rfc4180.{COMMA, CR, LF, Field, Readable, Stop}
-use Rattle.csv.specs.Answer.{part, FieldTo, FieldAt}
-use Rattle.csv.specs.declared.Ended.{Ended}
+use Rattle.csv.specs.Rfc4180.{COMMA, CR, LF, Readable}
+use Rattle.csv.specs.Answer.{part, FieldAt}
 use Rattle.csv.specs.declared.Ended.the-variants.{Comma, Row, End, Bad}
 use Rattle.csv.proofs.First.{comma-readable, row-readable, end-readable, starts}
 use Rattle.csv.proofs.Parts.{part-rest, past}

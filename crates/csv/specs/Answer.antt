@@ -1,7 +1,7 @@
 -- What the functions of `src/` answer, case by case, in terms of RFC 4180 as `Rfc4180` states it.
 use Prim.Native.Nat.{ℕ, _+_, _-_, _≤_, _<_}
 use mathlib.Core.Path.{_≡_}
-use mathlib.Core.List.{List, [], _∷_, _++_}
+use mathlib.Core.List.{List, _∷_, _++_}
 use lib.ListN.{length, take, drop}
 use Rattle.csv.specs.Rfc4180.{COMMA, CR, DQUOTE, LF, Textdata, Plain, Escaped, Field, Stop}
 use Rattle.csv.specs.declared.Ended.{Ended}

@@ -1,13 +1,11 @@
-// RFC 4180 text, read from a lent slice (document 01, the job book; refusal 2): whether it is one, and where the field at
-// a place ends.
+// RFC 4180 text, read from a lent slice (document 01, the job book): where the field at a place ends.
 //
 // What RFC 4180 is stands in `specs/Rfc4180.antt`, a data type for each line of its grammar. What is hard is that the
-// grammar gives a text one reading at most, and that one walk from field to field decides whether it has one: from the
-// start of a field, the text is readable exactly if it is from the start of the next.
+// grammar gives a text one reading at most, so that the field at a place, with what may follow it, is one.
 ghost use mathlib.Core.Path.{_≡_};
 ghost use Prim.Native.Nat.{ℕ, _+_, _≤_, _<_};
 ghost use lib.ListN.{length, drop};
-ghost use Rattle.csv.specs.Rfc4180.{Textdata, Inside, Readable};
+ghost use Rattle.csv.specs.Rfc4180.{Textdata, Inside};
 ghost use Rattle.decides.specs.Decides.{Decides};
 ghost use Rattle.csv.specs.Answer.{Begins, PlainTo, ClosedAt, StopAt, FieldAt};
 
@@ -154,25 +152,5 @@ pub fn field_end(s: &[u8], at: usize) -> Ended
     } else {
         let e = plain_end(s, at);
         stop_at(s, e)
-    }
-}
-
-// Whether the text is RFC 4180.
-pub fn is_csv(s: &[u8]) -> bool
-    ensures { λ r. ⌜ Decides r (Readable (now (s .entry))) ⌝ }
-{
-    let mut at: usize = 0;
-    loop {
-        let f = field_end(s, at);
-        match f {
-            Ended::Comma(e) => {
-                at = e + 1;
-            }
-            Ended::Row(e) => {
-                at = e + 2;
-            }
-            Ended::End => return true,
-            Ended::Bad => return false,
-        }
     }
 }

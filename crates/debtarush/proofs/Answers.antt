@@ -1,7 +1,7 @@
 -- A call has one answer, and leaves one state of the buffer.
-use Prim.Native.Nat.{ℕ, _≤_, _<_}
+use Prim.Native.Nat.{ℕ}
 use native.Mathlib.Omega.{arith}
-use mathlib.Core.Path.{_≡_, refl, sym, ap, subst, _∙_}
+use mathlib.Core.Path.{_≡_, sym, ap, subst, _∙_}
 use mathlib.Core.List.{List, _++_}
 use lib.ListN.{length, drop}
 use Rattle.jobs.specs.declared.Job.{Job}
@@ -12,10 +12,8 @@ use Rattle.book.specs.Notes.{RowIn}
 use Rattle.book.proofs.Answers.{says-one, refused-none, book-one}
 use Rattle.book.proofs.Noting.{row-one}
 use Rattle.earth.specs.declared.Coefficient.{Coefficient}
-use Rattle.lines.specs.declared.Answer.{Answer}
-use Rattle.answer.proofs.Answers.{answer-one}
-use Rattle.printing.specs.Text.{text}
-use Rattle.debtarush.specs.Called.{Told, written, refused, TextOf, Called, no-book, no-place, too-short, lines}
+use Rattle.job_text.proofs.Answers.{text-one}
+use Rattle.debtarush.specs.Called.{Told, written, refused, Called, no-book, no-place, too-short, lines}
 
 module _ {b : List ℕ} {place : ℕ} where
   -- the job at a place is one
@@ -30,30 +28,24 @@ refusal : book.Told → Told
 refusal (book.given n js) = written n
 refusal (book.refused n row) = refused n row
 
-module _ {fill : ℕ → ℕ → Coefficient} where
-  pub text-one : {j k : Job} {s t : List ℕ} → j ≡ k → TextOf fill j s → TextOf fill k t → s ≡ t
-  text-one {j} {k} {s} e p q =
-      let p′ = subst (λ (x : Job). TextOf fill x s) e p in
-      p′ .are ∙ ap (text (k .key)) (answer-one fill k (p′ .answer) (q .answer) (p′ .is) (q .is)) ∙ sym (q .are)
-
-  module _ {b : List ℕ} {place : ℕ} {before : List ℕ} where
-    pub called-one : {x y : List ℕ} {t u : Told} → Called fill b place before x t → Called fill b place before y u → (x ≡ y) × (t ≡ u)
-    unfolding refusal
-    called-one (no-book p a e) (no-book q c f) = (a ∙ sym c, e ∙ ap refusal (says-one p q) ∙ sym f)
-    called-one (no-book p a e) (no-place q m c f) = absurd (refused-none p _ q)
-    called-one (no-book p a e) (too-short q r s l c f) = absurd (refused-none p _ q)
-    called-one (no-book p a e) (lines q r s l c f) = absurd (refused-none p _ q)
-    called-one (no-place p m a e) (no-book q c f) = absurd (refused-none q _ p)
-    called-one (no-place p m a e) (no-place q n c f) = (a ∙ sym c, e ∙ sym f)
-    called-one (no-place p m a e) (too-short q r s l c f) = absurd (there q p r m)
-    called-one (no-place p m a e) (lines q r s l c f) = absurd (there q p r m)
-    called-one (too-short p r s l a e) (no-book q c f) = absurd (refused-none q _ p)
-    called-one (too-short p r s l a e) (no-place q m c f) = absurd (there p q r m)
-    called-one (too-short p r s l a e) (too-short q u v k c f) = (a ∙ sym c, e ∙ sym f)
-    called-one (too-short p r s l a e) (lines q u v k c f) = let z = ap length (text-one (job-one p q r u) s v) in absurd (omega arith)
-    called-one (lines p r s l a e) (no-book q c f) = absurd (refused-none q _ p)
-    called-one (lines p r s l a e) (no-place q m c f) = absurd (there p q r m)
-    called-one (lines p r s l a e) (too-short q u v k c f) = let z = ap length (text-one (job-one p q r u) s v) in absurd (omega arith)
-    called-one (lines p r s l a e) (lines q u v k c f) =
-        let z = text-one (job-one p q r u) s v in
-        (a ∙ ap (λ (t : List ℕ). t ++ drop (length t) before) z ∙ sym c, e ∙ ap (λ (t : List ℕ). written (length t)) z ∙ sym f)
+module _ {fill : ℕ → ℕ → Coefficient} {b : List ℕ} {place : ℕ} {before : List ℕ} where
+  pub called-one : {x y : List ℕ} {t u : Told} → Called fill b place before x t → Called fill b place before y u → (x ≡ y) × (t ≡ u)
+  unfolding refusal
+  called-one (no-book p a e) (no-book q c f) = (a ∙ sym c, e ∙ ap refusal (says-one p q) ∙ sym f)
+  called-one (no-book p a e) (no-place q m c f) = absurd (refused-none p _ q)
+  called-one (no-book p a e) (too-short q r s l c f) = absurd (refused-none p _ q)
+  called-one (no-book p a e) (lines q r s l c f) = absurd (refused-none p _ q)
+  called-one (no-place p m a e) (no-book q c f) = absurd (refused-none q _ p)
+  called-one (no-place p m a e) (no-place q n c f) = (a ∙ sym c, e ∙ sym f)
+  called-one (no-place p m a e) (too-short q r s l c f) = absurd (there q p r m)
+  called-one (no-place p m a e) (lines q r s l c f) = absurd (there q p r m)
+  called-one (too-short p r s l a e) (no-book q c f) = absurd (refused-none q _ p)
+  called-one (too-short p r s l a e) (no-place q m c f) = absurd (there p q r m)
+  called-one (too-short p r s l a e) (too-short q u v k c f) = (a ∙ sym c, e ∙ sym f)
+  called-one (too-short p r s l a e) (lines q u v k c f) = let z = ap length (text-one (job-one p q r u) s v) in absurd (omega arith)
+  called-one (lines p r s l a e) (no-book q c f) = absurd (refused-none q _ p)
+  called-one (lines p r s l a e) (no-place q m c f) = absurd (there p q r m)
+  called-one (lines p r s l a e) (too-short q u v k c f) = let z = ap length (text-one (job-one p q r u) s v) in absurd (omega arith)
+  called-one (lines p r s l a e) (lines q u v k c f) =
+      let z = text-one (job-one p q r u) s v in
+      (a ∙ ap (λ (t : List ℕ). t ++ drop (length t) before) z ∙ sym c, e ∙ ap (λ (t : List ℕ). written (length t)) z ∙ sym f)

@@ -1,4 +1,3 @@
 -- Laws of the calls. Other crates' proofs cite them.
-pub mod Fitting
 pub mod Placing
 pub mod Answers

@@ -2,7 +2,7 @@
 use Prim.Native.Nat.{ℕ, suc, _+_, _-_, _≤_, _<_}
 use native.Mathlib.Omega.{arith}
 use mathlib.Core.Path.{_≡_, refl, sym, ap, subst, _∙_}
-use mathlib.Core.List.{List, [], _∷_, _++_}
+use mathlib.Core.List.{List, _∷_, _++_}
 use lib.ListN.{length, getD, take, drop, replicate, length-append, take-append-drop, List·getD-append}
 use lib.Seq.{drop-cons, length-take-le}
 use Rattle.jobs.specs.declared.Job.{Job}
@@ -13,8 +13,8 @@ use Rattle.book.specs.Says as book
 use Rattle.book.specs.Notes.{RowIn}
 use Rattle.book.specs.declared.Book.{Book}
 use Rattle.book.specs.declared.Count.{Count}
-use Rattle.book.specs.declared.Count.the-variants.{Given, Refused}
-use Rattle.book.proofs.Answers.{Accepted, read-exactly}
+use Rattle.book.specs.declared.Count.the-variants.{Given}
+use Rattle.book.proofs.Answers.{read-exactly}
 use Rattle.book.proofs.Keeping.{values-many}
 use Rattle.earth.specs.declared.Coefficient.{Coefficient}
 use Rattle.block.specs.declared.Block.{Block}
@@ -23,7 +23,8 @@ use Rattle.block.specs.declared.Written.the-variants.{Length, TooShort}
 use Rattle.block.specs.Block as block
 use Rattle.block.specs.Written.{Wrote, told}
 use Rattle.block.proofs.Pages.{block-held}
-use Rattle.debtarush.specs.Called.{written, refused, LinesIn, Called, too-short, lines}
+use Rattle.job_text.specs.Lines.{LinesIn}
+use Rattle.debtarush.specs.Called.{written, refused, Called, too-short, lines}
 
 -- a book that is given has its jobs in the first places
 pub record Held (b : List ℕ) (n : ℕ) (jobs : List Job) : Type 0 where

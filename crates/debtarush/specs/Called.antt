@@ -6,14 +6,11 @@ use lib.ListN.{length, drop}
 use Rattle.jobs.specs.declared.Job.{Job}
 use Rattle.book.specs.JobBook.{Jobs, JobBook}
 use Rattle.book.specs.Values.{values}
+use Rattle.refusals.specs.Numbers.{refusal-number}
 use Rattle.book.specs.Says as book
 use Rattle.book.specs.Notes.{RowIn}
 use Rattle.earth.specs.declared.Coefficient.{Coefficient}
-use Rattle.lines.specs.declared.Answer.{Answer}
-use Rattle.answer.specs.Answer.{AnswerIs}
-use Rattle.printing.specs.Text.{text}
-use Rattle.block.specs.Block.{block-of}
-use Rattle.block.specs.declared.Block.{Block}
+use Rattle.job_text.specs.Lines.{TextOf}
 use Rattle.debtarush.specs.declared.Written.{Written}
 use Rattle.debtarush.specs.declared.Written.the-variants.{Length, Book, NoPlace, TooShort}
 
@@ -25,22 +22,9 @@ pub data Told : Type 0 where
 -- 1 to 6 as the book's; 10, the place is 0 or past the last job; 7, the buffer lent is shorter than the lines; both with row 0
 abbrev pub told : Written → Told
 told (Length n) = written n
-told (Book why row) = refused (book.refusal-number why) row
+told (Book why row) = refused (refusal-number why) row
 told NoPlace = refused 10 0
 told TooShort = refused 7 0
-
--- the bytes of a job's lines
-pub record TextOf (fill : ℕ → ℕ → Coefficient) (job : Job) (t : List ℕ) : Type 0 where
-  pub answer : Answer
-  pub is : AnswerIs fill job answer
-  pub are : t ≡ text (job .key) answer
-
--- the same in a block, whole
-pub record LinesIn (fill : ℕ → ℕ → Coefficient) (job : Job) (block : Block) : Type 0 where
-  pub bytes : List ℕ
-  pub lines : TextOf fill job bytes
-  pub fits : length bytes ≤ 2048
-  pub held : block ≡ block-of bytes
 
 -- a call for the lines of the job at a place of a book, with a buffer that held `before` and holds `after` then.
 -- "Nothing is written by a call refused with 1 to 7 or 10. Otherwise exactly the lines' bytes are written from the start and the rest is untouched"

@@ -2,13 +2,11 @@
 //
 // A call takes the book as it is lent and keeps nothing: the same bytes give the same answer. What is hard is in the rooms
 // below; here the refusals stand in their order, 1 to 6, then 10, then 7, and a refused call writes nothing.
-use block::Block;
 use book::Count;
-use book::Refusal;
-use jobs::Job;
+use refusals::Refusal;
 ghost use mathlib.Core.Path.{_≡_};
 ghost use Rattle.earth.specs.Table2.{table2-fill};
-ghost use Rattle.debtarush.specs.Called.{LinesIn, Called, told};
+ghost use Rattle.debtarush.specs.Called.{Called, told};
 
 // The length written; or the refusal of the book with its row, of the place, or of the buffer.
 pub enum Written {
@@ -18,20 +16,11 @@ pub enum Written {
     TooShort,
 }
 
-// The bytes of a job's lines.
-pub fn lines_of(job: Job) -> Block
-    ensures { λ r. ⌜ LinesIn table2-fill job r ⌝ }
-{
-    let key = job.key;
-    let answer = answer::answer_of(job);
-    printing::answer_text(key, answer)
-}
-
 // The lines of the job at a place of a book, written to the start of a lent buffer.
 pub fn job_lines(book: &[u8], place: usize, out: &mut [u8]) -> Written
     ensures { λ r. ⌜ Called table2-fill (now (book .entry)) place (now (out .entry)) (now (out .exit)) (told r) ⌝ }
 {
-    let b = book::read_book(book);
+    let b = reader::read_book(book);
     let count = b.count;
     let jobs = b.jobs;
     match count {
@@ -45,7 +34,7 @@ pub fn job_lines(book: &[u8], place: usize, out: &mut [u8]) -> Written
             }
             let at = place - 1;
             let job = jobs[at];
-            let block = lines_of(job);
+            let block = job_text::lines_of(job);
             match block::write_block(block, out) {
                 block::Written::Length(len) => Written::Length(len),
                 block::Written::TooShort => Written::TooShort,

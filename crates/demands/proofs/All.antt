@@ -1,7 +1,7 @@
 -- What holds of every one in a list, and of some one.
 use Prim.Native.Nat.{ℕ, _+_}
 use native.Mathlib.Omega.{arith}
-use mathlib.Core.Path.{_≡_, refl, ap, subst}
+use mathlib.Core.Path.{refl, ap, subst}
 use mathlib.Core.List.{List, [], _∷_, _++_}
 use Rattle.book.specs.Notes.{RowIn}
 

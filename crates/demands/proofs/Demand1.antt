@@ -8,7 +8,6 @@ use lib.ListN.{length, drop}
 use Rattle.jobs.specs.declared.Job.{Job}
 use Rattle.book.specs.JobBook.{Jobs, JobBook}
 use Rattle.book.specs.Values.{values}
-use Rattle.book.specs.Says as book
 use Rattle.book.specs.Notes.{RowIn}
 use Rattle.earth.specs.declared.Coefficient.{Coefficient}
 use Rattle.lines.specs.declared.Verdict.the-variants.{Refused}
@@ -16,8 +15,10 @@ use Rattle.lines.specs.Lines.{verdict-line, unless-refused, lines-of}
 use Rattle.answer.specs.Rules.{Refuses}
 use Rattle.answer.specs.Answer as answer
 use Rattle.printing.specs.Text.{line-text, texts, text}
-use Rattle.debtarush.specs.Called.{Told, written, refused, TextOf, Called, no-book, no-place, too-short, lines}
-use Rattle.debtarush.proofs.Answers.{text-one, called-one}
+use Rattle.job_text.specs.Lines.{TextOf}
+use Rattle.debtarush.specs.Called.{written, refused, Called, no-book, no-place, too-short, lines}
+use Rattle.job_text.proofs.Answers.{text-one}
+use Rattle.debtarush.proofs.Answers.{called-one}
 use Rattle.demands.specs.Demand1.{Demand1}
 use Rattle.demands.proofs.Numbers.{book-numbers}
 use Rattle.demands.proofs.Wrote.{reached, wrote}

@@ -2,9 +2,9 @@
 use Prim.Native.Nat.{ℕ}
 use native.Mathlib.Omega.{arith}
 use mathlib.Core.Path.{_≡_, refl, sym, ap, subst, _∙_}
-use mathlib.Core.List.{List, _∷_, _++_}
+use mathlib.Core.List.{List, _++_}
 use lib.ListN.{take}
-use Rattle.rows.specs.declared.Key.{Key}
+use Rattle.keys.specs.declared.Key.{Key}
 use Rattle.jobs.specs.declared.Job.{Job}
 use Rattle.book.specs.JobBook.{Jobs, JobBook}
 use Rattle.book.specs.Values.{values}
@@ -14,14 +14,13 @@ use Rattle.sets.specs.declared.Combination.{Combination}
 use Rattle.sets.specs.declared.Loads.{Loads}
 use Rattle.sets.specs.Sets.{Permitted}
 use Rattle.checks.specs.declared.Check.{Check}
-use Rattle.checks.specs.Limits.{HasCheck}
+use Rattle.limits.specs.Limits.{HasCheck}
 use Rattle.loads.specs.Taken.{AreLoads, rowsOf}
 use Rattle.lines.specs.declared.Verdict.{Verdict}
 use Rattle.lines.specs.declared.Verdict.the-variants.{Accepted, NotAccepted, Refused}
 use Rattle.lines.specs.Lines.{PrintedLine, check, accepted, not-accepted, number, verdict-value, verdict-line, unless-refused, later-lines, lines-of}
 use Rattle.answer.specs.Rules.{Unrefused}
 use Rattle.answer.specs.Answer.{base-of}
-use Rattle.printing.specs.Keys.{IsKey}
 use Rattle.printing.specs.Text.{line-text, texts, text}
 use Rattle.printing.proofs.Injective.{line-injective, texts-injective}
 use Rattle.debtarush.specs.Called.{written, Called}

@@ -1,9 +1,9 @@
 -- Demand 3 holds.
 use Prim.Native.Nat.{ℕ, _≤_}
 use native.Mathlib.Omega.{arith}
-use mathlib.Core.Path.{_≡_, refl, sym, ap, _∙_}
+use mathlib.Core.Path.{_≡_, sym, ap, _∙_}
 use mathlib.Core.List.{List}
-use lib.ListN.{length, take}
+use lib.ListN.{length}
 use Rattle.jobs.specs.declared.Job.{Job}
 use Rattle.book.specs.JobBook.{Written, Jobs, JobBook}
 use Rattle.book.specs.Values.{value, SameJob}
@@ -12,7 +12,7 @@ use Rattle.book.proofs.Answers as read
 use Rattle.book.proofs.Same.{same-value}
 use Rattle.earth.specs.declared.Coefficient.{Coefficient}
 use Rattle.debtarush.specs.Called.{Told, written, refused, Called, no-book, no-place, too-short, lines}
-use Rattle.debtarush.proofs.Answers.{text-one}
+use Rattle.job_text.proofs.Answers.{text-one}
 use Rattle.demands.specs.Words.{listed}
 use Rattle.demands.specs.Demand3.{Demand3}
 use Rattle.demands.proofs.Keys.{good-job, value-at}

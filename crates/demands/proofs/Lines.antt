@@ -1,8 +1,8 @@
 -- Each line of a check in a job's answer names a permitted set that reaches its figure, and none is worse; and no check that applies is left out.
 use Prim.Native.Nat.{ℕ}
 use native.Mathlib.Omega.{arith}
-use mathlib.Core.Path.{_≡_, refl, sym, ap, subst}
-use mathlib.Core.List.{List, [], _∷_, _++_}
+use mathlib.Core.Path.{_≡_, refl, sym, subst}
+use mathlib.Core.List.{List}
 use Rattle.jobs.specs.declared.Job.{Job}
 use Rattle.earth.specs.declared.Coefficient.{Coefficient}
 use Rattle.sets.specs.declared.Combination.{Combination}
@@ -11,7 +11,7 @@ use Rattle.sets.specs.declared.Loads.{Loads}
 use Rattle.sets.specs.Sets.{Permitted}
 use Rattle.checks.specs.declared.Check.{Check}
 use Rattle.checks.specs.declared.Check.the-variants.{OP, OM, SL, PR, RK}
-use Rattle.checks.specs.Limits.{HasCheck}
+use Rattle.limits.specs.Limits.{HasCheck}
 use Rattle.worst.specs.declared.Line.{Line}
 use Rattle.worst.specs.declared.Line.the-variants.{Missing, Shown}
 use Rattle.worst.specs.declared.Lines.{Lines}
@@ -25,7 +25,7 @@ use Rattle.lines.specs.declared.DepthLine.the-variants as depth
 use Rattle.lines.specs.declared.ClearLine.{ClearLine}
 use Rattle.lines.specs.declared.ClearLine.the-variants as clear
 use Rattle.lines.specs.declared.Answer.{Answer}
-use Rattle.lines.specs.Lines.{PrintedLine, LineName, VERDICT, check, SC, CL, verdict-line, check-line, combination-lines, depth-line, clear-line, later-lines, unless-refused, lines-of}
+use Rattle.lines.specs.Lines.{PrintedLine, VERDICT, check, SC, CL, verdict-line, check-line, combination-lines, depth-line, clear-line, later-lines, unless-refused, lines-of}
 use Rattle.answer.specs.Rules.{Unrefused}
 use Rattle.answer.specs.Answer.{base-of, LinesAre, VerdictIs, Given, refusal, AnswerIs, refused, answered}
 use Rattle.book.specs.Notes.{RowIn}

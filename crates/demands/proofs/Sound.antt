@@ -2,8 +2,8 @@
 use Prim.Native.Nat.{ℕ, _≤_}
 use native.Mathlib.Omega.{arith}
 use mathlib.Core.Path.{_≡_, refl, sym, ap, subst, _∙_}
-use mathlib.Core.Bool.{Bool, true, false}
-use Rattle.decides.specs.Decides.{Decides, decided}
+use mathlib.Core.Bool.{true, false}
+use Rattle.decides.specs.Decides.{decided}
 use Rattle.jobs.specs.declared.Job.{Job}
 use Rattle.river.proofs.Scours.{scoured-one}
 use Rattle.earth.specs.declared.Coefficient.{Coefficient}
@@ -17,8 +17,8 @@ use Rattle.checks.specs.declared.Check.the-variants.{OP, OM, SL, PR, RK}
 use Rattle.checks.specs.declared.Figure.{Figure}
 use Rattle.checks.specs.Figures.{Shows}
 use Rattle.checks.specs.Order.{side}
-use Rattle.checks.specs.Limits.{Limit, TippingLimit, SlidingLimit, HasCheck, Service, Passes}
-use Rattle.checks.proofs.Passing.{limit-one}
+use Rattle.limits.specs.Limits.{Limit, TippingLimit, SlidingLimit, HasCheck, Service, Passes}
+use Rattle.limits.proofs.Passing.{limit-one}
 use Rattle.worst.specs.declared.Line.{Line}
 use Rattle.worst.specs.declared.Line.the-variants.{Missing, Shown}
 use Rattle.worst.specs.declared.Lines.{Lines}

@@ -1,7 +1,7 @@
 -- What a call for a job that is there wrote, or why it wrote nothing.
 use Prim.Native.Nat.{ℕ, _≤_, _<_}
 use native.Mathlib.Omega.{arith}
-use mathlib.Core.Path.{_≡_, refl, sym, ap, subst, _∙_}
+use mathlib.Core.Path.{_≡_, sym, ap, subst, _∙_}
 use mathlib.Core.List.{List, _++_}
 use lib.ListN.{length, take, drop}
 use lib.Seq.{take-at}
@@ -12,7 +12,8 @@ use Rattle.book.specs.Notes.{RowIn}
 use Rattle.book.proofs.Answers.{refused-none, book-one}
 use Rattle.book.proofs.Noting.{row-one}
 use Rattle.earth.specs.declared.Coefficient.{Coefficient}
-use Rattle.debtarush.specs.Called.{Told, written, refused, TextOf, Called, no-book, no-place, too-short, lines}
+use Rattle.job_text.specs.Lines.{TextOf}
+use Rattle.debtarush.specs.Called.{Told, written, refused, Called, no-book, no-place, too-short, lines}
 
 pub data Reached (fill : ℕ → ℕ → Coefficient) (job : Job) (before after : List ℕ) (t : Told) : Type 0 where
   short : {bytes : List ℕ} → TextOf fill job bytes → length before < length bytes → t ≡ refused 7 0 → Reached fill job before after t

@@ -15,7 +15,8 @@ use Rattle.lines.specs.declared.Verdict.the-variants.{Refused}
 use Rattle.lines.specs.Lines.{verdict-line}
 use Rattle.answer.specs.Rules.{Refuses}
 use Rattle.printing.specs.Text.{line-text}
-use Rattle.debtarush.specs.Called.{Told, written, refused, TextOf, Called}
+use Rattle.job_text.specs.Lines.{TextOf}
+use Rattle.debtarush.specs.Called.{Told, written, refused, Called}
 
 pub record Demand1 (fill : ℕ → ℕ → Coefficient) : Type 0 where
   -- one answer, and one state of the buffer

@@ -3,7 +3,7 @@ use Prim.Native.Nat.{ℕ}
 use mathlib.Core.Path.{_≡_}
 use mathlib.Core.List.{List}
 use lib.ListN.{take}
-use Rattle.rows.specs.declared.Key.{Key}
+use Rattle.keys.specs.declared.Key.{Key}
 use Rattle.jobs.specs.declared.Job.{Job}
 use Rattle.book.specs.JobBook.{Jobs, JobBook}
 use Rattle.book.specs.Values.{values}
@@ -13,7 +13,7 @@ use Rattle.sets.specs.declared.Combination.{Combination}
 use Rattle.sets.specs.declared.Loads.{Loads}
 use Rattle.sets.specs.Sets.{Permitted}
 use Rattle.checks.specs.declared.Check.{Check}
-use Rattle.checks.specs.Limits.{HasCheck}
+use Rattle.limits.specs.Limits.{HasCheck}
 use Rattle.loads.specs.Taken.{AreLoads, rowsOf}
 use Rattle.lines.specs.declared.Verdict.the-variants.{Accepted}
 use Rattle.lines.specs.Lines.{PrintedLine, check, verdict-line}

@@ -3,12 +3,12 @@ use Prim.Native.Nat.{ℕ, _≤_}
 use mathlib.Core.Path.{_≡_}
 use mathlib.Core.Bool.{Bool, true}
 use mathlib.Core.List.{List, [], _∷_, _++_}
-use Rattle.kinds.specs.Range.{value}
-use Rattle.rows.specs.declared.Key.{Key}
+use Rattle.ranges.specs.Range.{value}
+use Rattle.keys.specs.declared.Key.{Key}
 use Rattle.jobs.specs.declared.Job.{Job}
 use Rattle.book.specs.JobBook.{Written, Jobs, none, _and_}
 use Rattle.river.specs.Scour as scour
-use Rattle.river.specs.Clear.{Cleared, given, signed}
+use Rattle.clearance.specs.Clear.{Cleared, given, signed}
 use Rattle.earth.specs.declared.Coefficient.{Coefficient}
 use Rattle.sets.specs.declared.Combination.{Combination}
 use Rattle.sets.specs.declared.Loads.{Loads}
@@ -18,7 +18,7 @@ use Rattle.checks.specs.declared.Check.{Check}
 use Rattle.checks.specs.declared.Figure.{Figure}
 use Rattle.checks.specs.Figures.{Shows}
 use Rattle.checks.specs.Order.{side}
-use Rattle.checks.specs.Limits.{Limit, Passes}
+use Rattle.limits.specs.Limits.{Limit, Passes}
 use Rattle.worst.specs.Lines.{Printed}
 use Rattle.loads.specs.Taken.{AreLoads, rowsOf}
 use Rattle.lines.specs.declared.Answer.{Answer}

@@ -2,7 +2,7 @@
 -- Lengths in mm, H in kN, K in N/m² on each metre. `fill` is what is held for a soil and a slope: today Table 2.
 use Prim.Native.Nat.{ℕ, _*_, _^_, _≤_}
 use Rattle.rounding.specs.Least.{RoundedUp}
-use Rattle.kinds.specs.Range.{Ranged}
+use Rattle.ranges.specs.Range.{Ranged}
 use Rattle.kinds.specs.declared.Kind.the-variants.{E}
 use Rattle.kinds.specs.declared.Numbers.{Numbers}
 use Rattle.earth.specs.declared.Coefficient.{Coefficient}

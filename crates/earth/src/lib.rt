@@ -84,7 +84,7 @@ fn push_of(found: Coefficient, height: u32, length: u32) -> EarthAnswer
 pub fn pressure(row: Numbers) -> EarthAnswer
     ensures { λ r. ⌜ Pressed table2-fill row (told r) ⌝ }
 {
-    if kinds::is_ranged(Kind::E, row) {
+    if ranges::is_ranged(Kind::E, row) {
         let found = look_up(row.n1.size, row.n2.size);
         return push_of(found, row.n3.size, row.n4.size);
     }

@@ -2,8 +2,7 @@
 use Prim.Native.Nat.{ℕ}
 use mathlib.Core.Path.{_≡_, refl, sym, ap, subst, _∙_}
 use mathlib.Core.Bool.{Bool, true, false}
-use mathlib.Core.List.{List, [], _∷_, _++_}
-use Rattle.csv.specs.Rfc4180.{DQUOTE, Field}
+use mathlib.Core.List.{List}
 use Rattle.csv.proofs.Unique.{tails, content-unique}
 use Rattle.fields.specs.Content.{Bare, between, all}
 use Rattle.fields.specs.Names.{name, NameIn, named, NameAt}

@@ -1,12 +1,11 @@
 -- A content that has no quote in it stands between its field's quotes as it is: the stretch without quotes around it is the content.
-use Prim.Native.Nat.{ℕ, zero, suc, _+_, _-_, _≤_, _<_}
-use native.Mathlib.Nat.{le-refl}
+use Prim.Native.Nat.{ℕ, _+_, _-_, _≤_, _<_}
 use native.Mathlib.Omega.{arith}
 use mathlib.Core.Path.{_≡_, refl, sym, ap, subst, _∙_}
 use mathlib.Core.List.{List, [], _∷_, _++_}
-use lib.ListN.{length, getD, take, drop, length-append}
-use lib.Seq.{getD-at, take-all}
-use Rattle.csv.specs.Rfc4180.{DQUOTE, Textdata, Plain, none, text, is-text, Escaped, empty, byte, quotes, Field, plain, quoted}
+use lib.ListN.{length, getD, drop, length-append}
+use lib.Seq.{getD-at}
+use Rattle.csv.specs.Rfc4180.{DQUOTE, Plain, none, text, is-text, Escaped, empty, byte, quotes, Field, plain, quoted}
 use Rattle.csv.specs.Answer.{part}
 use Rattle.csv.proofs.Unique.{text-quote, tails}
 use Rattle.csv.proofs.Parts.{at-index, past, part-rest}
@@ -65,16 +64,13 @@ module _ (raw : List ℕ) where
       at-index raw n (omega arith) ∙ ap (λ (b : ℕ). b ∷ drop (n + 1) raw) e ∙ ap (λ (l : List ℕ). DQUOTE ∷ l) (past raw (n + 1) (omega arith)) in
       between (front ∙ ap (λ (l : List ℕ). DQUOTE ∷ l) (part-rest raw 1 n (omega arith) ∙ ap (λ (l : List ℕ). part 1 n raw ++ l) back))
 
-  whole : part 0 (length raw) raw ≡ raw
-  whole = take-all (length raw - 0) raw (omega arith)
+  pub bare-short : length raw < 2 → Bare raw raw
+  bare-short h = all refl (λ s e. omega (arith, ap length e, length-append s (DQUOTE ∷ [])))
 
-  pub bare-short : length raw < 2 → Bare raw (part 0 (length raw) raw)
-  bare-short h = all whole (λ s e. omega (arith, ap length e, length-append s (DQUOTE ∷ [])))
+  pub bare-unopened : (getD raw 0 0 ≡ DQUOTE → ⊥) → Bare raw raw
+  bare-unopened n = all refl (λ s e. n (ap (λ (l : List ℕ). getD l 0 0) e))
 
-  pub bare-unopened : (getD raw 0 0 ≡ DQUOTE → ⊥) → Bare raw (part 0 (length raw) raw)
-  bare-unopened n = all whole (λ s e. n (ap (λ (l : List ℕ). getD l 0 0) e))
-
-  pub bare-unclosed : (getD raw (length raw - 1) 0 ≡ DQUOTE → ⊥) → Bare raw (part 0 (length raw) raw)
-  bare-unclosed n = all whole (λ s e.
+  pub bare-unclosed : (getD raw (length raw - 1) 0 ≡ DQUOTE → ⊥) → Bare raw raw
+  bare-unclosed n = all refl (λ s e.
       let k : length (DQUOTE ∷ s) ≡ length raw - 1 = omega (arith, ap length e, length-append s (DQUOTE ∷ [])) in
       n (ap (λ (l : List ℕ). getD l (length raw - 1) 0) e ∙ getD-at (DQUOTE ∷ s) DQUOTE [] 0 (length raw - 1) k))

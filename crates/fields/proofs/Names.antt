@@ -1,16 +1,15 @@
 -- Names: a letter by its bounds, and the bytes of a name as the loop fills them in.
-use Prim.Native.Nat.{ℕ, zero, suc, _+_, _-_, _≤_, _<_, suc-le-suc, zero-le}
-use native.Mathlib.Nat.{le-of-suc-le-suc}
+use Prim.Native.Nat.{ℕ, suc, _+_, _-_, _<_, suc-le-suc, zero-le}
 use native.Mathlib.Numerals.{add-one}
 use native.Mathlib.Omega.{arith}
-use mathlib.Core.Path.{_≡_, refl, sym, ap, subst, _∙_}
+use mathlib.Core.Path.{_≡_, sym, subst}
 use mathlib.Core.Bool.{Bool, true, false}
 use mathlib.Core.List.{List, [], _∷_, _++_}
 use lib.ListN.{length, getD, take, set, replicate}
 use lib.Seq.{take-suc, length-take-le, set-at, append-snoc, take-length}
-use Rattle.csv.specs.Rfc4180.{Textdata, middle, high, Plain, none, text}
+use Rattle.csv.specs.Rfc4180.{Textdata, high, Plain, none, text}
 use Rattle.fields.specs.Content.{Bare}
-use Rattle.fields.specs.Names.{Letter, hyphen, digit, upper, IsName, name, no-name, NameIn, named, ContentNamed}
+use Rattle.fields.specs.Names.{Letter, hyphen, digit, upper, IsName, name, no-name, named, ContentNamed}
 use Rattle.fields.specs.declared.Name.{Name}
 use Rattle.fields.specs.declared.NameRead.{NameRead}
 use Rattle.fields.proofs.Contents.{bare-field, content-none}

@@ -1,25 +1,13 @@
 -- Document 01, the job book: "A number: optional minus, 1 to 9 digits, no leading zero save 0 itself, no "-0"."
-use Prim.Native.Nat.{ℕ, _+_, _*_, _≤_}
+use Prim.Native.Nat.{ℕ, _≤_}
 use mathlib.Core.Path.{_≡_}
 use mathlib.Core.Bool.{true, false}
-use mathlib.Core.List.{List, [], _∷_, _++_}
-use lib.ListN.{length}
+use mathlib.Core.List.{List, [], _∷_}
 use Rattle.csv.specs.Rfc4180.{Field}
+use Rattle.digits.specs.Numerals.{Digited}
 use Rattle.fields.specs.declared.Entry.{Entry}
 use Rattle.fields.specs.declared.Entered.{Entered}
 use Rattle.fields.specs.declared.Entered.the-variants.{Is, Wrong}
-use Rattle.fields.specs.declared.Digits.{Digits}
-use Rattle.fields.specs.declared.Digits.the-variants.{Worth, NoDigits}
-
--- digits with no leading zero, and what they are worth
-pub data Numeral : List ℕ → ℕ → Type 0 where
-  one : {d : ℕ} → d ≤ 9 → Numeral ((0x30 + d) ∷ []) d
-  more : {s : List ℕ} {n d : ℕ} → 1 ≤ n → Numeral s n → d ≤ 9 → Numeral (s ++ (0x30 + d) ∷ []) (10 * n + d)
-
--- 1 to 9 of them
-pub record Digited (s : List ℕ) (n : ℕ) : Type 0 where
-  pub numeral : Numeral s n
-  pub few : length s ≤ 9
 
 -- a field left empty, a number from 0 up, and a number below 0
 abbrev pub absent : Entry
@@ -50,11 +38,6 @@ pub record EntryIn (F : List ℕ → Entry → Type 0) (raw : List ℕ) (e : Ent
 abbrev pub EntryAt : (List ℕ → Entry → Type 0) → List ℕ → Entered → Type 0
 EntryAt F raw (Is e) = EntryIn F raw e
 EntryAt F raw Wrong = (e : Entry) → EntryIn F raw e → ⊥
-
--- the answer for digits
-abbrev pub DigitsAre : List ℕ → Digits → Type 0
-DigitsAre s (Worth n) = Digited s n
-DigitsAre s NoDigits = (n : ℕ) → Digited s n → ⊥
 
 -- the answer for a content
 abbrev pub ContentIs : (List ℕ → Entry → Type 0) → List ℕ → Entered → Type 0

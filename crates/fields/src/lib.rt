@@ -3,13 +3,14 @@
 // Each function takes a stretch of the lent book that starts in its middle, and its answer is exact for every stretch,
 // whether or not it is a field of RFC 4180. What is hard is the quotes: a name, a number or an empty field has no quote
 // in its content, so the stretch between the quotes is the content, and nothing is ever unescaped.
+use digits::Digits;
 ghost use mathlib.Core.Path.{_≡_};
 ghost use mathlib.Core.Bool.{false};
 ghost use Prim.Native.Nat.{ℕ, _+_, _≤_, _<_};
 ghost use Rattle.decides.specs.Decides.{Decides};
 ghost use Rattle.fields.specs.Content.{Bare};
 ghost use Rattle.fields.specs.Names.{Letter, ContentNamed, NameAt, no-name};
-ghost use Rattle.fields.specs.Numbers.{IsNumber, IsEmpty, absent, DigitsAre, ContentIs, EntryAt};
+ghost use Rattle.fields.specs.Numbers.{IsNumber, IsEmpty, absent, ContentIs, EntryAt};
 
 // A member or a job: its bytes, with zeros behind them.
 pub struct Name {
@@ -33,11 +34,6 @@ pub struct Entry {
 pub enum Entered {
     Is(Entry),
     Wrong,
-}
-
-enum Digits {
-    Worth(u32),
-    NoDigits,
 }
 
 fn is_letter(b: u8) -> bool
@@ -72,11 +68,11 @@ pub fn bare(raw: &[u8]) -> &[u8]
             if raw[e] == 0x22 {
                 return &raw[1..e];
             }
-            return &raw[0..n];
+            return raw;
         }
-        return &raw[0..n];
+        return raw;
     }
-    &raw[0..n]
+    raw
 }
 
 // No name: what stands where there is none.
@@ -131,46 +127,6 @@ pub fn name_at(raw: &[u8]) -> NameRead
     name_of(content)
 }
 
-// What digits are worth.
-fn digits_of(content: &[u8]) -> Digits
-    ensures { λ r. ⌜ DigitsAre (now (content .entry)) r ⌝ }
-{
-    let n = content.len();
-    if n == 0 {
-        return Digits::NoDigits;
-    }
-    if 9 < n {
-        return Digits::NoDigits;
-    }
-    let first = content[0];
-    if first < 0x30 {
-        return Digits::NoDigits;
-    }
-    if 0x39 < first {
-        return Digits::NoDigits;
-    }
-    if first == 0x30 {
-        if n == 1 {
-            return Digits::Worth(0);
-        }
-        return Digits::NoDigits;
-    }
-    let mut worth = (first - 0x30) as u32;
-    let mut i: usize = 1;
-    while i < n {
-        let b = content[i];
-        if b < 0x30 {
-            return Digits::NoDigits;
-        }
-        if 0x39 < b {
-            return Digits::NoDigits;
-        }
-        worth = worth * 10 + ((b - 0x30) as u32);
-        i += 1;
-    }
-    Digits::Worth(worth)
-}
-
 // The number that a content is.
 fn number_of(content: &[u8]) -> Entered
     ensures { λ r. ⌜ ContentIs IsNumber (now (content .entry)) r ⌝ }
@@ -178,7 +134,7 @@ fn number_of(content: &[u8]) -> Entered
     let n = content.len();
     if 0 < n {
         if content[0] == 0x2D {
-            let d = digits_of(&content[1..n]);
+            let d = digits::digits_of(&content[1..n]);
             match d {
                 Digits::Worth(size) => {
                     if size == 0 {
@@ -194,7 +150,7 @@ fn number_of(content: &[u8]) -> Entered
             }
         }
     }
-    let d = digits_of(content);
+    let d = digits::digits_of(content);
     match d {
         Digits::Worth(size) => Entered::Is(Entry {
             filled: true,

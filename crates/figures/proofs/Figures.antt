@@ -1,6 +1,4 @@
 -- Every starred figure holds of the definitions: each by a test that is computed.
-use mathlib.Core.Path.{_≡_, refl}
-use Prim.Native.Nat.{ℕ, _*_, _≤_, _<_}
 use native.Mathlib.Nat.{not-le-of-lt}
 use lib.Dec.{lit<, lit≤}
 use Rattle.rounding.proofs.Compute.{up-test, cube-test, cube-test′}
@@ -9,17 +7,9 @@ use Rattle.earth.specs.Earth.{value}
 use Rattle.signed.specs.Whole.{worth, amount, above, below}
 use Rattle.sets.specs.Sets.{bit, row}
 use Rattle.sets.specs.Totals.{counted, sum, arm, upright, push, resists, overturns, resisting, overturning}
-use Rattle.checks.specs.declared.Figure.the-variants.{Number}
 use Rattle.checks.specs.Figures.{Presses}
-use Rattle.figures.specs.Figures.{needed, pressure, pressure-either, Says, All, none, more, starred, PressesWhole, PressesPart}
+use Rattle.figures.specs.Figures.{needed, pressure, pressure-either, Says, All, none, more, starred}
 use Rattle.figures.proofs.Loaded.{overturns-test}
-
--- the two rules of PR are those of `Presses`, each where it applies
-pub two-rules : (B L N M figure : ℕ)
-    → Presses B L N M (Number figure)
-    ≡ ((0 < N) × (M < N * B) × (3 * M ≤ N * B → PressesWhole B L N M figure) × (N * B < 3 * M → PressesPart B L N M figure))
-unfolding Presses
-two-rules B L N M figure = refl
 
 pub figures : All Says starred
 unfolding worth amount bit row sum counted resists overturns upright push arm above below resisting overturning Presses

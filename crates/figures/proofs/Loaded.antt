@@ -7,7 +7,7 @@ use lib.Dec.{T, ltb, ltb→lt}
 use lib.IntN.{pos, _*ℤ_}
 use lib.ListN.{replicate}
 use Rattle.rounding.proofs.Compute.{isDown, down-test}
-use Rattle.kinds.specs.Range.{value}
+use Rattle.ranges.specs.Range.{value}
 use Rattle.earth.specs.Table2.{table2-fill}
 use Rattle.signed.specs.Whole.{amount}
 use Rattle.sets.specs.declared.Class.the-variants.{Permanent}
@@ -17,9 +17,9 @@ use Rattle.sets.specs.Sets.{row, noLoad}
 use Rattle.sets.specs.Totals.{plus, resisting, overturning}
 use Rattle.checks.specs.declared.Figure.the-variants.{Number}
 use Rattle.checks.specs.Figures.{Shows, Tips}
-use Rattle.loads.specs.Exerts.{classOf, source, Forces, Exerts}
+use Rattle.forces.specs.Exerts.{classOf, source, Forces, Exerts}
 use Rattle.loads.specs.Taken.{rowAt, AreLoads}
-use Rattle.loads.proofs.Exerting.{all-no-load}
+use Rattle.loads.proofs.Laying.{all-no-load}
 use Rattle.figures.specs.Figures.{dead-load, Overturns}
 
 module _ (v x h y : ℕ) where

@@ -2,20 +2,20 @@
 use mathlib.Core.Path.{_≡_}
 use mathlib.Core.Bool.{Bool, true, false}
 use mathlib.Core.List.{List, [], _∷_}
-use Prim.Native.Nat.{ℕ, _+_, _*_, _-_}
+use Prim.Native.Nat.{ℕ}
 use Rattle.decides.specs.Decides.{Decides}
-use Rattle.rounding.specs.Least.{RoundedUp}
 use Rattle.fields.specs.Numbers.{positive, absent}
 use Rattle.kinds.specs.declared.Kind.the-variants.{DL}
 use Rattle.kinds.specs.declared.Row.{Row}
-use Rattle.river.specs.River.{FoundationDischarge, RegimeMet, RegimeDepth, ConstrictedDepth, DepthNeeded, Afflux}
+use Rattle.river.specs.River.{FoundationDischarge, RegimeMet, RegimeDepth, ConstrictedDepth, DepthNeeded}
+use Rattle.clearance.specs.Rules.{Afflux}
 use Rattle.earth.specs.Table2.{table2-fill}
 use Rattle.earth.specs.Earth.{Pushed, push}
 use Rattle.sets.specs.declared.Loads.{Loads}
 use Rattle.checks.specs.declared.Base.{Base}
 use Rattle.checks.specs.declared.Check.the-variants.{OP}
 use Rattle.checks.specs.declared.Figure.the-variants.{Number}
-use Rattle.checks.specs.Figures.{Presses, Shows}
+use Rattle.checks.specs.Figures.{PressesWhole, PressesPart, Presses, Shows}
 use Rattle.loads.specs.Taken.{AreLoads}
 
 -- a DL row as it is written: V, x, H, y, in service
@@ -28,13 +28,6 @@ pub record Overturns (B : ℕ) (row : Row) (figure : ℕ) : Type 0 where
   pub loads : Loads
   pub its-loads : AreLoads table2-fill (row ∷ []) 1 loads
   pub shows : (base : Base) → base .width ≡ B → Shows OP base loads 1 (Number figure)
-
--- PR's two rules: where the whole base is pressed, and past the middle third
-abbrev pub PressesWhole : ℕ → ℕ → ℕ → ℕ → ℕ → Type 0
-PressesWhole B L N M figure = RoundedUp (1000000 * (N * B + 3 * M)) (B * B * L) figure
-
-abbrev pub PressesPart : ℕ → ℕ → ℕ → ℕ → ℕ → Type 0
-PressesPart B L N M figure = RoundedUp (4000000 * (N * N)) (3 * L * (N * B - M)) figure
 
 -- PR by either rule
 pub record PressesEither (B L N M figure : ℕ) : Type 0 where

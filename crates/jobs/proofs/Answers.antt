@@ -1,7 +1,6 @@
 -- A job has one answer to a row.
-use Prim.Native.Nat.{ℕ}
-use mathlib.Core.Path.{_≡_, refl, sym, ap, _∙_}
-use Rattle.rows.specs.declared.Keyed.{Keyed}
+use mathlib.Core.Path.{_≡_, refl, sym, _∙_}
+use Rattle.keys.specs.declared.Keyed.{Keyed}
 use Rattle.jobs.specs.Taking.{TakenIs, Says, told}
 use Rattle.jobs.specs.declared.Job.{Job}
 use Rattle.jobs.specs.declared.Took.{Took}

@@ -1,4 +1,3 @@
--- Laws of keys and of placing. Other crates' proofs cite them.
-pub mod Same
+-- Laws of placing. Other crates' proofs cite them.
 pub mod Placing
 pub mod Answers

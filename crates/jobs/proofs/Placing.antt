@@ -1,77 +1,25 @@
--- Placing goes by the stage's number, and by whether the keys are the same.
-use Prim.Native.Nat.{ℕ, _≤_, _<_}
+-- What a job answers to a row, from the role of its kind and from whether the keys are the same.
+use Prim.Native.Nat.{ℕ, _<_}
 use native.Mathlib.Omega.{arith}
 use mathlib.Core.Path.{_≡_, refl, sym, ap, subst, _∙_}
-use mathlib.Core.Logic.{_⊎_, inl, inr}
 use mathlib.Core.Bool.{Bool, true, false}
-use Rattle.decides.specs.Decides.{Decides, decided, not-both, decides-same}
+use Rattle.decides.specs.Decides.{Decides, decided}
 use Rattle.kinds.specs.Table.{role}
 use Rattle.kinds.specs.declared.Role.{Role}
 use Rattle.kinds.specs.declared.Role.the-variants.{Base, Scour, Clearance, Load}
-use Rattle.rows.specs.declared.Keyed.{Keyed}
-use Rattle.jobs.specs.Place.{Fits, InPlace, stage-level, with-row}
-use Rattle.jobs.specs.Taking.{starts, joins, Says}
+use Rattle.keys.specs.declared.Keyed.{Keyed}
+use Rattle.placing.specs.Fits.{Fits}
+use Rattle.placing.specs.declared.Stage.{Stage}
+use Rattle.placing.proofs.Placing.{fits-map}
+use Rattle.jobs.specs.Place.{InPlace, with-row}
+use Rattle.jobs.specs.Taking.{told, answer-to, Says}
 use Rattle.jobs.specs.declared.Job.{Job}
-use Rattle.jobs.specs.declared.Stage.{Stage}
-use Rattle.jobs.specs.declared.Stage.the-variants.{Unbegun, Dry, Scoured, Crossed}
+use Rattle.jobs.specs.declared.Took.{Took}
 
-is-unbegun : (s : Stage) → stage-level s ≡ 0 → s ≡ Unbegun
-is-unbegun Unbegun e = refl
-is-unbegun Dry e = absurd (omega arith)
-is-unbegun Scoured e = absurd (omega arith)
-is-unbegun Crossed e = absurd (omega arith)
+-- a load row in place has less than 16 before it
+pub bears-few : (x : Role) (s : Stage) (count : ℕ) (same : Type 0) → Fits x s count same → x ≡ Load → count < 16
+bears-few x s count same w e = subst (λ (y : Role). Fits y s count same) e w .1
 
-is-dry : (s : Stage) → stage-level s ≡ 1 → s ≡ Dry
-is-dry Unbegun e = absurd (omega arith)
-is-dry Dry e = refl
-is-dry Scoured e = absurd (omega arith)
-is-dry Crossed e = absurd (omega arith)
-
-is-scoured : (s : Stage) → stage-level s ≡ 2 → s ≡ Scoured
-is-scoured Unbegun e = absurd (omega arith)
-is-scoured Dry e = absurd (omega arith)
-is-scoured Scoured e = refl
-is-scoured Crossed e = absurd (omega arith)
-
--- a flag, beside what holds
-pub also-flag : (P Q : Type 0) → P → Q → (r : Bool) → Decides r (P × Q × (r ≡ true))
-also-flag P Q p q true = (p, q, refl)
-also-flag P Q p q false = λ w. not-both (w .2) refl
-
--- the answer for each role
-module _ (role : Role) (s : Stage) (count level : ℕ) (e : level ≡ stage-level s) (same : Type 0) (r : Bool) where
-  answer : (x : Role) → role ≡ x → Decides r (Fits x s count same) → Decides r (Fits role s count same)
-  answer x q d = subst (λ (y : Role). Decides r (Fits y s count same)) (sym q) d
-
-  pub base-fits : role ≡ Base → Decides r ((level ≡ 0) ⊎ (1 ≤ count)) → Decides r (Fits role s count same)
-  base-fits q d = answer Base q (decides-same r to from d)
-    where
-      to : (level ≡ 0) ⊎ (1 ≤ count) → (s ≡ Unbegun) ⊎ (1 ≤ count)
-      to (inl z) = inl (is-unbegun s (sym e ∙ z))
-      to (inr h) = inr h
-
-      from : (s ≡ Unbegun) ⊎ (1 ≤ count) → (level ≡ 0) ⊎ (1 ≤ count)
-      from (inl z) = inl (e ∙ ap stage-level z)
-      from (inr h) = inr h
-
-  pub scour-fits : role ≡ Scour → Decides r ((level ≡ 1) × (count ≡ 0) × same) → Decides r (Fits role s count same)
-  scour-fits q d = answer Scour q (decides-same r (λ w. (is-dry s (sym e ∙ w .0), w .1, w .2)) (λ w. (e ∙ ap stage-level (w .0), w .1, w .2)) d)
-
-  pub clearance-fits : role ≡ Clearance → Decides r ((level ≡ 2) × (count ≡ 0) × same) → Decides r (Fits role s count same)
-  clearance-fits q d = answer Clearance q (decides-same r (λ w. (is-scoured s (sym e ∙ w .0), w .1, w .2)) (λ w. (e ∙ ap stage-level (w .0), w .1, w .2)) d)
-
-  pub load-fits : role ≡ Load → Decides r ((level ≡ 0 → ⊥) × (count < 16) × same) → Decides r (Fits role s count same)
-  load-fits q d =
-      answer Load q
-      (decides-same r (λ w. (λ z. w .0 (e ∙ ap stage-level z), w .1, w .2)) (λ w. (λ z. w .0 (is-unbegun s (sym e ∙ z)), w .1, w .2)) d)
-
-fits-map : (role : Role) (s : Stage) (count : ℕ) (P Q : Type 0) → (P → Q) → Fits role s count P → Fits role s count Q
-fits-map Base s count P Q f w = w
-fits-map Scour s count P Q f w = (w .0, w .1, f (w .2))
-fits-map Clearance s count P Q f w = (w .0, w .1, f (w .2))
-fits-map Load s count P Q f w = (w .0, w .1, f (w .2))
-
--- what a job answers to a row, from the role of its kind and from whether the keys are the same
 module _ (j : Job) (r : Keyed) (x : Role) (e : x ≡ role (r .row .kind)) (same : Bool) (d : Decides same (j .key ≡ r .key)) where
   pub in-place : Fits x (j .stage) (j .count) (same ≡ true) → InPlace j r
   in-place w =
@@ -87,9 +35,15 @@ module _ (j : Job) (r : Keyed) (x : Role) (e : x ≡ role (r .row .kind)) (same 
       n (fits-map x (j .stage) (j .count) (j .key ≡ r .key) (same ≡ true) (set-by same d)
       (subst (λ (y : Role). Fits y (j .stage) (j .count) (j .key ≡ r .key)) (sym e) w))
 
-  module _ (w : Fits x (j .stage) (j .count) (same ≡ true)) (next : Job) where
-    pub taken-starts : x ≡ Base → next ≡ with-row Base j r → Says j r starts next
-    taken-starts q f = (sym e ∙ q, in-place w, f ∙ ap (λ (y : Role). with-row y j r) (sym q ∙ e))
+  -- a row in place is taken up, as its role has it
+  pub taken : Fits x (j .stage) (j .count) (same ≡ true) → (a : Took) (next : Job) → a ≡ answer-to x → next ≡ with-row x j r → Says j r (told a) next
+  taken w a next q f = subst (λ (b : Took). Says j r (told b) next) (sym q) (by x refl)
+    where
+      grew : next ≡ with-row (role (r .row .kind)) j r
+      grew = f ∙ ap (λ (y : Role). with-row y j r) e
 
-    pub taken-joins : (y : Role) → x ≡ y → (y ≡ Base → ⊥) → next ≡ with-row y j r → Says j r joins next
-    taken-joins y q n f = (λ b. n (sym q ∙ e ∙ b), in-place w, f ∙ ap (λ (z : Role). with-row z j r) (sym q ∙ e))
+      by : (y : Role) → x ≡ y → Says j r (told (answer-to x)) next
+      by Base h = rw (h) ((sym e ∙ h, in-place w, grew))
+      by Scour h = rw (h) ((λ b. let z : _≡_ {A = ℕ} 0 1 = cc in omega arith, in-place w, grew))
+      by Clearance h = rw (h) ((λ b. let z : _≡_ {A = ℕ} 0 1 = cc in omega arith, in-place w, grew))
+      by Load h = rw (h) ((λ b. let z : _≡_ {A = ℕ} 0 1 = cc in omega arith, in-place w, grew))

@@ -1,4 +1,3 @@
 -- Laws of the table of kinds. Other crates' proofs cite them.
-pub mod Letters
-pub mod Ranges
+mod Loads
 pub mod Answers

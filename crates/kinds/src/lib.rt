@@ -5,13 +5,9 @@
 use fields::Entered;
 use fields::Entry;
 ghost use mathlib.Core.Path.{_≡_};
-ghost use mathlib.Core.List.{[], _∷_};
-ghost use Prim.Native.Nat.{_≤_, _<_};
-ghost use Rattle.decides.specs.Decides.{Decides};
 ghost use Rattle.fields.specs.Numbers.{EntryAt};
 ghost use Rattle.kinds.specs.Table.{columns, role, phase, load-columns, blank-numbers};
-ghost use Rattle.kinds.specs.Form.{Means, KindAt, KindIs};
-ghost use Rattle.kinds.specs.Range.{Between, Around, InRange, Ranged};
+ghost use Rattle.kinds.specs.Form.{Means};
 
 pub enum Kind {
     B,
@@ -71,11 +67,6 @@ pub struct Row {
     pub numbers: Numbers,
 }
 
-pub enum KindRead {
-    Known(Kind),
-    Unknown,
-}
-
 pub fn role_of(kind: Kind) -> Role
     ensures { λ r. ⌜ r ≡ role kind ⌝ }
 {
@@ -83,18 +74,18 @@ pub fn role_of(kind: Kind) -> Role
         Kind::B => Role::Base,
         Kind::S => Role::Scour,
         Kind::C => Role::Clearance,
-        Kind::E => Role::Load,
-        Kind::DL => Role::Load,
-        Kind::EP => Role::Load,
-        Kind::LL => Role::Load,
-        Kind::LF => Role::Load,
-        Kind::CF => Role::Load,
-        Kind::WC => Role::Load,
-        Kind::BU => Role::Load,
-        Kind::TM => Role::Load,
-        Kind::EX => Role::Load,
-        Kind::WL => Role::Load,
-        Kind::SF => Role::Load,
+        Kind::E
+        | Kind::DL
+        | Kind::EP
+        | Kind::LL
+        | Kind::LF
+        | Kind::CF
+        | Kind::WC
+        | Kind::BU
+        | Kind::TM
+        | Kind::EX
+        | Kind::WL
+        | Kind::SF => Role::Load,
     }
 }
 
@@ -171,17 +162,17 @@ pub fn columns_of(kind: Kind) -> Columns
         Kind::S => scour_columns(),
         Kind::C => clearance_columns(),
         Kind::E => earth_columns(),
-        Kind::DL => force_columns(),
-        Kind::EP => force_columns(),
-        Kind::LL => force_columns(),
-        Kind::LF => force_columns(),
-        Kind::CF => force_columns(),
-        Kind::WC => force_columns(),
-        Kind::BU => force_columns(),
-        Kind::TM => force_columns(),
-        Kind::EX => force_columns(),
-        Kind::WL => force_columns(),
-        Kind::SF => force_columns(),
+        Kind::DL
+        | Kind::EP
+        | Kind::LL
+        | Kind::LF
+        | Kind::CF
+        | Kind::WC
+        | Kind::BU
+        | Kind::TM
+        | Kind::EX
+        | Kind::WL
+        | Kind::SF => force_columns(),
     }
 }
 
@@ -207,69 +198,6 @@ pub fn no_numbers() -> Numbers
     }
 }
 
-fn one_letter(x: u8) -> KindRead
-    ensures { λ r. ⌜ KindIs (x ∷ []) r ⌝ }
-{
-    match x {
-        0x42 => KindRead::Known(Kind::B),
-        0x53 => KindRead::Known(Kind::S),
-        0x43 => KindRead::Known(Kind::C),
-        0x45 => KindRead::Known(Kind::E),
-        _ => KindRead::Unknown,
-    }
-}
-
-fn wide(x: u8) -> u32
-    ensures { λ r. ⌜ r ≡ x ⌝ }
-{
-    x as u32
-}
-
-fn two_letters(x: u8, y: u8) -> KindRead
-    ensures { λ r. ⌜ KindIs (x ∷ y ∷ []) r ⌝ }
-{
-    let code = wide(x) * 256 + wide(y);
-    match code {
-        0x444C => KindRead::Known(Kind::DL),
-        0x4550 => KindRead::Known(Kind::EP),
-        0x4C4C => KindRead::Known(Kind::LL),
-        0x4C46 => KindRead::Known(Kind::LF),
-        0x4346 => KindRead::Known(Kind::CF),
-        0x5743 => KindRead::Known(Kind::WC),
-        0x4255 => KindRead::Known(Kind::BU),
-        0x544D => KindRead::Known(Kind::TM),
-        0x4558 => KindRead::Known(Kind::EX),
-        0x574C => KindRead::Known(Kind::WL),
-        0x5346 => KindRead::Known(Kind::SF),
-        _ => KindRead::Unknown,
-    }
-}
-
-// The kind that a content is.
-fn kind_of(content: &[u8]) -> KindRead
-    ensures { λ r. ⌜ KindIs (now (content .entry)) r ⌝ }
-{
-    let n = content.len();
-    if n == 1 {
-        let x = content[0];
-        return one_letter(x);
-    }
-    if n == 2 {
-        let x = content[0];
-        let y = content[1];
-        return two_letters(x, y);
-    }
-    KindRead::Unknown
-}
-
-// The kind that a field is.
-pub fn kind_at(raw: &[u8]) -> KindRead
-    ensures { λ r. ⌜ KindAt (now (raw .entry)) r ⌝ }
-{
-    let content = fields::bare(raw);
-    kind_of(content)
-}
-
 // What a field holds in a column.
 pub fn entry_at(column: Column, raw: &[u8]) -> Entered
     ensures { λ r. ⌜ EntryAt (Means column) (now (raw .entry)) r ⌝ }
@@ -279,77 +207,4 @@ pub fn entry_at(column: Column, raw: &[u8]) -> Entered
         Column::Filled(_, _) => fields::number_at(raw),
         Column::Signed(_, _) => fields::number_at(raw),
     }
-}
-
-fn is_between(low: u32, high: u32, entry: Entry) -> bool
-    ensures { λ r. ⌜ Decides r (Between low high entry) ⌝ }
-{
-    let filled = entry.filled;
-    let minus = entry.minus;
-    let size = entry.size;
-    if !filled {
-        return false;
-    }
-    if minus {
-        return false;
-    }
-    if size < low {
-        return false;
-    }
-    if high < size {
-        return false;
-    }
-    true
-}
-
-fn is_around(below: u32, above: u32, entry: Entry) -> bool
-    ensures { λ r. ⌜ Decides r (Around below above entry) ⌝ }
-{
-    let filled = entry.filled;
-    let minus = entry.minus;
-    let size = entry.size;
-    if !filled {
-        return false;
-    }
-    if minus {
-        if below < size {
-            return false;
-        }
-        return true;
-    }
-    if above < size {
-        return false;
-    }
-    true
-}
-
-// Whether an entry is in the range of its column.
-pub fn is_in_range(column: Column, entry: Entry) -> bool
-    ensures { λ r. ⌜ Decides r (InRange column entry) ⌝ }
-{
-    match column {
-        Column::Empty => true,
-        Column::Filled(low, high) => is_between(low, high, entry),
-        Column::Signed(below, above) => is_around(below, above, entry),
-    }
-}
-
-// Whether every number of a row of a kind is in its range.
-pub fn is_ranged(kind: Kind, numbers: Numbers) -> bool
-    ensures { λ r. ⌜ Decides r (Ranged kind numbers) ⌝ }
-{
-    let c = columns_of(kind);
-    let c1 = c.n1;
-    let c2 = c.n2;
-    let c3 = c.n3;
-    let c4 = c.n4;
-    let c5 = c.n5;
-    let c6 = c.n6;
-    let n1 = is_in_range(c1, numbers.n1);
-    let n2 = is_in_range(c2, numbers.n2);
-    let n3 = is_in_range(c3, numbers.n3);
-    let n4 = is_in_range(c4, numbers.n4);
-    let n5 = is_in_range(c5, numbers.n5);
-    let n6 = is_in_range(c6, numbers.n6);
-    n1 & n2 & n3 & n4 & n5 & n6
 }

@@ -9,7 +9,7 @@ use lib.Dec.{T, eqb}
 use lib.ListN.{length, drop, getD}
 use Rattle.csv.specs.Rfc4180.{COMMA, CR}
 use Rattle.fields.specs.Names.{Letter, hyphen, digit, upper, IsName}
-use Rattle.fields.specs.Numbers.{Numeral, one, more}
+use Rattle.digits.specs.Numerals.{Numeral, one, more}
 use Rattle.sets.specs.declared.Combination.{Combination}
 use Rattle.sets.specs.declared.Combination.the-variants.{I, II, III, IV}
 use Rattle.checks.specs.declared.Check.{Check}

@@ -5,7 +5,7 @@ use mathlib.Core.List.{List, [], _∷_, _++_}
 use lib.ListN.{take}
 use Rattle.csv.specs.Rfc4180.{COMMA, CR, LF}
 use Rattle.fields.specs.declared.Name.{Name}
-use Rattle.rows.specs.declared.Key.{Key}
+use Rattle.keys.specs.declared.Key.{Key}
 use Rattle.sets.specs.declared.Combination.{Combination}
 use Rattle.sets.specs.declared.Combination.the-variants.{I, II, III, IV}
 use Rattle.checks.specs.declared.Check.{Check}

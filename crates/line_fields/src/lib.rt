@@ -5,8 +5,8 @@
 use checks::Check;
 use checks::Figure;
 use fields::Name;
+use keys::Key;
 use lines::Verdict;
-use rows::Key;
 use sets::Combination;
 ghost use mathlib.Core.List.{_∷_};
 ghost use Rattle.lines.specs.Lines.{value-of, signed-value, verdict-value};

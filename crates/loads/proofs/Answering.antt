@@ -16,14 +16,14 @@ use Rattle.earth.proofs.Pressures.{pressed-one}
 use Rattle.sets.specs.declared.Load.{Load}
 use Rattle.sets.specs.declared.Loads.{Loads}
 use Rattle.sets.specs.Sets.{Bounded, noLoad, row}
+use Rattle.forces.specs.declared.Source.{Source}
+use Rattle.forces.specs.declared.Source.the-variants.{Absent, Earth, Written}
+use Rattle.forces.specs.Exerts.{source, EarthLoad, Forces, Exerts}
+use Rattle.forces.proofs.Exerting.{same-load, exerts-bounded}
 use Rattle.loads.specs.declared.Answer.{Answer}
 use Rattle.loads.specs.declared.Answer.the-variants.{OutOfRange, NoCoefficient, TooMany, Given}
-use Rattle.loads.specs.declared.Source.{Source}
-use Rattle.loads.specs.declared.Source.the-variants.{Absent, Earth, Written}
 use Rattle.loads.specs.declared.Taken.{Taken}
-use Rattle.loads.specs.Exerts.{source, EarthLoad, Forces, Exerts}
 use Rattle.loads.specs.Taken.{rowAt, AllRanged, AreLoads, Told, given, told, toldBy, Says, out-of-range, blank, too-many, loaded, rowsOf, Beside, Answers}
-use Rattle.loads.proofs.Exerting.{same-load, exerts-bounded}
 
 -- ---- a row exerts one load
 same-push : {H y G z : ℕ} → earth.push H y ≡ earth.push G z → (H ≡ G) × (y ≡ z)

@@ -1,3 +1,2 @@
-pub mod Amounts
-pub mod Exerting
+pub mod Laying
 pub mod Answering

@@ -1,2 +1,1 @@
-pub mod Exerts
 pub mod Taken

@@ -8,18 +8,14 @@ use lib.ListN.{getD, length, replicate}
 use Rattle.kinds.specs.declared.Kind.the-variants.{B}
 use Rattle.kinds.specs.declared.Row.{Row}
 use Rattle.kinds.specs.Table.{blank-numbers}
-use Rattle.kinds.specs.Range.{Ranged}
+use Rattle.ranges.specs.Range.{Ranged}
 use Rattle.earth.specs.declared.Coefficient.{Coefficient}
-use Rattle.earth.specs.Earth as earth
-use Rattle.sets.specs.declared.Class.{Class}
-use Rattle.sets.specs.declared.Class.the-variants.{Permanent, Free, Wind, Earthquake}
 use Rattle.sets.specs.declared.Loads.{Loads}
 use Rattle.sets.specs.Sets.{row, noLoad}
+use Rattle.forces.specs.Exerts.{classOf, BlankThere, optional, Exerts}
 use Rattle.loads.specs.declared.Answer.{Answer}
 use Rattle.loads.specs.declared.Answer.the-variants.{OutOfRange, NoCoefficient, TooMany, Given}
-use Rattle.loads.specs.declared.Source.the-variants.{Earth}
 use Rattle.loads.specs.declared.Taken.{Taken}
-use Rattle.loads.specs.Exerts.{classOf, source, Exerts}
 
 -- row i, from 0, of the job's load rows; past the last an empty one
 unfoldable pub rowAt : List Row → ℕ → Row
@@ -30,19 +26,10 @@ unfoldable pub AllRanged : List Row → ℕ → Type 0
 AllRanged rows n = (i : ℕ) → i < n → Ranged ((rowAt rows i) .kind) ((rowAt rows i) .numbers)
 
 -- 15, Table 2 is blank there
-unfoldable pub BlankThere : (ℕ → ℕ → Coefficient) → Row → Type 0
-BlankThere fill r = (source (r .kind) ≡ Earth) × earth.Pressed fill (r .numbers) (earth.refused 15)
-
 unfoldable pub NoneBlank : (ℕ → ℕ → Coefficient) → List Row → ℕ → Type 0
 NoneBlank fill rows n = (i : ℕ) → i < n → BlankThere fill (rowAt rows i) → ⊥
 
 -- 16, more than 12 optional load rows
-unfoldable pub optional : Class → ℕ
-optional Permanent = 0
-optional Free = 1
-optional Wind = 1
-optional Earthquake = 1
-
 unfoldable pub optionals : List Row → ℕ → ℕ
 optionals rows zero = 0
 optionals rows (suc n) = optionals rows n + optional (classOf ((rowAt rows n) .kind))

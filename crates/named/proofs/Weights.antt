@@ -1,6 +1,7 @@
 -- The search by weights: the best so far comes before every permitted set gone through, whatever the order, and at the end it is the set that the line names.
 use mathlib.Core.Path.{_≡_, refl, sym, _∙_, ap, subst}
 use mathlib.Core.Logic.{_⊎_, inl, inr, ⊎-elim}
+use mathlib.Core.Bool.{Bool, true, false, true≢false}
 use Prim.Native.Nat.{ℕ, zero, suc, _+_, _*_, _-_, _^_, _≤_, _<_}
 use native.Mathlib.Omega.{arith}
 use native.Mathlib.Nat.{le-trans, le-refl}
@@ -10,7 +11,7 @@ use Rattle.checks.specs.Order.{Side, Sound, rank, Ranks}
 use Rattle.checks.proofs.Ranking.{rank-worse, rank-low, rank-one}
 use Rattle.named.specs.declared.Mark.{Mark}
 use Rattle.named.specs.Named.{Named}
-use Rattle.named.specs.Marks.{place, weight, weightOf, Better, Offered}
+use Rattle.named.specs.Marks.{place, weight, weightOf, Better, Offered, Offers}
 
 -- ---- the place of a set
 pub place-none : place 0 ≡ 17 * 65536
@@ -27,7 +28,7 @@ unfolding place
 place-low zero h = le-refl _
 place-low (suc s) h = omega (arith, ones-le 16 (suc s) h)
 
-some-low : (s : ℕ) → 0 < s → s < 65536 → place s < 17 * 65536
+pub some-low : (s : ℕ) → 0 < s → s < 65536 → place s < 17 * 65536
 some-low s p h = omega (arith, place-some s p, ones-le 16 s h)
 
 -- ---- a rank that is less weighs less
@@ -55,6 +56,14 @@ offered-old s P b set n r h p q = record { rank = n; ranks = r; better = better-
 pub better-low : {b r : Mark} {n s : ℕ} → b .set < 65536 → s < 65536 → Better b n s r → r .set < 65536
 better-low {b} {r} {n} {s} p q w =
     ⊎-elim (λ e. subst (λ (m : Mark). m .set < 65536) (sym e) p) (λ e. subst (λ (k : ℕ). k < 65536) (sym (e .1)) q) (w .from)
+
+-- a check that is weighed, and one that is not
+module _ {on : Bool} {s : Side} {P : Figure → Type 0} {b : Mark} {set : ℕ} where
+  pub offers-on : {r : Mark} → on ≡ true → r .set < 65536 → Offered s P b set r → Offers on s P b set r
+  offers-on h l w = record { weighed = λ _. w; left = λ e. absurd (true≢false (sym h ∙ e)); low = l }
+
+  pub offers-off : on ≡ false → b .set < 65536 → Offers on s P b set b
+  offers-off h l = record { weighed = λ e. absurd (true≢false (sym e ∙ h)); left = λ _. refl; low = l }
 
 -- ---- from the best so far to the best of it and of a family of sets
 module _ (s : Side) (P : ℕ → Type 0) (Shown : ℕ → Figure → Type 0) where

@@ -1,2 +1,3 @@
 pub mod Named
 pub mod Marks
+pub mod Weighs

@@ -1,7 +1,8 @@
 -- A mark's place in the order of sets, as one number, and what it is to be the better of a mark and of one set more.
 use mathlib.Core.Path.{_≡_}
 use mathlib.Core.Logic.{_⊎_}
-use Prim.Native.Nat.{ℕ, zero, suc, _+_, _*_, _≤_}
+use mathlib.Core.Bool.{Bool, true, false}
+use Prim.Native.Nat.{ℕ, zero, suc, _+_, _*_, _≤_, _<_}
 use lib.Count.{ones}
 use Rattle.checks.specs.declared.Figure.{Figure}
 use Rattle.checks.specs.Order.{Side, Ranks}
@@ -30,3 +31,9 @@ pub record Offered (from : Side) (P : Figure → Type 0) (b : Mark) (s : ℕ) (r
   pub rank : ℕ
   pub ranks : Ranks from P rank
   pub better : Better b rank s r
+
+-- the same of a check that is weighed; where it is not, r is b
+pub record Offers (on : Bool) (from : Side) (P : Figure → Type 0) (b : Mark) (s : ℕ) (r : Mark) : Type 0 where
+  pub weighed : on ≡ true → Offered from P b s r
+  pub left : on ≡ false → r ≡ b
+  pub low : r .set < 65536

@@ -6,7 +6,7 @@ use native.Mathlib.Omega.{arith}
 use lib.Seq.{take-append-seam}
 use Rattle.csv.specs.Rfc4180.{COMMA, CR, LF}
 use Rattle.fields.specs.Names.{NameIn, name}
-use Rattle.rows.specs.declared.Key.{Key}
+use Rattle.keys.specs.declared.Key.{Key}
 use Rattle.lines.specs.declared.Answer.{Answer}
 use Rattle.lines.specs.Lines.{PrintedLine, lines-of}
 use Rattle.printing.specs.Keys.{IsKey}

@@ -3,7 +3,7 @@ use Prim.Native.Nat.{ℕ}
 use mathlib.Core.Path.{_≡_}
 use mathlib.Core.List.{List}
 use Rattle.fields.specs.Names.{IsName, name}
-use Rattle.rows.specs.declared.Key.{Key}
+use Rattle.keys.specs.declared.Key.{Key}
 
 pub record IsKey (key : Key) : Type 0 where
   pub member : List ℕ

@@ -3,12 +3,10 @@ use Prim.Native.Nat.{ℕ}
 use mathlib.Core.Path.{_≡_}
 use mathlib.Core.Bool.{Bool, true, false}
 use mathlib.Core.List.{List, [], _∷_, _++_}
-use Rattle.csv.specs.Rfc4180.{COMMA}
-use Rattle.rows.specs.declared.Key.{Key}
+use Rattle.keys.specs.declared.Key.{Key}
 use Rattle.lines.specs.declared.Verdict.{Verdict}
 use Rattle.lines.specs.declared.Answer.{Answer}
 use Rattle.lines.specs.Lines.{PrintedLine, unless-refused, lines-of}
-use Rattle.block.specs.Decimal.{decimal}
 use Rattle.block.specs.Block.{field}
 use Rattle.line_fields.specs.Text.{line-end, key-text, name-text, value-text, cell-text, mark-text}
 
@@ -36,9 +34,3 @@ Alone false verdict = (later : List PrintedLine) → unless-refused verdict late
 -- the text of a job's answer
 unfoldable pub text : Key → Answer → List ℕ
 text key answer = texts key (lines-of answer)
-
--- "A refused book prints `,,BOOK,number,row,,`."
-unfoldable pub book-text : ℕ → ℕ → List ℕ
-book-text refusal row =
-    (COMMA ∷ COMMA ∷ 0x42 ∷ 0x4F ∷ 0x4F ∷ 0x4B ∷ [])
-    ++ (field (decimal refusal) ++ (field (decimal row) ++ (COMMA ∷ COMMA ∷ line-end)))

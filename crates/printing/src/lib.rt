@@ -1,14 +1,14 @@
-// The bytes of a job's lines, exactly those of document 01, The printed answer, and the one line of a refused book.
+// The bytes of a job's lines, exactly those of document 01, The printed answer.
 //
 // Each function puts lines behind the text that a page of 2,048 bytes holds. What is hard is that nothing is cut: each says how
 // many bytes its lines have at most, and the sum is below 2,048 where the set numbers are those of at most 16 load rows.
 use block::Block;
 use checks::Check;
+use keys::Key;
 use lines::Answer;
 use lines::ClearLine;
 use lines::DepthLine;
 use lines::Verdict;
-use rows::Key;
 use sets::Combination;
 use worst::Line;
 use worst::Lines;
@@ -17,7 +17,7 @@ ghost use Prim.Native.Nat.{_+_, _≤_};
 ghost use lib.ListN.{length};
 ghost use Rattle.lines.specs.Lines.{verdict-line, check-line, combination-lines, depth-line, clear-line, later-lines, Numbered};
 ghost use Rattle.block.specs.Block.{Adds, block-of};
-ghost use Rattle.printing.specs.Text.{Alone, line-text, texts, text, book-text};
+ghost use Rattle.printing.specs.Text.{Alone, line-text, texts, text};
 ghost use Rattle.printing.specs.Room.{line-room, lines-room, answer-room};
 
 fn put_verdict(out: &mut [u8; 2048], at: usize, key: Key, verdict: Verdict) -> usize
@@ -172,18 +172,5 @@ pub fn answer_text(key: Key, answer: Answer) -> Block
 {
     let mut bytes = [0u8; 2048];
     let len = put_answer(&mut bytes, 0, key, answer);
-    Block { bytes, len }
-}
-
-// The bytes of a refused book's one line.
-pub fn book_line(number: u8, row: usize) -> Block
-    ensures { λ r. ⌜ r ≡ block-of (book-text number row) ⌝ }
-    ensures whole { λ _. ⌜ length (book-text number row) ≤ 2048 ⌝ }
-{
-    let mut bytes = [0u8; 2048];
-    let end = block::put(&mut bytes, 0, b",,BOOK");
-    let end = block::put_number(&mut bytes, end, number as u64);
-    let end = block::put_number(&mut bytes, end, row as u64);
-    let len = block::put(&mut bytes, end, b",,\r\n");
     Block { bytes, len }
 }

@@ -1,10 +1,10 @@
--- Each rule of the river has one value.
-use mathlib.Core.Path.{_≡_, refl, subst}
+-- Each rule for scour has one value.
+use mathlib.Core.Path.{_≡_, subst}
 use Prim.Native.Nat.{ℕ, _*_, _<_}
 use native.Mathlib.Omega.{arith}
 use Rattle.rounding.specs.Least.{RoundedUp}
 use Rattle.rounding.proofs.Laws.{least-one}
-use Rattle.river.specs.River.{FoundationDischarge, to-500, to-5000, to-25000, DepthNeeded, ClearanceNeeded, to-30000, to-300000, to-3000000, above}
+use Rattle.river.specs.River.{FoundationDischarge, to-500, to-5000, to-25000, DepthNeeded}
 
 pub discharge-one : {Q Z m n : ℕ} → FoundationDischarge Q Z m → FoundationDischarge Q Z n → m ≡ n
 discharge-one (to-500 h u) (to-500 k v) = least-one u v
@@ -26,21 +26,3 @@ no-discharge h (to-25000 k l u) = omega arith
 pub depth-needed-one : {D reach m n : ℕ} → DepthNeeded D reach m → DepthNeeded D reach n → m ≡ n
 depth-needed-one {n = n} u v =
     least-one (u .rounded) (subst (λ (g : ℕ). RoundedUp (133 * g) 100 n) (least-one (v .scour) (u .scour)) (v .rounded))
-
-pub clearance-needed-one : {Q m n : ℕ} → ClearanceNeeded Q m → ClearanceNeeded Q n → m ≡ n
-clearance-needed-one (to-30000 h) (to-30000 k) = refl
-clearance-needed-one (to-30000 h) (to-300000 k l v e) = omega arith
-clearance-needed-one (to-30000 h) (to-3000000 k l) = omega arith
-clearance-needed-one (to-30000 h) (above k) = omega arith
-clearance-needed-one (to-300000 h i u d) (to-30000 k) = omega arith
-clearance-needed-one (to-300000 h i u d) (to-300000 k l v e) = omega (arith, least-one u v)
-clearance-needed-one (to-300000 h i u d) (to-3000000 k l) = omega arith
-clearance-needed-one (to-300000 h i u d) (above k) = omega arith
-clearance-needed-one (to-3000000 h i) (to-30000 k) = omega arith
-clearance-needed-one (to-3000000 h i) (to-300000 k l v e) = omega arith
-clearance-needed-one (to-3000000 h i) (to-3000000 k l) = refl
-clearance-needed-one (to-3000000 h i) (above k) = omega arith
-clearance-needed-one (above h) (to-30000 k) = omega arith
-clearance-needed-one (above h) (to-300000 k l v e) = omega arith
-clearance-needed-one (above h) (to-3000000 k l) = omega arith
-clearance-needed-one (above h) (above k) = refl

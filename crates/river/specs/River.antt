@@ -1,8 +1,7 @@
--- Document 01, "River rules" (002, 4.4 to 4.8), each rule in the paper's words and letters. Lengths in mm, discharges in l/s, q in l/s on each metre
--- of the waterway, catchments in km², silt factors in thousandths, velocities in mm/s, areas in tenths of m².
-use mathlib.Core.Path.{_≡_}
+-- Document 01, "River rules" for scour (002, 4.4 to 4.6 and 6.9.1), each rule in the paper's words and letters. Lengths in mm, discharges in l/s,
+-- q in l/s on each metre of the waterway, catchments in km², silt factors in thousandths.
 use mathlib.Core.List.{List, [], _∷_}
-use Prim.Native.Nat.{ℕ, _+_, _-_, _*_, _^_, _≤_, _<_}
+use Prim.Native.Nat.{ℕ, _-_, _*_, _^_, _≤_, _<_}
 use lib.ListN.{getD}
 use Rattle.rounding.specs.Least.{Least, RoundedUp}
 
@@ -40,14 +39,3 @@ pub record DepthNeeded (D reach needed : ℕ) : Type 0 where
   pub greatest : ℕ
   pub scour : GreatestScour D reach greatest
   pub rounded : RoundedUp (133 * greatest) 100 needed
-
--- 4.7.1. "Afflux in mm, rounded up: (10v²+2,724,912)(A²-a²)/(178,800 a²).", where a is not above A
-abbrev pub Afflux : ℕ → ℕ → ℕ → ℕ → Type 0
-Afflux v A a h = RoundedUp ((10 * v ^ 2 + 2724912) * (A ^ 2 - a ^ 2)) (178800 * a ^ 2) h
-
--- 4.8.1. "Clearance needed: Q to 30,000: 600; to 300,000: 600 + 600(Q-30,000)/270,000 rounded up; to 3,000,000: 1,500; above: 1,800."
-pub data ClearanceNeeded (Q : ℕ) : ℕ → Type 0 where
-  to-30000 : Q ≤ 30000 → ClearanceNeeded Q 600
-  to-300000 : {more n : ℕ} → 30000 < Q → Q ≤ 300000 → RoundedUp (600 * (Q - 30000)) 270000 more → n ≡ 600 + more → ClearanceNeeded Q n
-  to-3000000 : 300000 < Q → Q ≤ 3000000 → ClearanceNeeded Q 1500
-  above : 3000000 < Q → ClearanceNeeded Q 1800

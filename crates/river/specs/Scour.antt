@@ -1,6 +1,6 @@
 -- Document 01, what an S row is told: the depth needed (SC), or a refusal of its job.
 use Prim.Native.Nat.{ℕ, _≤_, _<_}
-use Rattle.kinds.specs.Range.{Ranged}
+use Rattle.ranges.specs.Range.{Ranged}
 use Rattle.kinds.specs.declared.Kind.the-variants.{S}
 use Rattle.kinds.specs.declared.Numbers.{Numbers}
 use Rattle.river.specs.River.{FoundationDischarge, RegimeMet, RegimeDepth, Intensity, ConstrictedDepth, DepthNeeded}

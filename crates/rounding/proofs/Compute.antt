@@ -1,10 +1,10 @@
 -- Tests that antt computes, and the laws that turn each into the definition: a number is the least that reaches a bound, under a function that never falls,
 -- where it does and the number before it does not.
-use mathlib.Core.Bool.{Bool, true, false}
-use Prim.Native.Nat.{ℕ, zero, suc, _*_, _^_, _≤_, _<_}
+use mathlib.Core.Bool.{Bool}
+use Prim.Native.Nat.{ℕ, suc, _*_, _^_, _≤_}
 use native.Mathlib.Nat.{le-of-suc-le-suc, lt-of-le-of-lt, lt-of-mul-lt-mul-right, mul-le-mul-left, mul-le-mul-right, pow-le-pow-left}
 use lib.Dec.{T, leb, ltb, leb→le, ltb→lt}
-use Rattle.rounding.specs.Least.{Least, Greatest, RoundedUp, RoundedDown}
+use Rattle.rounding.specs.Least.{Least, RoundedUp, RoundedDown}
 use Rattle.rounding.proofs.Laws.{Rises, before, least-by}
 use Rattle.rounding.proofs.Tables.{both, both-first, both-second}
 

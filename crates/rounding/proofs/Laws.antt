@@ -1,9 +1,9 @@
 -- The laws of the least number with a property: there is one at most, a number that reaches a bound and whose predecessor does not is the least,
 -- and a quotient rounded up and down by division is the least and the greatest.
-use mathlib.Core.Path.{_≡_, subst, sym}
-use mathlib.Core.Bool.{Bool, true, false}
-use Prim.Native.Nat.{ℕ, zero, suc, _+_, _*_, _/_, _%_, _≤_, _<_, zero-le, suc-le-suc}
-use native.Mathlib.Nat.{le-trans, le-of-lt, le-antisymm, le-of-suc-le-suc, lt-of-le-of-lt, lt-of-lt-of-le, lt-of-not-le, lt-irrefl, mul-le-mul-right, le-of-mul-le-mul-right, lt-of-mul-lt-mul-right, div-add-mod', mod-lt, lt-div-mul-add, div-mul-le-self, add-mul, one-mul, pos-of-ne-zero, le-mul-of-pos-right}
+use mathlib.Core.Path.{_≡_}
+use mathlib.Core.Bool.{Bool, true}
+use Prim.Native.Nat.{ℕ, zero, suc, _+_, _*_, _/_, _%_, _≤_, _<_, zero-le}
+use native.Mathlib.Nat.{le-trans, le-of-lt, le-antisymm, le-of-suc-le-suc, lt-of-le-of-lt, lt-of-lt-of-le, lt-of-not-le, lt-irrefl, le-of-mul-le-mul-right, lt-of-mul-lt-mul-right, div-add-mod', lt-div-mul-add, div-mul-le-self, add-mul, one-mul, pos-of-ne-zero, le-mul-of-pos-right}
 use native.Mathlib.Numerals.{add-one-le}
 use native.Mathlib.Decide.{decLe}
 use native.Mathlib.Omega.{arith}

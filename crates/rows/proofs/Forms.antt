@@ -10,11 +10,11 @@ use Rattle.kinds.specs.Table.{columns}
 use Rattle.kinds.specs.declared.Columns.{Columns}
 use Rattle.kinds.specs.declared.Kind.{Kind}
 use Rattle.kinds.specs.declared.Numbers.{Numbers}
-use Rattle.kinds.proofs.Letters.{letters-one}
+use Rattle.letters.proofs.Letters.{letters-one}
 use Rattle.kinds.proofs.Answers.{means-one}
 use Rattle.rows.specs.Form.{BookRow, content, Six, Form}
-use Rattle.rows.specs.Answer.{formed, RowSeen, SeenAt}
-use Rattle.rows.specs.declared.Keyed.{Keyed}
+use Rattle.rows.specs.Answer.{formed, SeenAt}
+use Rattle.keys.specs.declared.Keyed.{Keyed}
 use Rattle.rows.specs.declared.RowRead.{RowRead}
 
 six-one : (c : Columns) (cs : List Cell) (m n : Numbers) → Six c cs m → Six c cs n → m ≡ n

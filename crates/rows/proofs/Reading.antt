@@ -1,33 +1,35 @@
 -- What is found of a cell's stretch holds of the cell's content: the stretch is a field, and a field has one content.
-use Prim.Native.Nat.{ℕ, _+_, _≤_, _<_}
+use Prim.Native.Nat.{ℕ, _+_, _<_}
 use native.Mathlib.Omega.{arith}
-use mathlib.Core.Path.{_≡_, refl, sym, ap, subst, _∙_}
+use mathlib.Core.Path.{_≡_, sym, subst, _∙_}
 use mathlib.Core.Bool.{Bool, true, false}
-use mathlib.Core.List.{List, [], _∷_}
-use lib.ListN.{length, getD, drop}
+use mathlib.Core.List.{List, _∷_}
+use lib.ListN.{length, drop}
 use Rattle.csv.specs.Rfc4180.{Cell, Field, File}
 use Rattle.csv.proofs.Unique.{content-unique}
-use Rattle.cells.specs.Cells.{no-cell, Stretch, offset, RowIs, RowAt, CellAt}
+use Rattle.cells.specs.Cells.{offset, RowAt, CellAt}
 use Rattle.cells.specs.declared.Cells.{Cells}
 use Rattle.cells.proofs.Fields.{row-fields}
 use Rattle.fields.specs.Names.{ContentNamed, NameIn, named, NameAt}
-use Rattle.fields.specs.Numbers.{EntryIn, EntryAt}
+use Rattle.fields.specs.Numbers.{EntryAt}
 use Rattle.fields.specs.declared.Name.{Name}
 use Rattle.fields.specs.declared.NameRead.{NameRead}
 use Rattle.fields.specs.declared.Entry.{Entry}
 use Rattle.fields.specs.declared.Entered.the-variants.{Is, Wrong}
 use Rattle.kinds.specs.Table.{columns, letters}
-use Rattle.kinds.specs.Form.{Means, KindAt}
+use Rattle.kinds.specs.Form.{Means}
+use Rattle.letters.specs.Form.{KindAt}
 use Rattle.kinds.specs.declared.Column.{Column}
 use Rattle.kinds.specs.declared.Columns.{Columns}
 use Rattle.kinds.specs.declared.Kind.{Kind}
-use Rattle.kinds.specs.declared.KindRead.the-variants.{Known, Unknown}
+use Rattle.letters.specs.declared.KindRead.the-variants.{Known, Unknown}
 use Rattle.kinds.specs.declared.Numbers.{Numbers}
-use Rattle.kinds.proofs.Letters.{letters-one}
+use Rattle.letters.proofs.Letters.{letters-one}
 use Rattle.rows.specs.Form.{BookRow, raw, content, Six, Form}
-use Rattle.rows.specs.Answer.{TenAt, no-row, formed, FormedAt, RowSeen}
+use Rattle.keys.specs.Keyed.{no-row}
+use Rattle.rows.specs.Answer.{TenAt, formed, FormedAt, RowSeen}
 use Rattle.rows.specs.declared.Formed.{Formed}
-use Rattle.rows.specs.declared.Keyed.{Keyed}
+use Rattle.keys.specs.declared.Keyed.{Keyed}
 
 module _ {s : List ℕ} {c : Cells} {cs : List Cell} (t : TenAt s c cs) where
   -- a cell's stretch is a field of its content

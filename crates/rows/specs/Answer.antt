@@ -7,13 +7,12 @@ use lib.ListN.{length, getD, drop}
 use Rattle.csv.specs.Rfc4180.{Cell, Field, File, Rest}
 use Rattle.cells.specs.Cells.{no-cell, Stretch, offset}
 use Rattle.cells.specs.declared.Cells.{Cells}
-use Rattle.fields.specs.Names.{no-name}
-use Rattle.kinds.specs.Table.{columns, blank-numbers}
+use Rattle.kinds.specs.Table.{columns}
 use Rattle.kinds.specs.declared.Kind.{Kind}
-use Rattle.kinds.specs.declared.Kind.the-variants.{B}
 use Rattle.kinds.specs.declared.Numbers.{Numbers}
 use Rattle.rows.specs.Form.{BookRow, raw, content, Six, Form}
-use Rattle.rows.specs.declared.Keyed.{Keyed}
+use Rattle.keys.specs.Keyed.{no-row}
+use Rattle.keys.specs.declared.Keyed.{Keyed}
 use Rattle.rows.specs.declared.NumbersRead.{NumbersRead}
 use Rattle.rows.specs.declared.NumbersRead.the-variants.{Are, Wrong}
 use Rattle.rows.specs.declared.Formed.{Formed}
@@ -33,9 +32,6 @@ numbers-are Wrong kind cs = (n : Numbers) → Six (columns kind) cs n → ⊥
 
 abbrev pub NumbersAre : List ℕ → Cells → Kind → NumbersRead → Type 0
 NumbersAre s c kind r = (cs : List Cell) → TenAt s c cs → numbers-are r kind cs
-
-abbrev pub no-row : Keyed
-no-row = record { key = record { member = no-name; job = no-name }; row = record { kind = B; numbers = blank-numbers } }
 
 -- the row that the cells mean; or that they mean none, and no row
 abbrev pub formed : Bool → List Cell → Keyed → Type 0

@@ -11,7 +11,7 @@ use Rattle.kinds.specs.Table.{columns, letters}
 use Rattle.kinds.specs.Form.{Means}
 use Rattle.kinds.specs.declared.Columns.{Columns}
 use Rattle.kinds.specs.declared.Numbers.{Numbers}
-use Rattle.rows.specs.declared.Keyed.{Keyed}
+use Rattle.keys.specs.declared.Keyed.{Keyed}
 
 -- a row as the book has it: with its key, and the stretch of its note, which is handed on and never interpreted
 pub record BookRow : Type 0 where

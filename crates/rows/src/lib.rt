@@ -4,29 +4,19 @@
 // reading has, and not of whatever the code looks at: each promise here speaks of every reading of the text.
 use cells::Cells;
 use fields::Entered;
-use fields::Name;
+use keys::Key;
+use keys::Keyed;
 use kinds::Kind;
-use kinds::KindRead;
 use kinds::Numbers;
 use kinds::Row;
+use letters::KindRead;
 ghost use mathlib.Core.Path.{_≡_};
 ghost use mathlib.Core.Bool.{false};
 ghost use Prim.Native.Nat.{ℕ, _+_, _≤_, _<_};
 ghost use lib.ListN.{length, drop};
 ghost use Rattle.csv.specs.Rfc4180.{Readable};
-ghost use Rattle.rows.specs.Answer.{no-row, NumbersAre, FormedAt, SeenAt};
-
-// Member and job, together the key.
-pub struct Key {
-    pub member: Name,
-    pub job: Name,
-}
-
-// A row with its key.
-pub struct Keyed {
-    pub key: Key,
-    pub row: Row,
-}
+ghost use Rattle.keys.specs.Keyed.{no-row};
+ghost use Rattle.rows.specs.Answer.{NumbersAre, FormedAt, SeenAt};
 
 enum NumbersRead {
     Are(Numbers),
@@ -91,27 +81,10 @@ fn numbers_of(s: &[u8], places: Cells, kind: Kind) -> NumbersRead
     })
 }
 
-// No row: what stands where there is none.
-pub fn blank_row() -> Keyed
-    ensures { λ r. ⌜ r ≡ no-row ⌝ }
-{
-    let name = fields::blank_name();
-    let numbers = kinds::no_numbers();
-    let row = Row {
-        kind: Kind::B,
-        numbers,
-    };
-    let key = Key {
-        member: name,
-        job: name,
-    };
-    Keyed { key, row }
-}
-
 fn unformed() -> Formed
     ensures { λ r. ⌜ (r .good ≡ false) × (r .row ≡ no-row) ⌝ }
 {
-    let row = blank_row();
+    let row = keys::blank_row();
     Formed { good: false, row }
 }
 
@@ -131,7 +104,7 @@ fn row_of(s: &[u8], places: Cells) -> Formed
     if !good {
         return unformed();
     }
-    let k = kinds::kind_at(cells::cell(s, places, 2));
+    let k = letters::kind_at(cells::cell(s, places, 2));
     let KindRead::Known(kind) = k else {
         return unformed();
     };
@@ -163,7 +136,7 @@ pub fn read_row(s: &[u8], start: usize) -> RowRead
         let row = f.row;
         return RowRead { good, row, next };
     }
-    let row = blank_row();
+    let row = keys::blank_row();
     RowRead {
         good: false,
         row,

@@ -1,4 +1,3 @@
--- The laws of bits, of permitted sets and of sums. Other crates' proofs cite them.
+-- The laws of bits and of sums. Other crates' proofs cite them.
 pub mod Bits
 pub mod Adding
-pub mod Permits

@@ -1,23 +1,19 @@
 -- What the river rows of a job are told is one thing.
 use Prim.Native.Nat.{ℕ, _≤_}
-use native.Mathlib.Omega.{arith}
-use mathlib.Core.Path.{_≡_, refl, sym, ap, subst, _∙_}
+use mathlib.Core.Path.{_≡_, refl, sym, subst, _∙_}
 use mathlib.Core.Bool.{Bool}
 use Rattle.decides.specs.Decides.{Decides, decides-one}
 use Rattle.jobs.specs.declared.Job.{Job}
-use Rattle.river.specs.Scour as scour
-use Rattle.river.specs.Clear as clearing
-use Rattle.river.specs.declared.ClearanceAnswer.{ClearanceAnswer}
-use Rattle.river.specs.declared.ClearanceAnswer.the-variants as clearance
+use Rattle.clearance.specs.declared.ClearanceAnswer.the-variants as clearance
 use Rattle.river.proofs.Scours.{scoured-one}
-use Rattle.river.proofs.Clearances.{cleared-one, told-one}
+use Rattle.clearance.proofs.Clearances.{cleared-one, told-one}
 use Rattle.lines.specs.declared.DepthLine.{DepthLine}
 use Rattle.lines.specs.declared.DepthLine.the-variants as depth
 use Rattle.lines.specs.declared.ClearLine.{ClearLine}
 use Rattle.lines.specs.declared.ClearLine.the-variants as clear
-use Rattle.waters.specs.Waters.{DepthShown, DepthIs, AtLeast, ClearShown, ClearIs, RiverSays, large, intense, obstructed, shown}
+use Rattle.waters.specs.Waters.{DepthIs, AtLeast, ClearShown, ClearIs, RiverSays, large, intense, obstructed, shown}
 use Rattle.waters.specs.declared.RiverRead.{RiverRead}
-use Rattle.waters.specs.declared.RiverRead.the-variants.{Refused, Shown}
+use Rattle.waters.specs.declared.RiverRead.the-variants.{Shown}
 
 module _ (job : Job) where
   pub depth-one : (d e : DepthLine) → DepthIs job d → DepthIs job e → d ≡ e

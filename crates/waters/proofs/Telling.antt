@@ -1,23 +1,23 @@
--- What `river` tells of a row, told of its job: a refusal of the row is one of the job, and no other holds beside what is told.
+-- What `river` and `clearance` tell of a row, told of its job: a refusal of the row is one of the job, and no other holds beside what is told.
 use Prim.Native.Nat.{ℕ, _≤_, _<_}
 use native.Mathlib.Omega.{arith}
-use mathlib.Core.Path.{_≡_, refl, sym, ap, subst, _∙_}
+use mathlib.Core.Path.{_≡_, refl, sym, subst}
 use mathlib.Core.Bool.{Bool, true, false}
-use Rattle.decides.specs.Decides.{Decides, decided, refuted, not-both}
-use Rattle.kinds.specs.Range.{value, Ranged}
+use Rattle.decides.specs.Decides.{Decides, decided, refuted}
+use Rattle.ranges.specs.Range.{value, Ranged}
 use Rattle.kinds.specs.declared.Kind.the-variants.{B, S, C}
 use Rattle.jobs.specs.declared.Job.{Job}
-use Rattle.jobs.specs.declared.Stage.{Stage}
-use Rattle.jobs.specs.declared.Stage.the-variants.{Unbegun, Dry, Scoured, Crossed}
+use Rattle.placing.specs.declared.Stage.{Stage}
+use Rattle.placing.specs.declared.Stage.the-variants.{Unbegun, Dry, Scoured, Crossed}
 use Rattle.river.specs.Scour as scour
-use Rattle.river.specs.Clear as clearing
-use Rattle.river.specs.declared.ClearanceAnswer.the-variants as clearance
+use Rattle.clearance.specs.Clear as clearing
+use Rattle.clearance.specs.declared.ClearanceAnswer.the-variants as clearance
 use Rattle.river.proofs.Scours as scours
-use Rattle.river.proofs.Clearances as clearances
+use Rattle.clearance.proofs.Clearances as clearances
 use Rattle.lines.specs.declared.DepthLine.{DepthLine}
 use Rattle.lines.specs.declared.DepthLine.the-variants as depth
 use Rattle.lines.specs.declared.ClearLine.the-variants as clear
-use Rattle.waters.specs.Waters.{HasScour, HasClearance, RowsRanged, LargeCatchment, TooIntense, OverObstructed, OnRock, Founded, DepthShown, DepthIs, AtLeast, ClearShown, Passed, DepthLineIs, RiverSays, large, intense, obstructed, shown}
+use Rattle.waters.specs.Waters.{HasScour, HasClearance, RowsRanged, told-refusal, told-depth, LargeCatchment, TooIntense, OverObstructed, OnRock, DepthShown, DepthIs, AtLeast, Passed, DepthLineIs, RiverSays, large, intense, obstructed, shown}
 use Rattle.waters.specs.declared.RiverRead.the-variants.{Refused, Shown}
 
 -- a C row stands only behind an S row
@@ -45,16 +45,21 @@ module _ (job : Job) (r : RowsRanged job) (has : HasScour (job .stage)) where
   says-intense : TooIntense job → scour.Says (job .scour) (scour.refused 13)
   says-intense t = scour.in-range (r .scour has) (scour.too-intense (t .constricted) (t .above))
 
-  pub scour-ranged : scour.Says (job .scour) (scour.refused 11) → ⊥
-  scour-ranged (scour.out-of-range h) = h (r .scour has)
-
-  pub scour-large : scour.Says (job .scour) (scour.refused 12) → RiverSays job (Refused 12)
-  scour-large (scour.in-range k (scour.large-catchment h)) = large (record { has = has; above = h })
-
-  pub scour-intense : scour.Says (job .scour) (scour.refused 13) → RiverSays job (Refused 13)
-  scour-intense (scour.in-range {t} k (scour.too-intense {q} c h)) =
+  -- a refusal of the row is one of the job
+  pub scour-refused : {t : scour.Told} → scour.Says (job .scour) t → 0 < told-refusal t → RiverSays job (Refused (told-refusal t))
+  scour-refused (scour.out-of-range h) p = absurd (h (r .scour has))
+  scour-refused (scour.in-range k (scour.large-catchment h)) p = large (record { has = has; above = h })
+  scour-refused (scour.in-range k (scour.too-intense {q} c h)) p =
       intense (λ l. let e = scours.says-one (says-large l) (scour.in-range k (scour.too-intense c h)) in let z : _≡_ {A = ℕ} 12 13 = cc in omega arith)
       (record { has = has; q = q; constricted = c; above = h })
+  scour-refused (scour.in-range k (scour.needed l n)) p = absurd (omega arith)
+
+  -- and where there is none a depth is needed
+  pub scour-needs : {t : scour.Told} → scour.Says (job .scour) t → told-refusal t ≤ 0 → scour.Says (job .scour) (scour.needs (told-depth t))
+  scour-needs (scour.out-of-range h) p = absurd (omega arith)
+  scour-needs (scour.in-range k (scour.large-catchment h)) p = absurd (omega arith)
+  scour-needs (scour.in-range k (scour.too-intense c h)) p = absurd (omega arith)
+  scour-needs (scour.in-range k (scour.needed l n)) p = scour.in-range k (scour.needed l n)
 
   module _ (needed : ℕ) (says : scour.Says (job .scour) (scour.needs needed)) where
     pub scour-passed : Passed job

@@ -3,13 +3,13 @@ use Prim.Native.Nat.{ℕ, _≤_, _<_}
 use mathlib.Core.Path.{_≡_}
 use mathlib.Core.Bool.{Bool, true, false}
 use Rattle.decides.specs.Decides.{Decides}
-use Rattle.kinds.specs.Range.{value, Ranged}
+use Rattle.ranges.specs.Range.{value, Ranged}
 use Rattle.kinds.specs.declared.Kind.the-variants.{B, S, C}
 use Rattle.jobs.specs.declared.Job.{Job}
-use Rattle.jobs.specs.declared.Stage.{Stage}
-use Rattle.jobs.specs.declared.Stage.the-variants.{Unbegun, Dry, Scoured, Crossed}
+use Rattle.placing.specs.declared.Stage.{Stage}
+use Rattle.placing.specs.declared.Stage.the-variants.{Unbegun, Dry, Scoured, Crossed}
 use Rattle.river.specs.Scour as scour
-use Rattle.river.specs.Clear.{Cleared, given, signed}
+use Rattle.clearance.specs.Clear.{Cleared, given, signed}
 use Rattle.lines.specs.declared.DepthLine.{DepthLine}
 use Rattle.lines.specs.declared.DepthLine.the-variants as depth
 use Rattle.lines.specs.declared.ClearLine.{ClearLine}
@@ -35,6 +35,15 @@ pub record RowsRanged (job : Job) : Type 0 where
   pub base : Ranged B (job .base)
   pub scour : HasScour (job .stage) → Ranged S (job .scour)
   pub clearance : HasClearance (job .stage) → Ranged C (job .clearance)
+
+-- what an S row is told, by its numbers: that of its refusal, and the depth needed; each 0 where there is none
+abbrev pub told-refusal : scour.Told → ℕ
+told-refusal (scour.refused n) = n
+told-refusal (scour.needs needed) = 0
+
+abbrev pub told-depth : scour.Told → ℕ
+told-depth (scour.refused n) = 0
+told-depth (scour.needs needed) = needed
 
 -- 12, catchment above 25,000
 pub record LargeCatchment (job : Job) : Type 0 where

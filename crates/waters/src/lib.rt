@@ -3,17 +3,18 @@
 //
 // What is hard is what must not be left out: on rock no depth is needed, and still 12 and 13 apply; a C row stands only
 // behind an S row, whose Q it takes.
+use clearance::ClearanceAnswer;
 use jobs::Job;
-use jobs::Stage;
 use kinds::Kind;
 use lines::ClearLine;
 use lines::DepthLine;
-use river::ClearanceAnswer;
+use placing::Stage;
 use river::ScourAnswer;
 ghost use mathlib.Core.Path.{_≡_};
 ghost use Prim.Native.Nat.{ℕ, _≤_, _<_};
 ghost use Rattle.decides.specs.Decides.{Decides};
-ghost use Rattle.waters.specs.Waters.{HasScour, HasClearance, RowsRanged, AtLeast, DepthIs, Passed, DepthLineIs, RiverSays};
+ghost use Rattle.river.specs.Scour.{told};
+ghost use Rattle.waters.specs.Waters.{HasScour, HasClearance, RowsRanged, told-refusal, told-depth, AtLeast, DepthIs, Passed, DepthLineIs, RiverSays};
 
 // What the river rows of a job give: their refusal, 12 to 14, or their lines.
 pub enum RiverRead {
@@ -48,15 +49,15 @@ pub fn rows_ranged(job: Job) -> bool
     ensures { λ r. ⌜ Decides r (RowsRanged job) ⌝ }
 {
     let stage = job.stage;
-    if !kinds::is_ranged(Kind::B, job.base) {
+    if !ranges::is_ranged(Kind::B, job.base) {
         return false;
     }
     if has_scour(stage) {
-        if !kinds::is_ranged(Kind::S, job.scour) {
+        if !ranges::is_ranged(Kind::S, job.scour) {
             return false;
         }
         if has_clearance(stage) {
-            return kinds::is_ranged(Kind::C, job.clearance);
+            return ranges::is_ranged(Kind::C, job.clearance);
         }
         return true;
     }
@@ -122,7 +123,7 @@ fn clear_of(job: Job, depth: DepthLine) -> RiverRead
     if !has_clearance(stage) {
         return RiverRead::Shown(depth, ClearLine::Missing);
     }
-    let answer = river::clearance(job.clearance, job.scour.n1);
+    let answer = clearance::clearance(job.clearance, job.scour.n1);
     match answer {
         ClearanceAnswer::OutOfRange => RiverRead::Refused(11),
         ClearanceAnswer::OverObstructed => RiverRead::Refused(14),
@@ -143,7 +144,31 @@ fn clear_of(job: Job, depth: DepthLine) -> RiverRead
     }
 }
 
-// The S and C rows, where there are any.
+// The number of an S row's refusal, and 0 where there is none.
+fn refusal_of(answer: ScourAnswer) -> u8
+    ensures { λ r. ⌜ r ≡ told-refusal (told answer) ⌝ }
+{
+    match answer {
+        ScourAnswer::OutOfRange => 11,
+        ScourAnswer::LargeCatchment => 12,
+        ScourAnswer::TooIntense => 13,
+        ScourAnswer::Needed(_) => 0,
+    }
+}
+
+// The depth that an S row needs, and 0 where there is none.
+fn depth_of(answer: ScourAnswer) -> u64
+    ensures { λ r. ⌜ r ≡ told-depth (told answer) ⌝ }
+{
+    match answer {
+        ScourAnswer::OutOfRange => 0,
+        ScourAnswer::LargeCatchment => 0,
+        ScourAnswer::TooIntense => 0,
+        ScourAnswer::Needed(needed) => needed,
+    }
+}
+
+// The S and C rows, where there are any. The S row is refused on rock too.
 pub fn river_of(job: Job) -> RiverRead
     requires { ⌜ RowsRanged job ⌝ }
     ensures { λ r. ⌜ RiverSays job r ⌝ }
@@ -153,15 +178,12 @@ pub fn river_of(job: Job) -> RiverRead
         return RiverRead::Shown(DepthLine::Missing, ClearLine::Missing);
     }
     let answer = river::scour(job.scour);
-    match answer {
-        ScourAnswer::OutOfRange => RiverRead::Refused(11),
-        ScourAnswer::LargeCatchment => RiverRead::Refused(12),
-        ScourAnswer::TooIntense => RiverRead::Refused(13),
-        ScourAnswer::Needed(needed) => {
-            let rock = is_rock(job.base.n5.size);
-            let found = wide(job.scour.n6.size);
-            let line = depth_line(rock, needed, found);
-            clear_of(job, line)
-        }
+    let refusal = refusal_of(answer);
+    let rock = is_rock(job.base.n5.size);
+    if 0 < refusal {
+        return RiverRead::Refused(refusal);
     }
+    let found = wide(job.scour.n6.size);
+    let line = depth_line(rock, depth_of(answer), found);
+    clear_of(job, line)
 }

@@ -1,4 +1,3 @@
 -- What the search is shown by. `Naming` holds what other crates cite.
 pub mod Naming
-pub mod Tables
 pub mod Walking

@@ -12,8 +12,8 @@ use Rattle.checks.specs.declared.Check.the-variants.{OP, OM, SL, PR, RK}
 use Rattle.checks.specs.declared.Figure.{Figure}
 use Rattle.checks.specs.Figures.{Shows}
 use Rattle.checks.specs.Order.{side}
-use Rattle.checks.specs.Limits.{Passes}
-use Rattle.checks.proofs.Passing.{limit-one, passes-better}
+use Rattle.limits.specs.Limits.{Passes}
+use Rattle.limits.proofs.Passing.{limit-one, passes-better}
 use Rattle.worst.specs.declared.Line.{Line}
 use Rattle.worst.specs.declared.Line.the-variants.{Missing, Shown}
 use Rattle.named.proofs.Unique.{named-figure, named-set}

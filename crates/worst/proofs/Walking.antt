@@ -1,4 +1,4 @@
--- The table row by row, the sums of a choice row by row, and from all choices to what the walk finds.
+-- The table row by row, and from all choices to what the walk finds.
 use mathlib.Core.Path.{_≡_, refl, sym, _∙_, ap, ap₂, subst, subst⁻¹}
 use mathlib.Core.Logic.{_⊎_, inl, inr, ⊎-elim}
 use mathlib.Core.Bool.{Bool, true, false}
@@ -12,19 +12,19 @@ use Rattle.decides.specs.Decides.{Decides}
 use Rattle.sets.specs.declared.Combination.{Combination}
 use Rattle.sets.specs.declared.Loads.{Loads}
 use Rattle.sets.specs.declared.Sums.{Sums}
-use Rattle.sets.specs.Sets.{bit, row, Bounded, Opens, Permitted, Admits, RowFits}
-use Rattle.sets.specs.Sums.{noSums, addIf, sumsOf, Room}
-use Rattle.sets.proofs.Adding.{room-none, room-add, room-more, room-if, room-row, low-place}
-use Rattle.sets.proofs.Permits.{Fit, permits, admitted}
+use Rattle.sets.specs.Sets.{row, Bounded, Opens, Permitted, Admits, RowFits}
+use Rattle.sets.specs.Sums.{noSums, sumsOf, Room}
+use Rattle.sets.proofs.Adding.{room-none, room-add, room-more, room-row, low-place}
+use Rattle.permits.proofs.Permits.{Fit, permits, admitted}
 use Rattle.checks.specs.declared.Base.{Base}
 use Rattle.checks.specs.declared.Check.{Check}
 use Rattle.checks.specs.declared.Check.the-variants.{OP, OM, SL, PR, RK}
 use Rattle.checks.specs.declared.Figure.{Figure}
 use Rattle.checks.specs.Figures.{Shows, Judged}
 use Rattle.checks.specs.Order.{side, rank}
-use Rattle.checks.specs.Limits.{Service, HasCheck}
+use Rattle.limits.specs.Limits.{Service, HasCheck}
 use Rattle.checks.proofs.Showing.{judged-shows, shows-one, ranks-map}
-use Rattle.worst.specs.declared.Best.{Best}
+use Rattle.named.specs.declared.Best.{Best}
 use Rattle.named.specs.declared.Mark.{Mark}
 use Rattle.choices.specs.declared.Stance.{Stance}
 use Rattle.choices.specs.declared.Stance.the-variants.{Never, Always, Either}
@@ -32,25 +32,12 @@ use Rattle.worst.specs.declared.Table.{Table}
 use Rattle.choices.specs.Stance.{next, free, pick, fixedBy, fixed, chosen}
 use Rattle.named.specs.Marks.{Offered}
 use Rattle.choices.specs.Stance.{rowTerms, stanceAt}
-use Rattle.worst.specs.Search.{markOf, Weighed, Visits, rowOf, Grows, Filled, Walked}
+use Rattle.named.specs.Weighs.{markOf, Weighed}
+use Rattle.tables.specs.Table.{rowOf}
+use Rattle.worst.specs.Search.{Visits, Grows, Filled, Walked}
 use Rattle.named.proofs.Weights.{Extends, nothing-yet, offer, skip, ends-named, ends-empty}
 use Rattle.choices.proofs.Choices.{next-le, free-room, pick-low, pick-bit, Stands, Made, made, sums-number, Tabled, pick-sums}
 use Rattle.choices.proofs.Rows.{stance-says, held-never, held-always, stance-fits}
-
--- ---- a choice, one row more
-pub chosen-none : (first : Sums) (table : ℕ → Sums) (k : ℕ) → first ≡ chosen first table k 0
-unfolding chosen
-chosen-none first table k = refl
-
-pub chosen-more : (first : Sums) (table : ℕ → Sums) (k m : ℕ) → chosen first table k (m + 1) ≡ addIf (bit k m) (chosen first table k m) (table m)
-unfolding chosen
-chosen-more first table k m = rw add-one
-
-pub chosen-room : (n : ℕ) (first : Sums) (table : ℕ → Sums) (k m : ℕ) → Room n first → ((j : ℕ) → j < m → Room 1 (table j)) → Room (n + m) (chosen first table k m)
-unfolding chosen
-chosen-room n first table k zero r h = room-more (omega arith) r
-chosen-room n first table k (suc m) r h =
-    room-more (omega arith) (room-if (bit k m) (chosen-room n first table k m r (λ j l. h j (omega arith))) (h m (omega arith)))
 
 -- ---- the table, one row more
 module _ (combination : Combination) (width : ℕ) (loads : Loads) where

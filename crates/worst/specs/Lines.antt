@@ -11,7 +11,7 @@ use Rattle.checks.specs.declared.Check.the-variants.{OP, OM, SL, PR, RK}
 use Rattle.checks.specs.declared.Figure.{Figure}
 use Rattle.checks.specs.Figures.{Shows}
 use Rattle.checks.specs.Order.{side}
-use Rattle.checks.specs.Limits.{Limit, HasCheck, Passes}
+use Rattle.limits.specs.Limits.{Limit, HasCheck, Passes}
 use Rattle.worst.specs.declared.Line.{Line}
 use Rattle.worst.specs.declared.Line.the-variants.{Missing, Shown}
 use Rattle.worst.specs.declared.Lines.{Lines}

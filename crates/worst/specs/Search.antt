@@ -1,54 +1,28 @@
--- The best so far of the search, for each check a rank and a set; and what it is to be the better of it and of one set more.
+-- What the walk through the choices holds: the best so far with one set more, the table of a combination's rows, and what is found at the end.
 use mathlib.Core.Path.{_≡_}
 use mathlib.Core.Logic.{_⊎_}
-use mathlib.Core.Bool.{Bool, true}
-use mathlib.Core.List.{List, [], _∷_}
-use Prim.Native.Nat.{ℕ, _+_, _*_, _<_}
-use lib.ListN.{getD}
+use mathlib.Core.Bool.{Bool}
+use Prim.Native.Nat.{ℕ, _<_}
 use Rattle.sets.specs.declared.Combination.{Combination}
 use Rattle.sets.specs.declared.Loads.{Loads}
 use Rattle.sets.specs.declared.Sums.{Sums}
-use Rattle.sets.specs.Sets.{row, Permitted, Admits}
+use Rattle.sets.specs.Sets.{Permitted, Admits}
 use Rattle.checks.specs.declared.Base.{Base}
 use Rattle.checks.specs.declared.Check.{Check}
-use Rattle.checks.specs.declared.Check.the-variants.{OP, OM, SL, PR, RK}
 use Rattle.checks.specs.declared.Figure.{Figure}
 use Rattle.checks.specs.Figures.{Shows, Judged}
 use Rattle.checks.specs.Order.{side, rank, Sound}
-use Rattle.checks.specs.Limits.{HasCheck}
+use Rattle.limits.specs.Limits.{HasCheck}
 use Rattle.named.specs.declared.Mark.{Mark}
-use Rattle.worst.specs.declared.Best.{Best}
-use Rattle.worst.specs.declared.Table.{Table}
-use Rattle.choices.specs.declared.Stance.{Stance}
-use Rattle.choices.specs.declared.Stance.the-variants.{Either}
+use Rattle.named.specs.declared.Best.{Best}
 use Rattle.named.specs.Named.{Named}
 use Rattle.named.specs.Marks.{Offered}
+use Rattle.named.specs.Weighs.{markOf, Weighed, Low}
+use Rattle.choices.specs.declared.Stance.{Stance}
+use Rattle.choices.specs.declared.Stance.the-variants.{Either}
 use Rattle.choices.specs.Stance.{next, free, fixedBy, fixed, rowTerms, stanceAt}
-
--- the best so far of each check
-unfoldable pub markOf : Check → Best → Mark
-markOf OP best = best .op
-markOf OM best = best .om
-markOf SL best = best .sl
-markOf PR best = best .pr
-markOf RK best = best .rk
-
--- the checks that are weighed: OP, OM and SL where the combination is one of service, RK where the base is on rock
-unfoldable pub Weighed : Bool → Bool → Check → Type 0
-Weighed full rock OP = full ≡ true
-Weighed full rock OM = full ≡ true
-Weighed full rock SL = full ≡ true
-Weighed full rock PR = Unit {0}
-Weighed full rock RK = rock ≡ true
-
--- every set of the best so far is one of 16 rows
-unfoldable pub Low : Best → Type 0
-Low best = (check : Check) → (markOf check best) .set < 65536
-
--- r is the best so far with the set of these sums weighed
-pub record Weighs (full rock : Bool) (base : Base) (sums : Sums) (b r : Best) : Type 0 where
-  pub offered : (check : Check) → Weighed full rock check → Offered (side check) (Judged check base sums) (markOf check b) (sums .set) (markOf check r)
-  pub low : Low r
+use Rattle.tables.specs.Table.{rowOf}
+use Rattle.worst.specs.declared.Table.{Table}
 
 -- r is the best so far with the set of these sums weighed if it is permitted
 pub record Visits (combination : Combination) (full rock : Bool) (base : Base) (sums : Sums) (b r : Best) : Type 0 where
@@ -57,30 +31,7 @@ pub record Visits (combination : Combination) (full rock : Bool) (base : Base) (
       ⊎ ((Admits combination (sums .winds) (sums .quakes) (sums .set) → ⊥) × (r ≡ b))
   pub low : Low r
 
--- ---- the table of the free rows' terms, 13 numbers a row
-unfoldable pub rowOf : List ℕ → ℕ → Sums
-rowOf t j =
-    record {
-      v = record { above = getD t (13 * j) 0; below = getD t (13 * j + 1) 0 };
-      h = record { above = getD t (13 * j + 2) 0; below = getD t (13 * j + 3) 0 };
-      m = record { above = getD t (13 * j + 4) 0; below = getD t (13 * j + 5) 0 };
-      plus = record { resisting = getD t (13 * j + 6) 0; overturning = getD t (13 * j + 7) 0 };
-      minus = record { resisting = getD t (13 * j + 8) 0; overturning = getD t (13 * j + 9) 0 };
-      winds = getD t (13 * j + 10) 0;
-      quakes = getD t (13 * j + 11) 0;
-      set = getD t (13 * j + 12) 0;
-    }
-
--- the numbers of a row of the table
-unfoldable pub cells : Sums → List ℕ
-cells s =
-    s .v .above ∷ s .v .below ∷ s .h .above ∷ s .h .below ∷ s .m .above ∷ s .m .below ∷ s .plus .resisting ∷ s .plus .overturning
-    ∷ s .minus .resisting ∷ s .minus .overturning ∷ s .winds ∷ s .quakes ∷ s .set ∷ []
-
--- after is before with row j of the table set to these sums
-pub record Puts (before : List ℕ) (j : ℕ) (sums : Sums) (after : List ℕ) : Type 0 where
-  pub own : rowOf after j ≡ sums
-  pub others : (i : ℕ) → i < j → rowOf after i ≡ rowOf before i
+-- ---- the table of a combination's rows
 
 -- r is the table with one row more
 pub record Grows (table : Table) (stance : Stance) (sums : Sums) (r : Table) : Type 0 where

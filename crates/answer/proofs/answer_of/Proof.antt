@@ -12,15 +12,6 @@ use Rattle.answer.proofs.Ordering.{refuses-11, loads-11, loads-15, load
 use borrow.Author.Needs.{needs}
 use Rattle.answer.proofs.answer_of.Statement.{statement}
 use Rattle.answer.proofs.answer_of.Tie as tie
-use Rattle.answer.proofs.answer_of.Reads as reads
-use Rattle.answer.proofs.answer_of.Lts as lts
-use Rattle.answer.proofs.base_at.Reads as base-at-reads
-use Rattle.answer.proofs.first_of.Reads as first-of-reads
-use Rattle.answer.proofs.refused.Reads as refused-reads
-use Rattle.answer.proofs.whole.Reads as whole-reads
-use Rattle.loads.proofs.loads_of.Reads as loads-of-reads
-use Rattle.waters.proofs.river_of.Reads as river-of-reads
-use Rattle.waters.proofs.rows_ranged.Reads as rows-ranged-reads
 
 -- behind the river rows
 module _ (c : tie.After-river-of) where
@@ -30,81 +21,62 @@ module _ (c : tie.After-river-of) where
   ranged : RowsRanged (at-loads .before .before .before .before .args .job)
   ranged = decided (at-loads .before .before .before .rows-ranged .result) (not-false _ (at-loads .before .before .if1 .left)) (at-loads .before .before .before .rows-ranged .ensures)
 
--- src/lib.rt:185:9
 rows-ranged-requires : tie.Need-rows-ranged-requires
 rows-ranged-requires c κs = search needs
 
--- src/lib.rt:186:9
 refused-requires : tie.Need-refused-requires
 refused-requires c κs = search needs
 
--- src/lib.rt:186:9
 returns : tie.Need-returns
 returns c = refused (refuses-11 _ _ (λ a. refuted (c .before .before .rows-ranged .result) (not-true _ (c .before .if1 .taken)) (c .before .before .rows-ranged .ensures) (a .rows))) (c .refused .ensures)
 
--- src/lib.rt:189:9
 loads-of-requires : tie.Need-loads-of-requires
 loads-of-requires c κs = search needs
 
--- src/lib.rt:192:9
 river-of-requires : tie.Need-river-of-requires
 river-of-requires c κs =
     let at-row = c .before .before .before .before in
     decided (at-row .rows-ranged .result) (not-false _ (c .before .before .before .if1 .left)) (at-row .rows-ranged .ensures)
 
--- src/lib.rt:194:38
 enum-told : tie.Need-enum-told
 enum-told c = search needs
 
--- src/lib.rt:194:38
 refused-requires-2 : tie.Need-refused-requires-2
 refused-requires-2 c κs = search needs
 
--- src/lib.rt:195:49
 enum-told-2 : tie.Need-enum-told-2
 enum-told-2 c = search needs
 
--- src/lib.rt:195:49
 first-of-requires : tie.Need-first-of-requires
 first-of-requires c κs = search needs
 
--- src/lib.rt:195:41
 refused-requires-3 : tie.Need-refused-requires-3
 refused-requires-3 c κs = search needs
 
--- src/lib.rt:196:43
 enum-told-3 : tie.Need-enum-told-3
 enum-told-3 c = search needs
 
--- src/lib.rt:196:43
 first-of-requires-2 : tie.Need-first-of-requires-2
 first-of-requires-2 c κs = search needs
 
--- src/lib.rt:196:35
 refused-requires-4 : tie.Need-refused-requires-4
 refused-requires-4 c κs = search needs
 
--- src/lib.rt:197:33
 enum-told-4 : tie.Need-enum-told-4
 enum-told-4 c = search needs
 
--- src/lib.rt:198:32
 enum-known-river : tie.Need-enum-known-river
 enum-known-river c = search needs
 
--- src/lib.rt:198:43
 refused-requires-5 : tie.Need-refused-requires-5
 refused-requires-5 c κs = search needs
 
--- src/lib.rt:199:30
 enum-known-river-2 : tie.Need-enum-known-river-2
 enum-known-river-2 c = search needs
 
--- src/lib.rt:199:53
 base-at-requires : tie.Need-base-at-requires
 base-at-requires c κs = search needs
 
--- src/lib.rt:199:47
 whole-requires : tie.Need-whole-requires
 whole-requires c κs =
     let at-river = c .before .before .before .before .before .before in
@@ -114,7 +86,6 @@ whole-requires c κs =
       given-bounded table2-fill table2-small (job .loads) (job .count) (loads .loads-of .result) (loads .loads-of .ensures) (c .before .before .before .before .enum-told4 .given .1),
     )
 
--- src/lib.rt:182:1
 returns-2 : tie.Need-returns-2
 returns-2 c =
     let at-river = c .before .before .before in
@@ -122,7 +93,6 @@ returns-2 c =
     let job = loads .before .before .before .before .args .job in
     refused (loads-11 table2-fill job (loads .loads-of .result) (loads .loads-of .ensures) (c .before .enum-told .given .1)) (c .refused2 .ensures)
 
--- src/lib.rt:182:1
 returns-3 : tie.Need-returns-3
 returns-3 c =
     let at-river = c .before .before .before .before in
@@ -130,7 +100,6 @@ returns-3 c =
     let job = loads .before .before .before .before .args .job in
     refused (loads-15 table2-fill job (loads .loads-of .result) (loads .loads-of .ensures) (ranged at-river) (c .before .before .enum-told2 .given .1) (at-river .river-of .result) (at-river .river-of .ensures)) (c .refused3 .ensures ∙ ap refusal (c .before .first-of .ensures))
 
--- src/lib.rt:182:1
 returns-4 : tie.Need-returns-4
 returns-4 c =
     let at-river = c .before .before .before .before in
@@ -138,7 +107,6 @@ returns-4 c =
     let job = loads .before .before .before .before .args .job in
     refused (loads-16 table2-fill job (loads .loads-of .result) (loads .loads-of .ensures) (ranged at-river) (c .before .before .enum-told3 .given .1) (at-river .river-of .result) (at-river .river-of .ensures)) (c .refused4 .ensures ∙ ap refusal (c .before .first-of2 .ensures))
 
--- src/lib.rt:182:1
 returns-5 : tie.Need-returns-5
 returns-5 c =
     let at-river = c .before .before .before .before .before .before in
@@ -146,7 +114,6 @@ returns-5 c =
     let job = loads .before .before .before .before .args .job in
     refused (river-refuses table2-fill job (loads .loads-of .result) (loads .loads-of .ensures) (ranged at-river) (c .before .before .before .before .enum-told4 .given .1) (subst (RiverSays job) (c .before .before .river .given .1) (at-river .river-of .ensures))) (c .refused5 .ensures)
 
--- src/lib.rt:182:1
 returns-6 : tie.Need-returns-6
 returns-6 c =
     let at-river = c .before .before .before .before .before .before .before in

@@ -2,27 +2,19 @@ use lib.Dec.{eqb}
 use borrow.Author.Needs.{needs}
 use Rattle.answer.proofs.base_at.Statement.{statement}
 use Rattle.answer.proofs.base_at.Tie as tie
-use Rattle.answer.proofs.base_at.Reads as reads
-use Rattle.answer.proofs.base_at.Lts as lts
-use Rattle.answer.proofs.wide.Reads as wide-reads
 
--- src/lib.rt:37:16
 wide-requires : tie.Need-wide-requires
 wide-requires c κs = search needs
 
--- src/lib.rt:38:17
 wide-requires-2 : tie.Need-wide-requires-2
 wide-requires-2 c κs = search needs
 
--- src/lib.rt:39:20
 wide-requires-3 : tie.Need-wide-requires-3
 wide-requires-3 c κs = search needs
 
--- src/lib.rt:40:19
 wide-requires-4 : tie.Need-wide-requires-4
 wide-requires-4 c κs = search needs
 
--- src/lib.rt:33:1
 returns : tie.Need-returns
 returns c =
     let w = c .before .before .before .before .wide .ensures in

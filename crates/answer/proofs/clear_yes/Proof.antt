@@ -5,22 +5,16 @@ use Rattle.answer.specs.Answer.{ClearYes}
 use borrow.Author.Needs.{needs}
 use Rattle.answer.proofs.clear_yes.Statement.{statement}
 use Rattle.answer.proofs.clear_yes.Tie as tie
-use Rattle.answer.proofs.clear_yes.Reads as reads
-use Rattle.answer.proofs.clear_yes.Lts as lts
 
--- src/lib.rt:106:31
 enum-told : tie.Need-enum-told
 enum-told c = search needs
 
--- src/lib.rt:111:13
 enum-known-line : tie.Need-enum-known-line
 enum-known-line c = search needs
 
--- src/lib.rt:102:1
 returns : tie.Need-returns
 returns c = subst (λ (l : ClearLine). ClearYes l) (sym (c .enum-told .given .1)) tt
 
--- src/lib.rt:102:1
 returns-2 : tie.Need-returns-2
 returns-2 c = subst (λ (l : ClearLine). Decides (c .before .line .given .0 .1 .1 .1 .0) (ClearYes l)) (sym (c .before .line .given .1)) (decides-flag (c .before .line .given .0 .1 .1 .1 .0))
 

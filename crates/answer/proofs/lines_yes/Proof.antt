@@ -2,31 +2,22 @@ use Rattle.answer.proofs.Marking.{lines-decided}
 use borrow.Author.Needs.{needs}
 use Rattle.answer.proofs.lines_yes.Statement.{statement}
 use Rattle.answer.proofs.lines_yes.Tie as tie
-use Rattle.answer.proofs.lines_yes.Reads as reads
-use Rattle.answer.proofs.lines_yes.Lts as lts
-use Rattle.answer.proofs.line_yes.Reads as line-yes-reads
 
--- src/lib.rt:125:9
 line-yes-requires : tie.Need-line-yes-requires
 line-yes-requires c κs = search needs
 
--- src/lib.rt:126:9
 line-yes-requires-2 : tie.Need-line-yes-requires-2
 line-yes-requires-2 c κs = search needs
 
--- src/lib.rt:127:9
 line-yes-requires-3 : tie.Need-line-yes-requires-3
 line-yes-requires-3 c κs = search needs
 
--- src/lib.rt:128:9
 line-yes-requires-4 : tie.Need-line-yes-requires-4
 line-yes-requires-4 c κs = search needs
 
--- src/lib.rt:129:9
 line-yes-requires-5 : tie.Need-line-yes-requires-5
 line-yes-requires-5 c κs = search needs
 
--- src/lib.rt:117:1
 returns : tie.Need-returns
 returns c = lines-decided _ (c .before .before .before .before .line-yes .result) (c .before .before .before .line-yes2 .result) (c .before .before .line-yes3 .result) (c .before .line-yes4 .result) (c .line-yes5 .result) (c .before .before .before .before .line-yes .ensures) (c .before .before .before .line-yes2 .ensures) (c .before .before .line-yes3 .ensures) (c .before .line-yes4 .ensures) (c .line-yes5 .ensures)
 

@@ -6,15 +6,10 @@ use Rattle.lines.specs.declared.ClearLine.the-variants as clear
 use borrow.Author.Needs.{needs}
 use Rattle.answer.proofs.refused.Statement.{statement}
 use Rattle.answer.proofs.refused.Tie as tie
-use Rattle.answer.proofs.refused.Reads as reads
-use Rattle.answer.proofs.refused.Lts as lts
-use Rattle.answer.proofs.missing.Reads as missing-reads
 
--- src/lib.rt:62:9
 missing-requires : tie.Need-missing-requires
 missing-requires c κs = search needs
 
--- src/lib.rt:59:1
 returns : tie.Need-returns
 returns c = ap (λ (l : Lines). record { verdict = Refused (c .before .args .number); one = l; two = l; three = l; four = l; depth = depth.Missing; clear = clear.Missing }) (c .missing .ensures)
 

@@ -6,59 +6,40 @@ use Rattle.answer.proofs.Marking.{verdict-decided}
 use borrow.Author.Needs.{needs}
 use Rattle.answer.proofs.whole.Statement.{statement}
 use Rattle.answer.proofs.whole.Tie as tie
-use Rattle.answer.proofs.whole.Reads as reads
-use Rattle.answer.proofs.whole.Lts as lts
-use Rattle.answer.proofs.clear_yes.Reads as clear-yes-reads
-use Rattle.answer.proofs.depth_yes.Reads as depth-yes-reads
-use Rattle.answer.proofs.lines_yes.Reads as lines-yes-reads
-use Rattle.answer.proofs.verdict_of.Reads as verdict-of-reads
-use Rattle.worst.proofs.worst_lines.Reads as worst-lines-reads
 
--- src/lib.rt:149:9
 worst-lines-requires : tie.Need-worst-lines-requires
 worst-lines-requires c κs = search needs
 
--- src/lib.rt:150:9
 worst-lines-requires-2 : tie.Need-worst-lines-requires-2
 worst-lines-requires-2 c κs = search needs
 
--- src/lib.rt:151:9
 worst-lines-requires-3 : tie.Need-worst-lines-requires-3
 worst-lines-requires-3 c κs = search needs
 
--- src/lib.rt:152:9
 worst-lines-requires-4 : tie.Need-worst-lines-requires-4
 worst-lines-requires-4 c κs = search needs
 
--- src/lib.rt:153:9
 lines-yes-requires : tie.Need-lines-yes-requires
 lines-yes-requires c κs = search needs
 
--- src/lib.rt:154:9
 lines-yes-requires-2 : tie.Need-lines-yes-requires-2
 lines-yes-requires-2 c κs = search needs
 
--- src/lib.rt:155:9
 lines-yes-requires-3 : tie.Need-lines-yes-requires-3
 lines-yes-requires-3 c κs = search needs
 
--- src/lib.rt:156:9
 lines-yes-requires-4 : tie.Need-lines-yes-requires-4
 lines-yes-requires-4 c κs = search needs
 
--- src/lib.rt:157:9
 depth-yes-requires : tie.Need-depth-yes-requires
 depth-yes-requires c κs = search needs
 
--- src/lib.rt:158:9
 clear-yes-requires : tie.Need-clear-yes-requires
 clear-yes-requires c κs = search needs
 
--- src/lib.rt:159:9
 verdict-of-requires : tie.Need-verdict-of-requires
 verdict-of-requires c κs = search needs
 
--- src/lib.rt:144:1
 returns : tie.Need-returns
 returns c =
     let at-f = c .before in

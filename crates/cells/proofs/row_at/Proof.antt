@@ -1,9 +1,7 @@
-use Prim.Native.Nat.{_≤_, _-_, _+_}
+use Prim.Native.Nat.{_-_, _+_}
 use mathlib.Core.Path.{refl, subst}
-use native.Mathlib.Omega.{arith}
 use borrow.Author.Needs.{needs}
-use lib.ListN.{length, drop}
-use Rattle.csv.specs.Rfc4180.{Readable}
+use lib.ListN.{length}
 use Rattle.csv.specs.Answer.{FieldAt}
 use Rattle.csv.specs.declared.Ended.the-variants.{Comma, Row}
 use Rattle.csv.proofs.Steps.{Step, step-comma, step-row, step-bad}

@@ -6,7 +6,7 @@ use lib.ListN.{length}
 use Rattle.csv.specs.Rfc4180.{Plain, none, Textdata}
 use Rattle.csv.specs.Answer.{part}
 use Rattle.decides.specs.Decides.{decided, refuted}
-use Rattle.csv.proofs.Parts.{part-none, part-more, begins-is, past-begins}
+use Rattle.csv.proofs.Parts.{part-none, begins-is, past-begins}
 use Rattle.csv.proofs.plain_end.Statement.{statement}
 use Rattle.csv.proofs.plain_end.Tie as tie
 

@@ -1,6 +1,6 @@
 use mathlib.Core.Path.{refl}
 use mathlib.Core.List.{_∷_}
-use Rattle.csv.specs.Rfc4180.{COMMA, CR, LF}
+use Rattle.csv.specs.Rfc4180.{CR, LF}
 use Rattle.decides.specs.Decides.{decided, refuted}
 use Rattle.csv.proofs.Parts.{begins-at, begins-is, begins-behind}
 use Rattle.csv.proofs.Scan.{no-stop, two-bytes}

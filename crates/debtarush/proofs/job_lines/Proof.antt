@@ -8,11 +8,6 @@ use Rattle.debtarush.proofs.Placing.{Held, held, job-at, no-job-at, no-
 use borrow.Author.Needs.{needs}
 use Rattle.debtarush.proofs.job_lines.Statement.{statement}
 use Rattle.debtarush.proofs.job_lines.Tie as tie
-use Rattle.debtarush.proofs.job_lines.Reads as reads
-use Rattle.debtarush.proofs.job_lines.Lts as lts
-use Rattle.book.proofs.read_book.Reads as read-book-reads
-use Rattle.debtarush.proofs.lines_of.Reads as lines-of-reads
-use Rattle.block.proofs.write_block.Reads as write-block-reads
 
 -- a book that is given
 module _ (c : tie.After-known-told2) where
@@ -22,63 +17,48 @@ module _ (c : tie.After-known-told2) where
   given : Held (now (at-book .before .before .before .args .book)) (c .before .count2 .given .0 .0) (at-book .read-book .result .jobs)
   given = held _ (at-book .read-book .result) _ (at-book .read-book .ensures) (c .before .count2 .given .1)
 
--- src/lib.rt:34:9
 read-book-requires : tie.Need-read-book-requires
 read-book-requires c κs = search needs
 
--- src/lib.rt:38:24
 enum-known-count : tie.Need-enum-known-count
 enum-known-count c = search needs
 
--- src/lib.rt:39:22
 enum-known-count-2 : tie.Need-enum-known-count-2
 enum-known-count-2 c = search needs
 
--- src/lib.rt:41:17
 returns : tie.Need-returns
 returns c = let h = given (c .before) in no-place (h .book) (no-job-zero h _ (c .if1 .taken)) refl refl
 
--- src/lib.rt:44:17
 returns-2 : tie.Need-returns-2
 returns-2 c = let h = given (c .before .before) in no-place (h .book) (no-job-at h _ (c .before .if1 .left) (c .if2 .taken)) refl refl
 
--- src/lib.rt:46:22
 sub-at : tie.Need-sub-at
 sub-at c = search needs
 
--- src/lib.rt:47:23
 mul-job : tie.Need-mul-job
 mul-job c = let few = given (c .before .before) .few in omega (arith, c .if2 .left)
 
--- src/lib.rt:47:23
 array-copy-out-job : tie.Need-array-copy-out-job
 array-copy-out-job c = let few = given (c .before .before) .few in omega (arith, c .if2 .left, c .before .if1 .left)
 
--- src/lib.rt:48:17
 lines-of-requires : tie.Need-lines-of-requires
 lines-of-requires c κs = search needs
 
--- src/lib.rt:49:19
 write-block-requires : tie.Need-write-block-requires
 write-block-requires c κs = search needs
 
--- src/lib.rt:50:43
 enum-known-len : tie.Need-enum-known-len
 enum-known-len c = search needs
 
--- src/lib.rt:51:48
 enum-told : tie.Need-enum-told
 enum-told c = search needs
 
--- src/lib.rt:31:1
 returns-3 : tie.Need-returns-3
 returns-3 c = let b = c .before .before .before .before in no-book (subst (λ (x : Count). book.Says (now (b .before .before .before .args .book)) (book.told x (b .read-book .result .jobs))) (c .before .count .given .1) (b .read-book .ensures .says)) refl refl
 
--- src/lib.rt:31:1
 same-length : tie.Need-same-length
 same-length c = search needs
 
--- src/lib.rt:31:1
 returns-4 : tie.Need-returns-4
 returns-4 c =
     let out = c .before .before .before .before .before in
@@ -87,11 +67,9 @@ returns-4 c =
     let h = given (rows .before .before) in
     call-written h _ (job-at h _ _ (omega (arith, rows .before .if1 .left)) (rows .if2 .left)) (lines .lines-of .ensures) _ _ (c .before .len .given .1) (out .write-block .ensures)
 
--- src/lib.rt:31:1
 same-length-2 : tie.Need-same-length-2
 same-length-2 c = search needs
 
--- src/lib.rt:31:1
 returns-5 : tie.Need-returns-5
 returns-5 c =
     let out = c .before .before .before .before in

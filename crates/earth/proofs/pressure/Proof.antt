@@ -2,7 +2,7 @@
 use mathlib.Core.Path.{sym, subst}
 use borrow.Author.Needs.{needs}
 use Rattle.decides.specs.Decides.{decided, refuted}
-use Rattle.kinds.specs.Range.{Ranged}
+use Rattle.ranges.specs.Range.{Ranged}
 use Rattle.kinds.specs.declared.Kind.the-variants.{E}
 use Rattle.earth.specs.Earth.{Pushed, Small, told, out-of-range, in-range}
 use Rattle.earth.specs.declared.Coefficient.{Coefficient}

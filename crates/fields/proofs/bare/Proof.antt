@@ -24,41 +24,14 @@ part-result-end c = search needs
 returns : tie.Need-returns
 returns c = bare-between (c .before .before .before .before .before .before .args .raw .now) (c .before .before .before .before .before .if1 .taken) (c .before .before .before .if2 .taken) (c .before .if3 .taken)
 
-sub-result-2 : tie.Need-sub-result-2
-sub-result-2 c = search needs
-
-part-result-start-2 : tie.Need-part-result-start-2
-part-result-start-2 c = search needs
-
-part-result-end-2 : tie.Need-part-result-end-2
-part-result-end-2 c = search needs
-
 returns-2 : tie.Need-returns-2
-returns-2 c = bare-unclosed (c .before .before .before .before .before .before .args .raw .now) (c .before .if3 .left)
-
-sub-result-3 : tie.Need-sub-result-3
-sub-result-3 c = search needs
-
-part-result-start-3 : tie.Need-part-result-start-3
-part-result-start-3 c = search needs
-
-part-result-end-3 : tie.Need-part-result-end-3
-part-result-end-3 c = search needs
+returns-2 c = bare-unclosed _ (c .if3 .left)
 
 returns-3 : tie.Need-returns-3
-returns-3 c = bare-unopened (c .before .before .before .before .args .raw .now) (c .before .if2 .left)
-
-sub-result-4 : tie.Need-sub-result-4
-sub-result-4 c = search needs
-
-part-result-start-4 : tie.Need-part-result-start-4
-part-result-start-4 c = search needs
-
-part-result-end-4 : tie.Need-part-result-end-4
-part-result-end-4 c = search needs
+returns-3 c = bare-unopened _ (c .if2 .left)
 
 returns-4 : tie.Need-returns-4
-returns-4 c = bare-short (c .before .before .args .raw .now) (c .before .if1 .left)
+returns-4 c = bare-short _ (c .if1 .left)
 
 pub bare-spec : {M : Type 1} → statement M
 bare-spec =
@@ -71,15 +44,6 @@ bare-spec =
     part-result-start
     part-result-end
     returns
-    sub-result-2
-    part-result-start-2
-    part-result-end-2
     returns-2
-    sub-result-3
-    part-result-start-3
-    part-result-end-3
     returns-3
-    sub-result-4
-    part-result-start-4
-    part-result-end-4
     returns-4)

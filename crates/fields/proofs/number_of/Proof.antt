@@ -1,9 +1,10 @@
-use Prim.Native.Nat.{ℕ}
-use mathlib.Core.Path.{_≡_, refl, sym, subst}
+use mathlib.Core.Path.{refl, subst}
 use mathlib.Core.Logic.{⊎-elim}
 use native.Mathlib.Omega.{arith}
-use Rattle.fields.specs.Numbers.{DigitsAre, is-positive}
-use Rattle.fields.proofs.Numerals.{numeral-unique, minus-number, minus-wrong, plus-wrong}
+use Rattle.digits.specs.Numerals.{DigitsAre}
+use Rattle.fields.specs.Numbers.{is-positive}
+use Rattle.digits.proofs.Numerals.{numeral-unique}
+use Rattle.fields.proofs.Numerals.{minus-number, minus-wrong, plus-wrong}
 use borrow.Author.Needs.{needs}
 use Rattle.fields.proofs.number_of.Statement.{statement}
 use Rattle.fields.proofs.number_of.Tie as tie

@@ -1,4 +1,4 @@
-use Rattle.jobs.specs.declared.Stage.the-variants.{Dry}
+use Rattle.placing.specs.declared.Stage.the-variants.{Dry}
 use borrow.Author.Needs.{needs}
 use Rattle.jobs.proofs.begun.Statement.{statement}
 use Rattle.jobs.proofs.begun.Tie as tie

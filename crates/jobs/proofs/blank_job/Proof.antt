@@ -1,5 +1,5 @@
 use lib.ListN.{replicate}
-use Rattle.jobs.specs.declared.Stage.the-variants.{Unbegun}
+use Rattle.placing.specs.declared.Stage.the-variants.{Unbegun}
 use borrow.Author.Needs.{needs}
 use Rattle.jobs.proofs.blank_job.Statement.{statement}
 use Rattle.jobs.proofs.blank_job.Tie as tie

@@ -4,7 +4,7 @@ use Prim.Native.Nat.{ℕ, _-_, _≤_, _<_}
 use borrow.Author.Tests.{not-true, not-false}
 use borrow.Author.Count.{below-more}
 use Rattle.decides.specs.Decides.{decided, refuted}
-use Rattle.kinds.specs.Range.{Ranged}
+use Rattle.ranges.specs.Range.{Ranged}
 use Rattle.loads.specs.Taken.{rowAt, AllRanged}
 use Rattle.loads.proofs.all_ranged.Statement.{statement}
 use Rattle.loads.proofs.all_ranged.Tie as tie

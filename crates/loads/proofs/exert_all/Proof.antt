@@ -3,10 +3,9 @@ use native.Mathlib.Omega.{arith}
 use mathlib.Core.Path.{subst}
 use Prim.Native.Nat.{ℕ, _-_, _≤_}
 use native.Mathlib.Nat.{le-antisymm}
-use lib.Dec.{lit≤}
 use Rattle.earth.specs.Table2.{table2-fill}
 use Rattle.loads.specs.Taken.{rowAt, AllRanged, NoneBlank}
-use Rattle.loads.proofs.Exerting.{is-no-load, Laid, laid-none, laid-more, laid-all}
+use Rattle.loads.proofs.Laying.{Laid, laid-none, laid-more, laid-all}
 use Rattle.loads.proofs.exert_all.Statement.{statement}
 use Rattle.loads.proofs.exert_all.Tie as tie
 
@@ -16,11 +15,11 @@ Inv-loop n rows loads₀ i₀ loads i = (i ≤ n) × Laid table2-fill rows i loa
 abbrev μ-loop : tie.MeasureT-loop
 μ-loop n rows loads₀ i₀ loads i = n - i
 
-earth-load-requires : tie.Need-earth-load-requires Inv-loop μ-loop
-earth-load-requires c κs = (lit≤ tt, lit≤ tt)
+no-load-requires : tie.Need-no-load-requires Inv-loop μ-loop
+no-load-requires c κs = search needs
 
 loop-holds : tie.Need-loop-holds Inv-loop μ-loop
-loop-holds c = (search needs, laid-none _ _ (is-no-load (c .earth-load .ensures .0) (c .earth-load .ensures .1) (c .earth-load .ensures .2)))
+loop-holds c = (search needs, laid-none _ _ (c .no-load .ensures))
 
 mul-row : tie.Need-mul-row Inv-loop μ-loop
 mul-row c = omega (arith, c .before .before .before .pre .0)
@@ -63,7 +62,7 @@ exert-all-spec =
     (tie.spec
     Inv-loop
     μ-loop
-    earth-load-requires
+    no-load-requires
     loop-holds
     mul-row
     array-copy-out-row

@@ -1,18 +1,15 @@
-use lib.Dec.{lit≤}
+use borrow.Author.Needs.{needs}
 use lib.ListN.{replicate}
 use Rattle.loads.specs.Taken.{noLoads}
-use Rattle.loads.proofs.Exerting.{is-no-load}
 use Rattle.loads.proofs.no_loads.Statement.{statement}
 use Rattle.loads.proofs.no_loads.Tie as tie
 
-earth-load-requires : tie.Need-earth-load-requires
-earth-load-requires c κs = (lit≤ tt, lit≤ tt)
+no-load-requires : tie.Need-no-load-requires
+no-load-requires c κs = search needs
 
 returns : tie.Need-returns
 unfolding noLoads
-returns c =
-    let e = is-no-load (c .earth-load .ensures .0) (c .earth-load .ensures .1) (c .earth-load .ensures .2) in
-    λ i. record { count = 0; loads = replicate 16 (e i) }
+returns c = λ i. record { count = 0; loads = replicate 16 (c .no-load .ensures i) }
 
 pub no-loads-spec : {M : Type 1} → statement M
-no-loads-spec = tie.close (tie.spec earth-load-requires returns)
+no-loads-spec = tie.close (tie.spec no-load-requires returns)

@@ -4,7 +4,8 @@ use Prim.Native.Nat.{ℕ, _-_, _≤_, _<_}
 use borrow.Author.Count.{below-more}
 use Rattle.decides.specs.Decides.{decided, refuted}
 use Rattle.earth.specs.Table2.{table2-fill}
-use Rattle.loads.specs.Taken.{rowAt, BlankThere, NoneBlank}
+use Rattle.forces.specs.Exerts.{BlankThere}
+use Rattle.loads.specs.Taken.{rowAt, NoneBlank}
 use Rattle.loads.proofs.none_blank.Statement.{statement}
 use Rattle.loads.proofs.none_blank.Tie as tie
 

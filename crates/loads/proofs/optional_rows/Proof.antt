@@ -8,8 +8,8 @@ use native.Mathlib.Numerals.{add-one}
 use Rattle.kinds.specs.declared.Row.{Row}
 use Rattle.sets.specs.declared.Class.{Class}
 use Rattle.sets.specs.declared.Class.the-variants.{Permanent, Free, Wind, Earthquake}
-use Rattle.loads.specs.Exerts.{classOf}
-use Rattle.loads.specs.Taken.{rowAt, optional, optionals}
+use Rattle.forces.specs.Exerts.{classOf, optional}
+use Rattle.loads.specs.Taken.{rowAt, optionals}
 use Rattle.loads.proofs.optional_rows.Statement.{statement}
 use Rattle.loads.proofs.optional_rows.Tie as tie
 

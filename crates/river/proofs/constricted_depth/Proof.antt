@@ -23,7 +23,8 @@ depth-for-requires : tie.Need-depth-for-requires
 depth-for-requires c κs = omega (arith, flat c)
 
 returns : tie.Need-returns
-returns c = simp (square (c .before .args .q), mul-comm (1000 * c .before .args .f)) (c .depth-for .ensures)
+returns c =
+    (simp (square (c .before .args .q), mul-comm (1000 * c .before .args .f)) (c .depth-for .ensures .0), c .depth-for .ensures .1)
 
 pub constricted-depth-spec : {M : Type 1} → statement M
 constricted-depth-spec =

@@ -1,7 +1,7 @@
 -- `river::scour` meets its contract: the ranges are what `scour_of` asks.
 use borrow.Author.Needs.{needs}
 use Rattle.decides.specs.Decides.{decided, refuted}
-use Rattle.kinds.specs.Range.{Ranged}
+use Rattle.ranges.specs.Range.{Ranged}
 use Rattle.kinds.specs.declared.Kind.the-variants.{S}
 use Rattle.river.specs.Scour.{out-of-range, in-range}
 use Rattle.river.proofs.scour.Statement.{statement}

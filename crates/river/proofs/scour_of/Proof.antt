@@ -4,7 +4,7 @@ use native.Mathlib.Omega.{arith}
 use borrow.Author.Needs.{needs}
 use Rattle.decides.specs.Decides.{decided, refuted}
 use Rattle.river.specs.Scour.{Constricted, regime, constricted, large-catchment, too-intense, needed}
-use Rattle.river.proofs.Bounds.{discharge-most, regime-most, constricted-most}
+use Rattle.river.proofs.Bounds.{discharge-most}
 use Rattle.river.proofs.scour_of.Statement.{statement}
 use Rattle.river.proofs.scour_of.Tie as tie
 
@@ -34,10 +34,7 @@ regime-depth-requires : tie.Need-regime-depth-requires
 regime-depth-requires c κs = omega (arith, most (c .before .before))
 
 depth-needed-requires : tie.Need-depth-needed-requires
-depth-needed-requires c κs =
-    let flooded = c .before .before .before in
-    let p = flooded .before .before .pre in
-    (regime-most _ _ _ (most flooded) (p .1) (c .regime-depth .ensures), p .5, p .6)
+depth-needed-requires c κs = search needs
 
 returns-2 : tie.Need-returns-2
 returns-2 c =
@@ -45,7 +42,7 @@ returns-2 c =
     needed
     (regime (tested .before .foundation-discharge .ensures)
     (decided (tested .meets-regime .result) (c .before .before .if2 .taken) (tested .meets-regime .ensures))
-    (c .before .regime-depth .ensures))
+    (c .before .regime-depth .ensures .0))
     (c .depth-needed .ensures)
 
 mul-up : tie.Need-mul-up
@@ -61,14 +58,12 @@ constricted-depth-requires : tie.Need-constricted-depth-requires
 constricted-depth-requires c κs = search needs
 
 depth-needed-requires-2 : tie.Need-depth-needed-requires-2
-depth-needed-requires-2 c κs =
-    let p = c .before .before .before .before .before .before .before .pre in
-    (constricted-most _ _ _ (c .before .if3 .left) (p .1) (c .constricted-depth .ensures), p .5, p .6)
+depth-needed-requires-2 c κs = search needs
 
 returns-4 : tie.Need-returns-4
 returns-4 c =
     let limited = c .before .before in
-    needed (constricted (narrow (limited .before)) (limited .if3 .left) (c .before .constricted-depth .ensures)) (c .depth-needed2 .ensures)
+    needed (constricted (narrow (limited .before)) (limited .if3 .left) (c .before .constricted-depth .ensures .0)) (c .depth-needed2 .ensures)
 
 pub scour-of-spec : {M : Type 1} → statement M
 scour-of-spec =

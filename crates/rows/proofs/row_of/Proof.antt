@@ -1,7 +1,7 @@
 use mathlib.Core.Path.{refl, subst}
 use lib.Dec.{lit<}
 use borrow.Author.Tests.{not-true, not-false}
-use Rattle.kinds.specs.Form.{KindAt}
+use Rattle.letters.specs.Form.{KindAt}
 use Rattle.rows.specs.Answer.{numbers-are}
 use Rattle.rows.specs.declared.NumbersRead.{NumbersRead}
 use Rattle.rows.proofs.Reading.{cell-name, cell-no-name, cell-kind, cell-no-kind, unformed-is, no-numbers}

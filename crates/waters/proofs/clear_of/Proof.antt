@@ -1,7 +1,7 @@
 use mathlib.Core.Path.{subst}
 use borrow.Author.Tests.{not-true, not-false}
 use Rattle.decides.specs.Decides.{decided, refuted}
-use Rattle.river.specs.Clear.{Says, Answers}
+use Rattle.clearance.specs.Clear.{Says, Answers}
 use Rattle.waters.proofs.Telling.{no-clear, clear-ranged, clear-obstructed, clear-shown}
 use borrow.Author.Needs.{needs}
 use Rattle.waters.proofs.clear_of.Statement.{statement}

@@ -1,5 +1,5 @@
 use mathlib.Core.Path.{sym, subst}
-use Rattle.jobs.specs.declared.Stage.{Stage}
+use Rattle.placing.specs.declared.Stage.{Stage}
 use Rattle.waters.specs.Waters.{HasScour}
 use borrow.Author.Needs.{needs}
 use Rattle.waters.proofs.has_scour.Statement.{statement}

@@ -1,12 +1,31 @@
-use mathlib.Core.Path.{subst}
+-- `waters::river_of` meets its contract: a refusal of the S row is one of the job, whatever its strata; and where there is none the depth needed is
+-- what the row is told.
+use mathlib.Core.Path.{sym, subst}
+use Prim.Native.Nat.{ℕ, _≤_, _<_}
 use borrow.Author.Tests.{not-true, not-false}
 use Rattle.decides.specs.Decides.{decided, refuted}
-use Rattle.river.specs.Scour.{Says, told}
-use Rattle.river.specs.declared.ScourAnswer.{ScourAnswer}
-use Rattle.waters.proofs.Telling.{dry-shown, scour-ranged, scour-large, scour-intense, scour-passed, scour-line}
+use Rattle.river.specs.Scour.{needs as needs-depth, Says}
+use Rattle.waters.specs.Waters.{HasScour, RiverSays}
+use Rattle.waters.specs.declared.RiverRead.the-variants.{Refused}
+use Rattle.waters.proofs.Telling.{dry-shown, scour-refused, scour-needs, scour-passed, scour-line}
 use borrow.Author.Needs.{needs}
 use Rattle.waters.proofs.river_of.Statement.{statement}
 use Rattle.waters.proofs.river_of.Tie as tie
+
+-- past the first test there is an S row
+has : (c : tie.Else1) → HasScour (c .before .before .args .job .stage)
+has c = decided (c .before .has-scour .result) (not-false _ (c .if1 .left)) (c .before .has-scour .ensures)
+
+-- past the second its depth needed is what `depth_of` gives
+says : (c : tie.After-depth-of) →
+    Says (c .before .before .before .before .before .before .before .before .args .job .scour) (needs-depth (c .depth-of .result))
+says c =
+    let left = c .before .before in
+    let scoured = left .before .before .before in
+    let start = scoured .before .before .before in
+    subst (λ (n : ℕ). Says (start .args .job .scour) (needs-depth n)) (sym (c .depth-of .ensures))
+    (scour-needs (start .args .job) (start .pre) (has (scoured .before)) (scoured .scour .ensures)
+    (subst (λ (n : ℕ). n ≤ 0) (left .before .before .refusal-of .ensures) (left .if2 .left)))
 
 has-scour-requires : tie.Need-has-scour-requires
 has-scour-requires c κs = search needs
@@ -17,46 +36,45 @@ returns c = dry-shown (c .before .before .args .job) (refuted (c .before .has-sc
 scour-requires : tie.Need-scour-requires
 scour-requires c κs = search needs
 
-enum-told : tie.Need-enum-told
-enum-told c = search needs
-
-enum-told-2 : tie.Need-enum-told-2
-enum-told-2 c = search needs
-
-enum-told-3 : tie.Need-enum-told-3
-enum-told-3 c = search needs
-
-enum-known-answer : tie.Need-enum-known-answer
-enum-known-answer c = search needs
+refusal-of-requires : tie.Need-refusal-of-requires
+refusal-of-requires c κs = search needs
 
 is-rock-requires : tie.Need-is-rock-requires
 is-rock-requires c κs = search needs
 
+returns-2 : tie.Need-returns-2
+returns-2 c =
+    let scoured = c .before .before .before in
+    let start = scoured .before .before .before in
+    subst (λ (n : ℕ). 0 < n → RiverSays (start .args .job) (Refused n)) (sym (c .before .before .refusal-of .ensures))
+    (scour-refused (start .args .job) (start .pre) (has (scoured .before)) (scoured .scour .ensures))
+    (c .if2 .taken)
+
 wide-requires : tie.Need-wide-requires
 wide-requires c κs = search needs
+
+depth-of-requires : tie.Need-depth-of-requires
+depth-of-requires c κs = search needs
 
 depth-line-requires : tie.Need-depth-line-requires
 depth-line-requires c κs = search needs
 
 clear-of-requires : tie.Need-clear-of-requires
 clear-of-requires c κs =
-    let at-scour = c .before .before .before .before .before .before in
-    let start = at-scour .before .before .before in
-    let has = (decided (c .before .before .before .before .before .before .before .before .has-scour .result) (not-false _ (c .before .before .before .before .before .before .before .if1 .left)) (c .before .before .before .before .before .before .before .before .has-scour .ensures)) in
-    let says = subst (λ (a : ScourAnswer). Says (start .args .job .scour) (told a)) (c .before .before .before .before .answer .given .1) (at-scour .scour .ensures) in
-    ((start .pre, has), (scour-passed (start .args .job) (start .pre) has _ says, scour-line (start .args .job) (start .pre) has _ says (c .before .before .is-rock .result) _ (c .depth-line .result) (c .before .before .is-rock .ensures) (c .before .wide .ensures) (c .depth-line .ensures)))
-
-returns-2 : tie.Need-returns-2
-returns-2 c = absurd (scour-ranged (c .before .before .before .before .before .args .job) (c .before .before .before .before .before .pre) (decided (c .before .before .before .before .has-scour .result) (not-false _ (c .before .before .before .if1 .left)) (c .before .before .before .before .has-scour .ensures)) (subst (λ (a : ScourAnswer). Says (c .before .before .before .before .before .args .job .scour) (told a)) (c .enum-told .given .1) (c .before .before .scour .ensures)))
+    let found = c .before .before in
+    let rock = found .before .before in
+    let dry = rock .before .before .before in
+    let start = dry .before .before in
+    let depth = says (c .before) in (
+      (start .pre, has dry),
+      (
+        scour-passed (start .args .job) (start .pre) (has dry) _ depth,
+        scour-line (start .args .job) (start .pre) (has dry) _ depth (rock .is-rock .result) _ (c .depth-line .result) (rock .is-rock .ensures) (found .wide .ensures) (c .depth-line .ensures),
+      ),
+    )
 
 returns-3 : tie.Need-returns-3
-returns-3 c = scour-large (c .before .before .before .before .before .args .job) (c .before .before .before .before .before .pre) (decided (c .before .before .before .before .has-scour .result) (not-false _ (c .before .before .before .if1 .left)) (c .before .before .before .before .has-scour .ensures)) (subst (λ (a : ScourAnswer). Says (c .before .before .before .before .before .args .job .scour) (told a)) (c .enum-told2 .given .1) (c .before .before .scour .ensures))
-
-returns-4 : tie.Need-returns-4
-returns-4 c = scour-intense (c .before .before .before .before .before .args .job) (c .before .before .before .before .before .pre) (decided (c .before .before .before .before .has-scour .result) (not-false _ (c .before .before .before .if1 .left)) (c .before .before .before .before .has-scour .ensures)) (subst (λ (a : ScourAnswer). Says (c .before .before .before .before .before .args .job .scour) (told a)) (c .enum-told3 .given .1) (c .before .before .scour .ensures))
-
-returns-5 : tie.Need-returns-5
-returns-5 c = search needs
+returns-3 c = search needs
 
 pub river-of-spec : {M : Type 1} → statement M
 river-of-spec =
@@ -65,15 +83,11 @@ river-of-spec =
     has-scour-requires
     returns
     scour-requires
-    enum-told
-    enum-told-2
-    enum-told-3
-    enum-known-answer
+    refusal-of-requires
     is-rock-requires
+    returns-2
     wide-requires
+    depth-of-requires
     depth-line-requires
     clear-of-requires
-    returns-2
-    returns-3
-    returns-4
-    returns-5)
+    returns-3)

@@ -6,6 +6,7 @@ use Prim.Native.Nat.{ℕ}
 use Rattle.choices.specs.declared.Stance.{Stance}
 use Rattle.choices.specs.declared.Stance.the-variants.{Never, Always, Either}
 use Rattle.choices.specs.Stance.{next, fixedBy}
+use Rattle.tables.proofs.Tables.{puts-own, puts-others}
 use Rattle.worst.proofs.grown.Statement.{statement}
 use Rattle.worst.proofs.grown.Tie as tie
 
@@ -62,8 +63,8 @@ returns-3 c =
     record {
       count = add-one _ ∙ ap (λ (a : Stance). next a (c .before .before .before .before .before .args .table .free)) (sym e);
       always = ap (λ (a : Stance). fixedBy a (c .before .before .before .before .before .args .table .fixed) (c .before .before .before .before .before .args .sums)) (sym e);
-      own = λ _. c .put-row .ensures .own;
-      others = c .put-row .ensures .others;
+      own = λ _. puts-own (c .put-row .ensures);
+      others = puts-others (c .put-row .ensures);
     }
 
 pub grown-spec : {M : Type 1} → statement M

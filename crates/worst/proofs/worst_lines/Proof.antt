@@ -10,7 +10,8 @@ use Rattle.checks.specs.declared.Check.the-variants.{OP, OM, SL, PR, RK}
 use Rattle.worst.specs.declared.Line.the-variants.{Missing}
 use Rattle.worst.specs.declared.Lines.{Lines}
 use Rattle.worst.specs.Lines.{Says, line}
-use Rattle.worst.specs.Search.{markOf, Walked}
+use Rattle.named.specs.Weighs.{markOf}
+use Rattle.worst.specs.Search.{Walked}
 use Rattle.worst.proofs.worst_lines.Statement.{statement}
 use Rattle.worst.proofs.worst_lines.Tie as tie
 

@@ -1,0 +1,5 @@
+-- The laws of the rules for clearance. Other crates' proofs cite them.
+pub mod Rules
+pub mod Bounds
+pub mod Levels
+pub mod Clearances

@@ -1,0 +1,3 @@
+-- Laws of digits. Other crates' proofs cite them.
+pub mod Numerals
+pub mod Answers

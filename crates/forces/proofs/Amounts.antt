@@ -1,0 +1,69 @@
+-- An amount by its sign and size: zero has no sign, the sizes multiply, and what a row's columns hold bounds what it exerts.
+use mathlib.Core.Path.{_≡_, refl, sym, _∙_, ap}
+use mathlib.Core.Bool.{Bool, true, false, cond}
+use Prim.Native.Nat.{ℕ, zero, suc, _*_}
+use native.Mathlib.Nat.{zero-mul}
+use lib.IntN.{ℤ, pos, negsuc, negℤ, natAbs, _*ℤ_}
+use Rattle.fields.specs.declared.Entry.{Entry}
+use Rattle.ranges.specs.Range.{value}
+use Rattle.signed.specs.Whole.{signed, amount}
+
+pub amount-zero : (minus : Bool) (size : ℕ) → size ≡ 0 → record { minus = false; size = 0 } ≡ amount (signed minus size)
+unfolding signed amount
+amount-zero true size e = rw e
+amount-zero false size e = rw e
+
+pub amount-some : (minus : Bool) (size : ℕ) → (size ≡ 0 → ⊥) → record { minus = minus; size = size } ≡ amount (signed minus size)
+unfolding signed amount
+amount-some true zero n = absurd (n refl)
+amount-some true (suc size) n = refl
+amount-some false size n = refl
+
+-- an entry's number by its sign and size
+pub value-signed : (e : Entry) → signed (e .minus) (e .size) ≡ value e
+unfolding signed value
+value-signed e = go (e .minus)
+  where
+    go : (m : Bool) → signed m (e .size) ≡ cond m (negℤ (pos (e .size))) (pos (e .size))
+    go true = refl
+    go false = refl
+
+-- a product with a number that is not below zero
+pub signed-times : (minus : Bool) (m n : ℕ) → signed minus (m * n) ≡ signed minus m *ℤ pos n
+unfolding signed
+signed-times true zero n = ap (λ (k : ℕ). negℤ (pos k)) (zero-mul n) ∙ sym (ap pos (zero-mul n))
+signed-times true (suc m) n = refl
+signed-times false m n = refl
+
+pub plain-value : (e : Entry) → e .minus ≡ false → value e ≡ pos (e .size)
+unfolding value
+plain-value e h = rw h
+
+-- the size of an amount
+pub amount-size : (z : ℤ) → (amount z) .size ≡ natAbs z
+unfolding amount
+amount-size (pos n) = refl
+amount-size (negsuc n) = refl
+
+pub value-size : (e : Entry) → natAbs (value e) ≡ e .size
+unfolding value
+value-size e = go (e .minus) (e .size)
+  where
+    go : (m : Bool) (n : ℕ) → natAbs (cond m (negℤ (pos n)) (pos n)) ≡ n
+    go true zero = refl
+    go true (suc n) = refl
+    go false n = refl
+
+pub product-size : (y z : ℤ) → natAbs (y *ℤ z) ≡ natAbs y * natAbs z
+product-size (pos a) (pos b) = refl
+product-size (pos a) (negsuc b) = go (a * suc b)
+  where
+    go : (n : ℕ) → natAbs (negℤ (pos n)) ≡ n
+    go zero = refl
+    go (suc n) = refl
+product-size (negsuc a) (pos b) = go (suc a * b)
+  where
+    go : (n : ℕ) → natAbs (negℤ (pos n)) ≡ n
+    go zero = refl
+    go (suc n) = refl
+product-size (negsuc a) (negsuc b) = refl

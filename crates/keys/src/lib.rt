@@ -1,0 +1,99 @@
+// Member and job are together the key of a row (document 01, the job book): a row with its key, whether two keys are
+// one, and whether a key was used before (refusal 6).
+//
+// Keys are compared by their bytes, and the promise is about the keys themselves. What is hard is that names of one
+// length are one exactly if all their twelve bytes agree, so that the bytes behind a name must stand in the promise too.
+use fields::Name;
+use kinds::Kind;
+use kinds::Row;
+ghost use mathlib.Core.Path.{_≡_};
+ghost use Prim.Native.Nat.{ℕ, _≤_};
+ghost use Rattle.decides.specs.Decides.{Decides};
+ghost use Rattle.keys.specs.Keyed.{no-row};
+ghost use Rattle.keys.specs.Among.{Among};
+
+// Member and job, together the key.
+pub struct Key {
+    pub member: Name,
+    pub job: Name,
+}
+
+// A row with its key.
+pub struct Keyed {
+    pub key: Key,
+    pub row: Row,
+}
+
+// No row: what stands where there is none.
+pub fn blank_row() -> Keyed
+    ensures { λ r. ⌜ r ≡ no-row ⌝ }
+{
+    let name = fields::blank_name();
+    let numbers = kinds::no_numbers();
+    let row = Row {
+        kind: Kind::B,
+        numbers,
+    };
+    let key = Key {
+        member: name,
+        job: name,
+    };
+    Keyed { key, row }
+}
+
+fn same_bytes(a: [u8; 12], b: [u8; 12]) -> bool
+    ensures { λ r. ⌜ Decides r (a ≡ b) ⌝ }
+{
+    let mut i: usize = 0;
+    while i < 12 {
+        if a[i] == b[i] {
+            i += 1;
+        } else {
+            return false;
+        }
+    }
+    true
+}
+
+fn same_name(a: Name, b: Name) -> bool
+    ensures { λ r. ⌜ Decides r (a ≡ b) ⌝ }
+{
+    let x = a.bytes;
+    let y = b.bytes;
+    if a.len == b.len {
+        return same_bytes(x, y);
+    }
+    false
+}
+
+// Whether two keys are one.
+pub fn same_key(a: Key, b: Key) -> bool
+    ensures { λ r. ⌜ Decides r (a ≡ b) ⌝ }
+{
+    let m = a.member;
+    let n = b.member;
+    let j = a.job;
+    let k = b.job;
+    let same = same_name(m, n);
+    if same {
+        return same_name(j, k);
+    }
+    false
+}
+
+// Whether a key is among the first n.
+pub fn is_used(keys: [Key; 64], n: usize, key: Key) -> bool
+    requires { ⌜ n ≤ 64 ⌝ }
+    ensures { λ r. ⌜ Decides r (Among keys n key) ⌝ }
+{
+    let mut i: usize = 0;
+    while i < n {
+        let k = keys[i];
+        let same = same_key(k, key);
+        if same {
+            return true;
+        }
+        i += 1;
+    }
+    false
+}

@@ -1,0 +1,29 @@
+use Rattle.kinds.proofs.Loads.{from, load-role}
+use borrow.Author.Needs.{needs}
+use Rattle.kinds.proofs.role_of.Statement.{statement}
+use Rattle.kinds.proofs.role_of.Tie as tie
+
+enum-told : tie.Need-enum-told
+enum-told c = search needs
+
+enum-told-2 : tie.Need-enum-told-2
+enum-told-2 c = search needs
+
+enum-told-3 : tie.Need-enum-told-3
+enum-told-3 c = search needs
+
+returns : tie.Need-returns
+returns c = search needs
+
+returns-2 : tie.Need-returns-2
+returns-2 c = search needs
+
+returns-3 : tie.Need-returns-3
+returns-3 c = search needs
+
+returns-4 : tie.Need-returns-4
+returns-4 c = load-role (c .before .args .kind) (from 12 3 _ (c .match .keys4))
+
+pub role-of-spec : {M : Type 1} → statement M
+role-of-spec =
+    tie.close (tie.spec enum-told enum-told-2 enum-told-3 returns returns-2 returns-3 returns-4)

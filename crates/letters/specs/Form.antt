@@ -1,0 +1,19 @@
+-- Document 01, the job book: the kind that a field is.
+use Prim.Native.Nat.{ℕ}
+use mathlib.Core.Path.{_≡_}
+use mathlib.Core.List.{List}
+use Rattle.csv.specs.Rfc4180.{Field}
+use Rattle.kinds.specs.Table.{letters}
+use Rattle.kinds.specs.declared.Kind.{Kind}
+use Rattle.letters.specs.declared.KindRead.{KindRead}
+use Rattle.letters.specs.declared.KindRead.the-variants.{Known, Unknown}
+
+-- the answer for a stretch: the kind that it is, as a field; or that it is none
+abbrev pub KindAt : List ℕ → KindRead → Type 0
+KindAt raw (Known k) = Field raw (letters k)
+KindAt raw Unknown = (k : Kind) → Field raw (letters k) → ⊥
+
+-- the answer for a content
+abbrev pub KindIs : List ℕ → KindRead → Type 0
+KindIs c (Known k) = c ≡ letters k
+KindIs c Unknown = (k : Kind) → c ≡ letters k → ⊥

@@ -1,0 +1,60 @@
+use borrow.Author.Needs.{needs}
+use native.Mathlib.Omega.{arith}
+use borrow.Author.Tests.{not-true, not-false}
+use native.Mathlib.Nat.{mul-le-mul, le-trans}
+use Prim.Native.Nat.{_+_, _*_, _^_, _≤_}
+use lib.Dec.{lit≤}
+use Rattle.checks.proofs.Ranking.{slide-above}
+use Rattle.named.proofs.Weights.{better-low, offered-old, offers-on, offers-off}
+use Rattle.named.proofs.slid.Statement.{statement}
+use Rattle.named.proofs.slid.Tie as tie
+
+returns : tie.Need-returns
+returns c = offers-off (not-true (c .before .args .on) (c .if1 .taken)) (c .before .pre .1 .2)
+
+mul-if4 : tie.Need-mul-if4
+mul-if4 c = search needs
+
+add-if4 : tie.Need-add-if4
+add-if4 c = search needs
+
+mul-if4-2 : tie.Need-mul-if4-2
+mul-if4-2 c =
+    let l : c .before .before .before .args .best .rank + 1 ≤ 2 ^ 24 = omega (arith, c .if3 .taken) in
+    let t : 10 * c .before .before .before .args .h ≤ 10 * 2 ^ 24 = omega (arith, c .before .before .before .pre .0 .2) in
+    omega (arith, mul-le-mul t l)
+
+mul-if4-3 : tie.Need-mul-if4-3
+mul-if4-3 c = omega (arith, mul-le-mul (c .before .before .before .pre .0 .0) (c .before .before .before .pre .0 .1))
+
+returns-2 : tie.Need-returns-2
+returns-2 c =
+    let e = c .before .before .before .before in
+    let w = slide-above _ _ _ _ (e .pre .0 .0) (e .pre .0 .1) (c .before .before .if2 .taken) (c .before .if3 .taken) (c .if4 .taken) in
+    offers-on (not-false (e .args .on) (c .before .before .before .if1 .left)) (e .pre .1 .2) (offered-old _ _ _ _ (w .0) (w .1) (w .2) (e .pre .1 .2) (e .pre .1 .1))
+
+slide-rank-requires : tie.Need-slide-rank-requires
+slide-rank-requires c κs = let e = c .before .before in (e .pre .0 .0, e .pre .0 .1, le-trans (e .pre .0 .2) (lit≤ tt))
+
+better-requires : tie.Need-better-requires
+better-requires c κs = c .before .before .before .pre .1
+
+returns-3 : tie.Need-returns-3
+returns-3 c =
+    let e = c .before .before .before .before in
+    offers-on (not-false (e .args .on) (c .before .before .before .if1 .left)) (better-low (e .pre .1 .2) (e .pre .1 .1) (c .better .ensures))
+    (record { rank = _; ranks = c .before .slide-rank .ensures; better = c .better .ensures })
+
+pub slid-spec : {M : Type 1} → statement M
+slid-spec =
+    tie.close
+    (tie.spec
+    returns
+    mul-if4
+    add-if4
+    mul-if4-2
+    mul-if4-3
+    returns-2
+    slide-rank-requires
+    better-requires
+    returns-3)

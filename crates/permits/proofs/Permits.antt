@@ -1,0 +1,182 @@
+-- The decision of a permitted set: row by row, and by the number of its wind and earthquake rows.
+use mathlib.Core.Path.{_≡_, refl, sym, subst}
+use mathlib.Core.Logic.{_⊎_, inl, inr, ⊎-elim}
+use mathlib.Core.Bool.{Bool, true, false, not}
+use Prim.Native.Nat.{ℕ, zero, suc, _+_, _^_, _<_}
+use native.Mathlib.Omega.{arith}
+use native.Mathlib.Decide.{ℕ-discrete}
+use Rattle.decides.specs.Decides.{Decides, decides-same}
+use Rattle.sets.specs.declared.Class.{Class}
+use Rattle.sets.specs.declared.Class.the-variants.{Permanent, Free, Wind, Earthquake}
+use Rattle.sets.specs.declared.Combination.{Combination}
+use Rattle.sets.specs.declared.Combination.the-variants.{I, II, III, IV}
+use Rattle.sets.specs.declared.Load.{Load}
+use Rattle.sets.specs.declared.Loads.{Loads}
+use Rattle.sets.specs.Sets.{bit, row, Acts, Has, Mixed, Permitted, RowFits, Opens, Together, Admits}
+use Rattle.sets.specs.Totals.{sum, counted}
+use Rattle.sets.specs.Sums.{isWind, isQuake, sumsOf}
+use Rattle.sets.proofs.Adding.{winds-is, quakes-is}
+use Rattle.sets.proofs.Bits.{bit-two}
+
+-- ---- one row
+module _ (combination : Combination) (load : Load) (held : ℕ) where
+  pub fits-inside : (r : Bool) → held ≡ 1 → Decides r (Acts combination (load .phase)) → Decides r (RowFits combination load held)
+  fits-inside r e d = decides-same r (λ h. record { acting = λ _. h; permanent = λ _ _. e }) (λ f. f .acting e) d
+
+  pub fits-outside : (r : Bool) → (held ≡ 1 → ⊥) → load .class ≡ Permanent → Decides r (Acts combination (load .phase)) → Decides (not r) (RowFits combination load held)
+  fits-outside true n e d = λ f. n (f .permanent e d)
+  fits-outside false n e d = record { acting = λ i. absurd (n i); permanent = λ _ i. absurd (d i) }
+
+  pub fits-unless : (held ≡ 1 → ⊥) → (load .class ≡ Permanent → ⊥) → RowFits combination load held
+  fits-unless n m = record { acting = λ i. absurd (n i); permanent = λ i. absurd (m i) }
+
+-- ---- a natural sum is above zero exactly where a row of the set gives something
+counted-some : (held n : ℕ) → 0 < counted held n → held < 2 → (held ≡ 1) × (0 < n)
+unfolding counted
+counted-some zero n h k = absurd (omega arith)
+counted-some (suc held) n h k = (omega arith, h)
+
+some-counted : (held n : ℕ) → held ≡ 1 → 0 < n → 0 < counted held n
+unfolding counted
+some-counted held n e h = rw e h
+
+Some : (Load → ℕ) → Loads → ℕ → ℕ → Type 0
+Some gives loads set n = (i : ℕ) × (i < n) × (bit set i ≡ 1) × (0 < gives (row loads i))
+
+sum-some : (gives : Load → ℕ) (loads : Loads) (set n : ℕ) → 0 < sum gives loads set n → Some gives loads set n
+unfolding sum Some
+sum-some gives loads set zero h = absurd (omega arith)
+sum-some gives loads set (suc n) h = go (λ k. sum-some gives loads set n k) (ℕ-discrete (sum gives loads set n) 0)
+  where
+    go : (0 < sum gives loads set n → Some gives loads set n) → Dec (sum gives loads set n ≡ 0) → Some gives loads set (suc n)
+    go before (yes e) =
+        let w = counted-some (bit set n) (gives (row loads n)) (omega arith) (bit-two set n) in
+        (n, omega arith, w .0, w .1)
+    go before (no e) =
+        let w = before (omega arith) in
+        (w .0, omega (arith, w .1), w .2, w .3)
+
+some-sum : (gives : Load → ℕ) (loads : Loads) (set n i : ℕ) → i < n → bit set i ≡ 1 → 0 < gives (row loads i) → 0 < sum gives loads set n
+unfolding sum
+some-sum gives loads set zero i h b g = absurd (omega arith)
+some-sum gives loads set (suc n) i h b g = go (λ k. some-sum gives loads set n i k b g) (ℕ-discrete i n)
+  where
+    go : (i < n → 0 < sum gives loads set n) → Dec (i ≡ n) → 0 < sum gives loads set n + counted (bit set n) (gives (row loads n))
+    go before (yes e) =
+        let w : 0 < counted (bit set n) (gives (row loads n)) = some-counted (bit set n) (gives (row loads n)) (subst (λ (k : ℕ). bit set k ≡ 1) e b) (subst (λ (k : ℕ). 0 < gives (row loads k)) e g) in
+        omega arith
+    go before (no e) = omega (arith, before (omega arith))
+
+wind-is : (c : Class) → 0 < isWind c → c ≡ Wind
+unfolding isWind
+wind-is Permanent h = absurd (omega arith)
+wind-is Free h = absurd (omega arith)
+wind-is Wind h = refl
+wind-is Earthquake h = absurd (omega arith)
+
+quake-is : (c : Class) → 0 < isQuake c → c ≡ Earthquake
+unfolding isQuake
+quake-is Permanent h = absurd (omega arith)
+quake-is Free h = absurd (omega arith)
+quake-is Wind h = absurd (omega arith)
+quake-is Earthquake h = refl
+
+is-wind : (c : Class) → c ≡ Wind → 0 < isWind c
+unfolding isWind
+is-wind c e = rw e (omega arith)
+
+is-quake : (c : Class) → c ≡ Earthquake → 0 < isQuake c
+unfolding isQuake
+is-quake c e = rw e (omega arith)
+
+-- ---- a set's wind and earthquake rows are what its sums count
+module _ (width : ℕ) (loads : Loads) (set : ℕ) where
+  pub has-wind : 0 < (sumsOf width loads set) .winds → Has Wind loads set
+  unfolding Has Some
+  has-wind h =
+      let w = sum-some (λ load. isWind (load .class)) loads set (loads .count) (subst (λ (n : ℕ). 0 < n) (winds-is width loads set) h) in
+      (w .0, w .1, w .2, wind-is _ (w .3))
+
+  pub wind-has : Has Wind loads set → 0 < (sumsOf width loads set) .winds
+  unfolding Has
+  wind-has w =
+      subst (λ (n : ℕ). 0 < n) (sym (winds-is width loads set))
+      (some-sum (λ load. isWind (load .class)) loads set (loads .count) (w .0) (w .1) (w .2) (is-wind _ (w .3)))
+
+  pub has-quake : 0 < (sumsOf width loads set) .quakes → Has Earthquake loads set
+  unfolding Has Some
+  has-quake h =
+      let w = sum-some (λ load. isQuake (load .class)) loads set (loads .count) (subst (λ (n : ℕ). 0 < n) (quakes-is width loads set) h) in
+      (w .0, w .1, w .2, quake-is _ (w .3))
+
+  pub quake-has : Has Earthquake loads set → 0 < (sumsOf width loads set) .quakes
+  unfolding Has
+  quake-has w =
+      subst (λ (n : ℕ). 0 < n) (sym (quakes-is width loads set))
+      (some-sum (λ load. isQuake (load .class)) loads set (loads .count) (w .0) (w .1) (w .2) (is-quake _ (w .3)))
+
+  no-wind : (sumsOf width loads set) .winds ≡ 0 → Has Wind loads set → ⊥
+  no-wind e w = omega (arith, wind-has w)
+
+  no-quake : (sumsOf width loads set) .quakes ≡ 0 → Has Earthquake loads set → ⊥
+  no-quake e w = omega (arith, quake-has w)
+
+  wind-none : (Has Wind loads set → ⊥) → (sumsOf width loads set) .winds ≡ 0
+  wind-none n = go (ℕ-discrete ((sumsOf width loads set) .winds) 0)
+    where
+      go : Dec ((sumsOf width loads set) .winds ≡ 0) → (sumsOf width loads set) .winds ≡ 0
+      go (yes e) = e
+      go (no e) = absurd (n (has-wind (omega arith)))
+
+  quake-none : (Has Earthquake loads set → ⊥) → (sumsOf width loads set) .quakes ≡ 0
+  quake-none n = go (ℕ-discrete ((sumsOf width loads set) .quakes) 0)
+    where
+      go : Dec ((sumsOf width loads set) .quakes ≡ 0) → (sumsOf width loads set) .quakes ≡ 0
+      go (yes e) = e
+      go (no e) = absurd (n (has-quake (omega arith)))
+
+  pub mixed-of : (combination : Combination) → Together combination ((sumsOf width loads set) .winds) ((sumsOf width loads set) .quakes) → Mixed combination loads set
+  unfolding Together Mixed
+  mixed-of I t = (no-wind (t .0), no-quake (t .1))
+  mixed-of II t = (has-wind (t .0), no-quake (t .1))
+  mixed-of III t = (no-wind (t .0), has-quake (t .1))
+  mixed-of IV t = λ w q. ⊎-elim (λ e. no-wind e w) (λ e. no-quake e q) t
+
+  pub together-of : (combination : Combination) → Mixed combination loads set → Together combination ((sumsOf width loads set) .winds) ((sumsOf width loads set) .quakes)
+  unfolding Together Mixed
+  together-of I m = (wind-none (m .0), quake-none (m .1))
+  together-of II m = (wind-has (m .0), quake-none (m .1))
+  together-of III m = (wind-none (m .0), quake-has (m .1))
+  together-of IV m = go (ℕ-discrete ((sumsOf width loads set) .winds) 0)
+    where
+      go : Dec ((sumsOf width loads set) .winds ≡ 0) → ((sumsOf width loads set) .winds ≡ 0) ⊎ ((sumsOf width loads set) .quakes ≡ 0)
+      go (yes e) = inl e
+      go (no e) = inr (quake-none (λ q. m (has-wind (omega arith)) q))
+
+  -- What is left to decide of a set whose rows may stand in it, of a combination that is checked.
+  module _ (combination : Combination) where
+    unfoldable pub Fit : Type 0
+    Fit = (set < 2 ^ loads .count) × ((i : ℕ) → i < loads .count → RowFits combination (row loads i) (bit set i))
+
+    pub permits : Fit → Opens combination loads → Admits combination ((sumsOf width loads set) .winds) ((sumsOf width loads set) .quakes) set → Permitted combination loads set
+    unfolding Fit Opens
+    permits f o a =
+        record {
+          some = a .some;
+          within = f .0;
+          permanent = λ i h. f .1 i h .permanent;
+          acting = λ i h. f .1 i h .acting;
+          mixed = mixed-of combination (a .together);
+          erection = o;
+        }
+
+    pub admitted : Permitted combination loads set → Admits combination ((sumsOf width loads set) .winds) ((sumsOf width loads set) .quakes) set
+    admitted p = record { some = p .some; together = together-of combination (p .mixed) }
+
+    pub permitted-fits : Permitted combination loads set → Fit
+    unfolding Fit
+    permitted-fits p = (p .within, λ i h. record { acting = p .acting i h; permanent = p .permanent i h })
+
+    pub decides-permitted : (r : Bool) → Fit → Opens combination loads → Decides r (Admits combination ((sumsOf width loads set) .winds) ((sumsOf width loads set) .quakes) set)
+        → Decides r (Permitted combination loads set)
+    decides-permitted r f o d = decides-same r (permits f o) admitted d

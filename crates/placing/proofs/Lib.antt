@@ -1,0 +1,2 @@
+-- Laws of placing. Other crates' proofs cite them.
+pub mod Placing

@@ -1,0 +1,2 @@
+-- Laws of ranges. Other crates' proofs cite them.
+pub mod Ranges

@@ -1,0 +1,82 @@
+// Whether a row's numbers are in their ranges (document 01, refusal 11), which the table of kinds holds.
+//
+// A number that a column leaves empty has no range, and one that is not filled is in none.
+use fields::Entry;
+use kinds::Column;
+use kinds::Kind;
+use kinds::Numbers;
+ghost use Rattle.decides.specs.Decides.{Decides};
+ghost use Rattle.ranges.specs.Range.{Between, Around, InRange, Ranged};
+
+fn is_between(low: u32, high: u32, entry: Entry) -> bool
+    ensures { λ r. ⌜ Decides r (Between low high entry) ⌝ }
+{
+    let filled = entry.filled;
+    let minus = entry.minus;
+    let size = entry.size;
+    if !filled {
+        return false;
+    }
+    if minus {
+        return false;
+    }
+    if size < low {
+        return false;
+    }
+    if high < size {
+        return false;
+    }
+    true
+}
+
+fn is_around(below: u32, above: u32, entry: Entry) -> bool
+    ensures { λ r. ⌜ Decides r (Around below above entry) ⌝ }
+{
+    let filled = entry.filled;
+    let minus = entry.minus;
+    let size = entry.size;
+    if !filled {
+        return false;
+    }
+    if minus {
+        if below < size {
+            return false;
+        }
+        return true;
+    }
+    if above < size {
+        return false;
+    }
+    true
+}
+
+// Whether an entry is in the range of its column.
+pub fn is_in_range(column: Column, entry: Entry) -> bool
+    ensures { λ r. ⌜ Decides r (InRange column entry) ⌝ }
+{
+    match column {
+        Column::Empty => true,
+        Column::Filled(low, high) => is_between(low, high, entry),
+        Column::Signed(below, above) => is_around(below, above, entry),
+    }
+}
+
+// Whether every number of a row of a kind is in its range.
+pub fn is_ranged(kind: Kind, numbers: Numbers) -> bool
+    ensures { λ r. ⌜ Decides r (Ranged kind numbers) ⌝ }
+{
+    let c = kinds::columns_of(kind);
+    let c1 = c.n1;
+    let c2 = c.n2;
+    let c3 = c.n3;
+    let c4 = c.n4;
+    let c5 = c.n5;
+    let c6 = c.n6;
+    let n1 = is_in_range(c1, numbers.n1);
+    let n2 = is_in_range(c2, numbers.n2);
+    let n3 = is_in_range(c3, numbers.n3);
+    let n4 = is_in_range(c4, numbers.n4);
+    let n5 = is_in_range(c5, numbers.n5);
+    let n6 = is_in_range(c6, numbers.n6);
+    n1 & n2 & n3 & n4 & n5 & n6
+}

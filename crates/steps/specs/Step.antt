@@ -1,0 +1,46 @@
+-- Document 01, refusals of a book: what one row does, behind the rows before it.
+use Prim.Native.Nat.{ℕ}
+use mathlib.Core.Path.{_≡_}
+use mathlib.Core.Bool.{Bool, true, false}
+use mathlib.Core.List.{List}
+use Rattle.refusals.specs.declared.Refusal.{Refusal}
+use Rattle.refusals.specs.declared.Refusal.the-variants.{TooLong, NotCsv, NoForm, NoPlace, TooMany, UsedKey}
+use Rattle.rows.specs.Answer.{SeenAt}
+use Rattle.keys.specs.declared.Keyed.{Keyed}
+use Rattle.jobs.specs.Place.{InPlace}
+use Rattle.jobs.specs.Taking.{starts, joins, Says}
+use Rattle.jobs.specs.declared.Job.{Job}
+use Rattle.jobs.specs.declared.Took.{Took}
+use Rattle.jobs.specs.declared.Took.the-variants.{OutOfPlace}
+use Rattle.jobs.specs.declared.Took.the-variants as took
+use Rattle.steps.specs.declared.Way.{Way}
+use Rattle.steps.specs.declared.Way.the-variants.{Refused, Joined, Started}
+use Rattle.steps.specs.declared.Step.{Step}
+
+-- what a job answers, as what the row does
+abbrev pub way : Took → Way
+way OutOfPlace = Refused NoPlace
+way took.Joined = Joined
+way took.Started = Started
+
+-- a row is refused here with 3, without a form, or with 4, out of place, and with nothing else
+abbrev pub Refuses : Job → Bool → Keyed → Refusal → Type 0
+Refuses j good r TooLong = ⊥
+Refuses j good r NotCsv = ⊥
+Refuses j good r NoForm = good ≡ false
+Refuses j good r NoPlace = (good ≡ true) × (InPlace j r → ⊥)
+Refuses j good r TooMany = ⊥
+Refuses j good r UsedKey = ⊥
+
+-- exactly when, and the job that comes of it: refused, the job as it stood
+abbrev pub Goes : Job → Bool → Keyed → Way → Job → Type 0
+Goes j good r (Refused why) next = Refuses j good r why × (next ≡ j)
+Goes j good r Joined next = (good ≡ true) × Says j r joins next
+Goes j good r Started next = (good ≡ true) × Says j r starts next
+
+-- the row that starts at a place: whether it has a form, and which; what it does; and where the next one starts
+pub record StepIs (s : List ℕ) (start : ℕ) (j : Job) (t : Step) : Type 0 where
+  pub good : Bool
+  pub keyed : Keyed
+  pub seen : SeenAt s start (record { good = good; row = keyed; next = t .next })
+  pub goes : Goes j good keyed (t .way) (t .job)
