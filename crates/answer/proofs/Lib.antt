@@ -1,4 +1,3 @@
 -- Laws of a job's answer. Other crates' proofs cite them.
 pub mod Ordering
-pub mod Marking
 pub mod Answers

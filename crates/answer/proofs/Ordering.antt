@@ -1,20 +1,23 @@
 -- The refusals of a job in their order, from what its load rows and its river rows are told.
 use Prim.Native.Nat.{ℕ, _≤_, _<_}
 use native.Mathlib.Omega.{arith}
-use mathlib.Core.Path.{_≡_, sym, ap, subst}
+use mathlib.Core.Path.{_≡_, refl, sym, ap, subst}
 use mathlib.Core.List.{List}
 use Rattle.ranges.specs.Range.{Ranged}
 use Rattle.kinds.specs.declared.Kind.the-variants.{B}
 use Rattle.kinds.specs.declared.Numbers.{Numbers}
 use Rattle.kinds.specs.declared.Row.{Row}
 use Rattle.jobs.specs.declared.Job.{Job}
-use Rattle.earth.specs.declared.Coefficient.{Coefficient}
+use Rattle.table2.specs.declared.Coefficient.{Coefficient}
 use Rattle.sets.specs.declared.Loads.{Loads}
-use Rattle.checks.specs.Figures.{Sized}
-use Rattle.loads.specs.Taken.{AllRanged, NoneBlank, optionals, AreLoads, rowsOf, Told, refused, given, told, toldBy, Says, out-of-range, blank, too-many, loaded, Answers}
+use Rattle.checks.specs.Sized.{Sized}
+use Rattle.load_rows.specs.LoadRows.{AllRanged, NoneBlank, optionals, AreLoads}
+use Rattle.loads.specs.Taken.{rowsOf, Told, refused, given, told, toldBy, Says, out-of-range, blank, too-many, loaded, Answers}
+use Rattle.loads.specs.declared.Answer as answering
 use Rattle.loads.specs.declared.Answer.the-variants as taking
 use Rattle.loads.specs.declared.Taken.{Taken}
-use Rattle.waters.specs.Waters.{RowsRanged, LargeCatchment, TooIntense, OverObstructed, Passed, DepthIs, ClearIs, RiverSays, large, intense, obstructed, shown}
+use Rattle.job_ranges.specs.Rows.{RowsRanged}
+use Rattle.waters.specs.Waters.{LargeCatchment, TooIntense, OverObstructed, Passed, DepthIs, ClearIs, RiverSays, large, intense, obstructed, shown}
 use Rattle.waters.specs.declared.RiverRead.{RiverRead}
 use Rattle.waters.specs.declared.RiverRead.the-variants as river
 use Rattle.answer.specs.Rules as rules
@@ -23,7 +26,7 @@ use Rattle.lines.specs.declared.Answer.{Answer}
 use Rattle.lines.specs.declared.DepthLine.{DepthLine}
 use Rattle.lines.specs.declared.ClearLine.{ClearLine}
 use Rattle.checks.specs.declared.Base.{Base}
-use Rattle.answer.specs.Answer.{base-of, Given, WholeIs, earlier}
+use Rattle.answer.specs.Answer.{base-of, Given, WholeIs, earlier, told-first}
 
 -- what the load rows are told
 module _ {fill : ℕ → ℕ → Coefficient} {rows : List Row} {n : ℕ} where
@@ -141,19 +144,19 @@ module _ (fill : ℕ → ℕ → Coefficient) (job : Job) where
     first (river.Shown d c) n (shown q o x y) f = f q o
 
 module _ (fill : ℕ → ℕ → Coefficient) (job : Job) (t : Taken) (w : Answers fill (job .loads) (job .count) t) where
-  pub loads-11 : t .answer ≡ taking.OutOfRange → Refuses fill job 11
+  loads-11 : t .answer ≡ taking.OutOfRange → Refuses fill job 11
   unfolding told toldBy
   loads-11 e = refuses-11 fill job (λ a. told-11 (w .says) (ap (λ x. toldBy x (t .loads)) e) (a .loads))
 
   module _ (r : RowsRanged job) where
-    pub loads-15 : t .answer ≡ taking.NoCoefficient → (x : RiverRead) → RiverSays job x → Refuses fill job (earlier x 15)
+    loads-15 : t .answer ≡ taking.NoCoefficient → (x : RiverRead) → RiverSays job x → Refuses fill job (earlier x 15)
     unfolding told toldBy
     loads-15 e x s =
         let k = told-15 (w .says) (ap (λ a. toldBy a (t .loads)) e) in
         let a : AllInRange job = record { rows = r; loads = k .0 } in
         first fill job a x 15 s (λ p o. refuses-15 fill job a p o (k .1))
 
-    pub loads-16 : t .answer ≡ taking.TooMany → (x : RiverRead) → RiverSays job x → Refuses fill job (earlier x 16)
+    loads-16 : t .answer ≡ taking.TooMany → (x : RiverRead) → RiverSays job x → Refuses fill job (earlier x 16)
     unfolding told toldBy
     loads-16 e x s =
         let k = told-16 (w .says) (ap (λ a. toldBy a (t .loads)) e) in
@@ -168,7 +171,7 @@ module _ (fill : ℕ → ℕ → Coefficient) (job : Job) (t : Taken) (w : Answe
       in-range : AllInRange job
       in-range = record { rows = r; loads = told-given .0 }
 
-      pub river-refuses : {n : ℕ} → RiverSays job (river.Refused n) → Refuses fill job n
+      river-refuses : {n : ℕ} → RiverSays job (river.Refused n) → Refuses fill job n
       river-refuses s = river-first fill job in-range s
 
       pub given-answer : {d : DepthLine} {c : ClearLine} {base : Base} {a : Answer} → RiverSays job (river.Shown d c) → base ≡ base-of (job .base) → WholeIs base (t .loads) d c a → Given fill job a
@@ -186,6 +189,29 @@ module _ (fill : ℕ → ℕ → Coefficient) (job : Job) (t : Taken) (w : Answe
             clear = subst (ClearIs job) (sym (v .clear)) y;
             verdict = v .verdict;
           }
+
+-- the one of two refusals, or the river's answer, that comes first
+refused-number : {m n : ℕ} → river.Refused m ≡ river.Refused n → m ≡ n
+refused-number e = cc
+
+refused-shown : {n : ℕ} {d : DepthLine} {c : ClearLine} → river.Refused n ≡ river.Shown d c → ⊥
+refused-shown e = let z : _≡_ {A = ℕ} 0 1 = cc in omega arith
+
+pub first-given : (a : answering.Answer) (x : RiverRead) {d : DepthLine} {c : ClearLine} → told-first a x ≡ river.Shown d c → (a ≡ taking.Given) × (x ≡ river.Shown d c)
+first-given taking.OutOfRange x e = absurd (refused-shown e)
+first-given taking.NoCoefficient x e = absurd (refused-shown e)
+first-given taking.TooMany x e = absurd (refused-shown e)
+first-given taking.Given x e = (refl, e)
+
+module _ (fill : ℕ → ℕ → Coefficient) (job : Job) (t : Taken) (w : Answers fill (job .loads) (job .count) t) (r : RowsRanged job) (x : RiverRead) (s : RiverSays job x) where
+  by-loads : {n : ℕ} (a : answering.Answer) → t .answer ≡ a → told-first a x ≡ river.Refused n → Refuses fill job n
+  by-loads taking.OutOfRange e q = subst (Refuses fill job) (refused-number q) (loads-11 fill job t w e)
+  by-loads taking.NoCoefficient e q = subst (Refuses fill job) (refused-number q) (loads-15 fill job t w r e x s)
+  by-loads taking.TooMany e q = subst (Refuses fill job) (refused-number q) (loads-16 fill job t w r e x s)
+  by-loads taking.Given e q = river-refuses fill job t w r e (subst (RiverSays job) q s)
+
+  pub first-refuses : {n : ℕ} → told-first (t .answer) x ≡ river.Refused n → Refuses fill job n
+  first-refuses q = by-loads (t .answer) refl q
 
 -- a base in range fits the checks
 pub sized : (n : Numbers) → Ranged B n → Sized (base-of n)

@@ -1,28 +1,29 @@
 -- Document 01, The printed answer: what a job is answered, from the job and `fill` alone.
 use Prim.Native.Nat.{ℕ}
 use mathlib.Core.Path.{_≡_}
-use mathlib.Core.Bool.{Bool, true, false}
 use lib.Dec.{eqb}
 use Rattle.kinds.specs.declared.Numbers.{Numbers}
 use Rattle.jobs.specs.declared.Job.{Job}
-use Rattle.earth.specs.declared.Coefficient.{Coefficient}
+use Rattle.table2.specs.declared.Coefficient.{Coefficient}
 use Rattle.sets.specs.declared.Combination.{Combination}
 use Rattle.sets.specs.declared.Combination.the-variants.{I, II, III, IV}
 use Rattle.sets.specs.declared.Loads.{Loads}
 use Rattle.checks.specs.declared.Base.{Base}
 use Rattle.checks.specs.declared.Check.{Check}
-use Rattle.worst.specs.declared.Line.{Line}
-use Rattle.worst.specs.declared.Line.the-variants as line
-use Rattle.worst.specs.declared.Lines.{Lines}
+use Rattle.lines.specs.declared.Line.the-variants as line
+use Rattle.lines.specs.declared.Lines.{Lines}
 use Rattle.worst.specs.Lines as worst
-use Rattle.loads.specs.Taken.{AreLoads, rowsOf}
-use Rattle.lines.specs.declared.Verdict.{Verdict}
-use Rattle.lines.specs.declared.Verdict.the-variants.{Accepted, NotAccepted, Refused}
+use Rattle.load_rows.specs.LoadRows.{AreLoads}
+use Rattle.loads.specs.Taken.{rowsOf}
+use Rattle.loads.specs.declared.Answer as loads
+use Rattle.loads.specs.declared.Answer.the-variants as taking
+use Rattle.lines.specs.declared.Verdict.the-variants.{Refused}
 use Rattle.lines.specs.declared.DepthLine.{DepthLine}
 use Rattle.lines.specs.declared.DepthLine.the-variants as depth
 use Rattle.lines.specs.declared.ClearLine.{ClearLine}
 use Rattle.lines.specs.declared.ClearLine.the-variants as clear
 use Rattle.lines.specs.declared.Answer.{Answer}
+use Rattle.verdicts.specs.Verdict.{VerdictIs}
 use Rattle.waters.specs.Waters.{DepthIs, ClearIs}
 use Rattle.waters.specs.declared.RiverRead.{RiverRead}
 use Rattle.waters.specs.declared.RiverRead.the-variants as river
@@ -31,45 +32,6 @@ use Rattle.answer.specs.Rules.{Refuses, Unrefused}
 -- width B, length L, allowable pressure, friction, and whether the strata are rock
 abbrev pub base-of : Numbers → Base
 base-of n = record { width = n .n1 .size; length = n .n2 .size; allowable = n .n3 .size; friction = n .n4 .size; rock = eqb (n .n5 .size) 1 }
-
--- a line says Y; where there is no line, nothing says N
-abbrev pub LineYes : Line → Type 0
-LineYes line.Missing = Unit {0}
-LineYes (line.Shown figure limit set passes) = passes ≡ true
-
-pub record LinesYes (lines : Lines) : Type 0 where
-  pub op : LineYes (lines .op)
-  pub om : LineYes (lines .om)
-  pub sl : LineYes (lines .sl)
-  pub pr : LineYes (lines .pr)
-  pub rk : LineYes (lines .rk)
-
-abbrev pub DepthYes : DepthLine → Type 0
-DepthYes depth.Missing = Unit {0}
-DepthYes (depth.Shown needed found passes) = passes ≡ true
-
-abbrev pub ClearYes : ClearLine → Type 0
-ClearYes clear.Missing = Unit {0}
-ClearYes (clear.Shown minus size needed passes) = passes ≡ true
-
--- every line after VERDICT says Y
-pub record AllYes (a : Answer) : Type 0 where
-  pub one : LinesYes (a .one)
-  pub two : LinesYes (a .two)
-  pub three : LinesYes (a .three)
-  pub four : LinesYes (a .four)
-  pub depth : DepthYes (a .depth)
-  pub clear : ClearYes (a .clear)
-
--- "A is given exactly if the job isn't refused and every line after VERDICT says Y"
-abbrev pub VerdictIs : Verdict → Answer → Type 0
-VerdictIs Accepted a = AllYes a
-VerdictIs NotAccepted a = AllYes a → ⊥
-VerdictIs (Refused n) a = ⊥
-
-abbrev pub verdict-by : Bool → Verdict
-verdict-by true = Accepted
-verdict-by false = NotAccepted
 
 -- the lines of a combination are those of its checks
 abbrev pub LinesAre : Combination → Base → Loads → Lines → Type 0
@@ -113,3 +75,10 @@ pub record WholeIs (base : Base) (loads : Loads) (d : DepthLine) (c : ClearLine)
 abbrev pub earlier : RiverRead → ℕ → ℕ
 earlier (river.Refused n) other = n
 earlier (river.Shown d c) other = other
+
+-- "Order as numbered": 11 of the load rows before 12 to 14 of the river, and those before 15 and 16
+abbrev pub told-first : loads.Answer → RiverRead → RiverRead
+told-first taking.OutOfRange x = river.Refused 11
+told-first taking.NoCoefficient x = river.Refused (earlier x 15)
+told-first taking.TooMany x = river.Refused (earlier x 16)
+told-first taking.Given x = x

@@ -2,9 +2,11 @@
 use Prim.Native.Nat.{ℕ, _<_}
 use Rattle.rounding.specs.Least.{Least}
 use Rattle.jobs.specs.declared.Job.{Job}
-use Rattle.earth.specs.declared.Coefficient.{Coefficient}
-use Rattle.loads.specs.Taken.{AllRanged, NoneBlank, optionals, rowsOf}
-use Rattle.waters.specs.Waters.{RowsRanged, LargeCatchment, TooIntense, OverObstructed}
+use Rattle.table2.specs.declared.Coefficient.{Coefficient}
+use Rattle.load_rows.specs.LoadRows.{AllRanged, NoneBlank, optionals}
+use Rattle.loads.specs.Taken.{rowsOf}
+use Rattle.job_ranges.specs.Rows.{RowsRanged}
+use Rattle.waters.specs.Waters.{LargeCatchment, TooIntense, OverObstructed}
 
 -- every number of every row is in its range
 pub record AllInRange (job : Job) : Type 0 where

@@ -7,7 +7,7 @@ use libc::STDOUT_FILENO;
 ghost use mathlib.Core.Path.{_≡_};
 ghost use Rattle.decides.specs.Decides.{Decides};
 ghost use Rattle.fields.specs.Numbers.{positive};
-ghost use Rattle.asked.specs.Asked.{five};
+ghost use Rattle.asked.specs.Asked.{five, with-one};
 
 // A number from 0 up, after its comma.
 fn filled(size: u32) -> Entry
@@ -50,6 +50,16 @@ pub fn agrees(came: u64, says: u32) -> bool
         return true;
     }
     false
+}
+
+// One figure more, where it agrees.
+pub fn counted(agree: u64, agrees: bool) -> u64
+    ensures { λ r. ⌜ r ≡ with-one agrees agree ⌝ }
+{
+    if agrees {
+        return std::num::wrapping_add_u64(agree, 1);
+    }
+    agree
 }
 
 // The last line: how many figures were asked, and how many agree; whether all do.

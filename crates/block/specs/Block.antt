@@ -5,7 +5,8 @@ use mathlib.Core.Bool.{cond}
 use mathlib.Core.List.{List, [], _∷_, _++_}
 use lib.Dec.{ltb}
 use lib.ListN.{length, take, set, replicate}
-use Rattle.csv.specs.Rfc4180.{COMMA}
+use Rattle.rfc4180.specs.Rfc4180.{CR, LF}
+use Rattle.rfc4180.specs.Rfc4180.{COMMA}
 use Rattle.block.specs.declared.Block.{Block}
 
 -- bytes, the first so many of which are the text
@@ -29,6 +30,10 @@ held block = take (block .len) (block .bytes)
 -- a field behind the first of a row: a comma, and its content
 abbrev pub field : List ℕ → List ℕ
 field t = COMMA ∷ t
+
+-- "Lines end with CRLF."
+abbrev pub line-end : List ℕ
+line-end = CR ∷ LF ∷ []
 
 -- no text, and zeros
 unfoldable pub blank : Block

@@ -1,27 +1,20 @@
-// A text that grows in a page of 2,048 bytes, the block that hands it on by value, and the block's text in a lent buffer
-// (document 01, Refusals of a book, refusal 7; the bytes of document 01, The printed answer, are put together from it).
+// A text that grows in a page of 2,048 bytes, and the block that hands it on by value (the bytes of document 01, The printed
+// answer, are put together from it).
 //
 // Every function writes behind the text that a page holds already, and says by one equation what the page holds then. What is
 // hard is to need no room for that: a full page takes no more, and so says the equation, so that texts compose by one law and room
 // is counted once, by whoever knows the whole text.
 ghost use mathlib.Core.Path.{_≡_};
 ghost use mathlib.Core.List.{[], _∷_};
-ghost use Prim.Native.Nat.{_+_, _≤_, min};
+ghost use Prim.Native.Nat.{_+_, _≤_};
 ghost use lib.ListN.{length};
 ghost use Rattle.block.specs.Decimal.{decimal};
-ghost use Rattle.block.specs.Block.{page, puts, field, Adds, held};
-ghost use Rattle.block.specs.Written.{Wrote, told};
+ghost use Rattle.block.specs.Block.{page, puts, field, Adds};
 
 // A text of at most 2,048 bytes, and zeros behind it.
 pub struct Block {
     pub bytes: [u8; 2048],
     pub len: usize,
-}
-
-// What came of writing into a lent buffer: the length written, or refusal 7.
-pub enum Written {
-    Length(usize),
-    TooShort,
 }
 
 // One byte more; a full page stays as it is.
@@ -67,23 +60,4 @@ pub fn put_number(out: &mut [u8; 2048], at: usize, n: u64) -> usize
 {
     let end = push(out, at, b',');
     put_decimal(out, end, n)
-}
-
-fn at_most_2048(n: usize) -> usize
-    ensures { λ r. ⌜ r ≡ min n 2048 ⌝ }
-{
-    if n < 2048 { n } else { 2048 }
-}
-
-// A block's text at the start of a lent buffer, if it has room; else nothing.
-pub fn write_block(block: Block, out: &mut [u8]) -> Written
-    ensures { λ r. ⌜ Wrote (held block) (now (out .entry)) (now (out .exit)) (told r) ⌝ }
-{
-    let text = block.bytes;
-    let len = at_most_2048(block.len);
-    if out.len() < len {
-        return Written::TooShort;
-    }
-    bytes::copy(&text[0..len], out);
-    Written::Length(len)
 }

@@ -7,8 +7,9 @@ use mathlib.Core.List.{List, [], _∷_, _++_, append-assoc, append-nil}
 use lib.ListN.{length}
 use native.Mathlib.Decide.{decLt}
 use lib.Seq.{append-snoc}
-use Rattle.csv.specs.Rfc4180.{Cell, File, Readable}
-use Rattle.csv.proofs.Unique.{file-unique}
+use Rattle.rfc4180.specs.Rfc4180.{Cell, File, Readable}
+use Rattle.rfc4180.proofs.Unique.{file-unique}
+use Rattle.notes.proofs.Answers.{level}
 use Rattle.rows.specs.Form.{BookRow, Form}
 use Rattle.rows.proofs.Forms.{form-one}
 use Rattle.jobs.specs.declared.Job.{Job}
@@ -129,16 +130,6 @@ beyond (a ∷ os) (c ∷ cs) bs ds x y e h =
     let w = beyond os cs bs ds x y t (omega arith) in
     let q = w .are in
     record { mid = w .mid; are = cc }
-
-pub level : {A : Type 0} (os cs bs ds : List A) (x y : A) → os ++ x ∷ bs ≡ cs ++ y ∷ ds → length os ≡ length cs → (os ≡ cs) × (x ≡ y)
-level [] [] bs ds x y e h = (refl, cc)
-level [] (c ∷ cs) bs ds x y e h = absurd (omega arith)
-level (a ∷ os) [] bs ds x y e h = absurd (omega arith)
-level (a ∷ os) (c ∷ cs) bs ds x y e h =
-    let t : os ++ x ∷ bs ≡ cs ++ y ∷ ds = cc in
-    let w = level os cs bs ds x y t (omega arith) in
-    let q = w .0 in
-    (cc, w .1)
 
 begun : {css : List (List Cell)} {rs : List BookRow} {js : Jobs} → Begins css rs js → Begun css
 begun {rs = rs} {js = js} b = record { typed = rs; jobs = js; begins = b }

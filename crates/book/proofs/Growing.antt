@@ -17,7 +17,7 @@ use Rattle.jobs.specs.Place.{InPlace, with-row, grown}
 use Rattle.jobs.specs.declared.Job.{Job}
 use Rattle.placing.specs.declared.Stage.the-variants.{Unbegun}
 use Rattle.book.specs.JobBook.{River, dry, scoured, crossed, job, Jobs, none, _and_, Loaded}
-use Rattle.book.specs.Values.{stage-of, scour-of, clearance-of, load-rows, value, held}
+use Rattle.book.specs.Values.{stage-of, scour-of, clearance-of, load-rows, held}
 use Rattle.book.proofs.Steps.{Step, starts, scours, crosses, bears}
 
 -- the jobs with one row more, of which the last has the value that the row's taking gives

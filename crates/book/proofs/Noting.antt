@@ -1,17 +1,12 @@
 -- A row's number has one row, and so one note.
 use Prim.Native.Nat.{ℕ}
-use native.Mathlib.Omega.{arith}
 use mathlib.Core.Path.{_≡_, sym, ap, subst, _∙_}
 use mathlib.Core.List.{List}
 use Rattle.rows.specs.Form.{BookRow}
-use Rattle.book.specs.Notes.{RowIn, NoteIs, there, no-row, no-book}
-use Rattle.book.proofs.Answers.{reading-one, level}
-
-pub row-one : {A : Type 0} {rs : List A} {n : ℕ} {x y : A} → RowIn rs n x → RowIn rs n y → x ≡ y
-row-one {x = x} {y} p q =
-    let a = p .number in
-    let b = q .number in
-    level (p .before) (q .before) (p .behind) (q .behind) x y (sym (p .are) ∙ q .are) (omega arith) .1
+use Rattle.notes.specs.Notes.{RowIn}
+use Rattle.book.specs.Notes.{NoteIs, there, no-row, no-book}
+use Rattle.notes.proofs.Answers.{row-one}
+use Rattle.book.proofs.Answers.{reading-one}
 
 pub note-one : {s : List ℕ} {n : ℕ} {a b : List ℕ} → NoteIs s n a → NoteIs s n b → a ≡ b
 note-one {n = n} (there b r e) (there {r = q} c p f) =

@@ -6,7 +6,7 @@ use mathlib.Core.List.{List, [], _∷_, _++_, append-assoc}
 use lib.ListN.{length, length-append}
 use Rattle.rows.specs.Form.{BookRow}
 use Rattle.kinds.specs.declared.Role.the-variants.{Base, Scour, Clearance, Load}
-use Rattle.book.specs.JobBook.{IsA, SameKey, River, dry, scoured, crossed, job, river-rows, Loads, no-load, load, is-dry, is-scoured, is-crossed, good, Jobs, none, _and_, count, rows-of, Loaded, Shaped, one-more, last, before, Different, new-key, Placed}
+use Rattle.book.specs.JobBook.{IsA, SameKey, River, dry, scoured, crossed, job, river-rows, Loads, no-load, load, is-dry, is-scoured, is-crossed, good, Jobs, none, _and_, count, rows-of, Loaded, Shaped, one-more, Different, new-key, Placed}
 use Rattle.book.proofs.Roles.{one-role}
 use Rattle.book.proofs.Ends.{Ended, empty, ended, ends, not-empty, ends-same}
 

@@ -6,10 +6,11 @@ use mathlib.Core.Bool.{Bool, true, false}
 use mathlib.Core.List.{List, [], _∷_, _++_}
 use lib.ListN.{length, take, drop, set, length-append}
 use lib.Seq.{append-snoc, take-at}
-use Rattle.csv.specs.Rfc4180.{Cell, File, Readable, Rest, nothing, more}
-use Rattle.csv.proofs.Parts.{at-index, past}
-use Rattle.csv.proofs.Unique.{nil-cons}
-use Rattle.csv.proofs.First.{first, some-row}
+use Rattle.rfc4180.specs.Rfc4180.{Cell, File, Readable}
+use Rattle.rfc4180.proofs.Parts.{at-index, past}
+use Rattle.rfc4180.proofs.Unique.{nil-cons}
+use Rattle.rfc4180.proofs.First.{first, some-row}
+use Rattle.notes.proofs.Rests.{rest-more, rest-none}
 use Rattle.rows.specs.Form.{BookRow, raw, Form}
 use Rattle.rows.specs.Answer.{formed, RowSeen, SeenAt}
 use Rattle.keys.specs.declared.Key.{Key}
@@ -19,6 +20,9 @@ use Rattle.jobs.specs.Taking as taking
 use Rattle.jobs.specs.declared.Job.{Job}
 use Rattle.book.specs.JobBook.{Jobs, none, _and_, job, dry, count, Loaded, no-job, Forms, no-form, form, Begins, JobBook, Different, no-key, new-key, Used}
 use Rattle.keys.specs.Among.{Among}
+use Rattle.keys.specs.Begins as beginning
+use Rattle.keys.specs.declared.Beginning.{Beginning}
+use Rattle.keys.specs.declared.Beginning.the-variants.{Free, Barred}
 use Rattle.book.specs.Values.{values, held, places}
 use Rattle.book.specs.Says.{refused, Fault, formless, misplaced, surplus, reused, number, Bad, Says, bad-row, unfinished, book, told, jobs-told, BookIs, EndedIs, missing, whole}
 use Rattle.refusals.specs.Numbers.{refusal-number}
@@ -32,14 +36,6 @@ use Rattle.book.proofs.Steps.{Step, starts, scours, crosses, bears, ext
 use Rattle.book.proofs.Answers.{begins-book}
 use Rattle.book.proofs.Growing.{Grown, place-grows, step-place}
 use Rattle.book.proofs.Keeping.{values-many, among-used, used-among, Standing, base-jobs, standing-starts, joins, standing-joins}
-
-pub rest-more : {t : List ℕ} {css : List (List Cell)} → Rest t css → (t ≡ [] → ⊥) → File t css
-rest-more nothing n = absurd (n refl)
-rest-more (more m q) n = q
-
-pub rest-none : {t : List ℕ} {css : List (List Cell)} → Rest t css → t ≡ [] → css ≡ []
-rest-none nothing e = refl
-rest-none (more m q) e = absurd (m e)
 
 forms-more : {css : List (List Cell)} {rs : List BookRow} {cs : List Cell} {r : BookRow} → Forms css rs → Form cs r → Forms (css ++ cs ∷ []) (rs ++ r ∷ [])
 forms-more no-form g = form g no-form
@@ -60,6 +56,12 @@ has-load (bears h f m) n = omega arith
 
 used-twice : {js : Jobs} {r : BookRow} → Used r js → Different (js and job r dry []) → ⊥
 used-twice u (new-key d n) = n u
+
+-- where a job begins, it is one of 64, and its key is new
+pub begun-new : {ks : List Key} {n : ℕ} {k : Key} {b : Beginning} → beginning.BeginsIs ks n k b → b ≡ Free → (n < 64) × (Among ks n k → ⊥)
+begun-new (beginning.surplus m e) f = let z : _≡_ {A = ℕ} 0 1 = cc in absurd (omega arith)
+begun-new (beginning.reused m a e) f = let z : _≡_ {A = ℕ} 0 1 = cc in absurd (omega arith)
+begun-new (beginning.free m a e) f = (m, a)
 
 -- an answer, from what it is told
 pub refused-is : {s : List ℕ} (b : Book) (why : Refusal) (row : ℕ) → (b .count ≡ Refused why row) × (b .jobs ≡ places []) → Says s (refused (refusal-number why) row) → BookIs s b
@@ -208,25 +210,36 @@ module _ {s : List ℕ} {last : Job} {jobs : List Job} {keys : List Key} {n row 
       key-is : next .key ≡ r .row .key
       key-is = ap (λ (j : Job). j .key) (sym holds)
 
-      pub walk-surplus : 64 ≤ n → Says s (refused 5 row)
+      walk-surplus : 64 ≤ n → Says s (refused 5 row)
       walk-surplus m =
           let o = i .stands .many in
           first-bad surplus (record { row = this; form = means; jobs = started; placed = extend (i .begins .placed) start; many = omega arith })
 
-      pub walk-reused : n < 64 → Among keys n (next .key) → Says s (refused 6 row)
+      walk-reused : n < 64 → Among keys n (next .key) → Says s (refused 6 row)
       walk-reused m a =
           let o = i .stands .many in
           let u = among-used (i .written) n keys o (i .stands .keys) this (subst (Among keys n) key-is a) in
           first-bad reused (record { row = this; form = means; jobs = started; placed = extend (i .begins .placed) start; few = omega arith; same = λ d. used-twice u d })
 
-      pub walk-started : n < 64 → (Among keys n (next .key) → ⊥) → After next (set jobs n next) (set keys n (next .key)) (n + 1)
+      -- a job that may not begin
+      pub walk-barred : {b : Beginning} (why : Refusal) → beginning.BeginsIs keys n (next .key) b → b ≡ Barred why → Says s (refused (refusal-number why) row)
+      walk-barred why (beginning.surplus m e) f =
+          let q : TooMany ≡ why = cc in
+          subst (λ (x : Refusal). Says s (refused (refusal-number x) row)) q (walk-surplus m)
+      walk-barred why (beginning.reused m a e) f =
+          let q : UsedKey ≡ why = cc in
+          subst (λ (x : Refusal). Says s (refused (refusal-number x) row)) q (walk-reused m a)
+      walk-barred why (beginning.free m a e) f = let z : _≡_ {A = ℕ} 0 1 = cc in absurd (omega arith)
+
+      pub walk-started : n < 64 → (Among keys n (next .key) → ⊥) → After next (set jobs (n + 1 - 1) next) (set keys n (next .key)) (n + 1)
       walk-started m a =
           let o = i .stands .many in
+          let l : n ≡ n + 1 - 1 = omega arith in
           record {
             grew = started;
             step = start;
             begins = begins-more start (omega arith) (λ d. new-key d (λ u. a (subst (Among keys n) (sym key-is) (used-among (i .written) n keys o (i .stands .keys) this u))));
-            stands = standing-starts this (next .key) (i .stands) m key-is holds;
+            stands = subst (λ (k : ℕ). Standing started (n + 1) (set keys n (next .key)) (set jobs k next) next) l (standing-starts this (next .key) (i .stands) m key-is holds);
           }
 
     module _ {next : Job} {vs : List Job} {ks : List Key} {m : ℕ} (w : After next vs ks m) where

@@ -3,7 +3,7 @@ use Prim.Native.Nat.{ℕ, _+_, _≤_, _<_}
 use mathlib.Core.Path.{_≡_}
 use mathlib.Core.List.{List, [], _∷_, _++_}
 use lib.ListN.{length, take}
-use Rattle.csv.specs.Rfc4180.{Cell, File, Readable}
+use Rattle.rfc4180.specs.Rfc4180.{Cell, File, Readable}
 use Rattle.rows.specs.Form.{BookRow, Form}
 use Rattle.jobs.specs.declared.Job.{Job}
 use Rattle.refusals.specs.Numbers.{refusal-number}

@@ -5,13 +5,13 @@
 // the rows passed are rows that a job book may begin with, and the values held are those of their jobs. What is hard
 // is that the first bad row is the first with which no job book begins, wherever one might cut the jobs.
 use jobs::Job;
-use keys::Key;
+use keys::Beginning;
 use refusals::Refusal;
 use steps::Way;
 ghost use mathlib.Core.Path.{_≡_};
-ghost use Prim.Native.Nat.{ℕ, _+_, _≤_, _<_};
+ghost use Prim.Native.Nat.{_+_, _≤_, _<_};
 ghost use lib.ListN.{length};
-ghost use Rattle.csv.specs.Rfc4180.{Readable};
+ghost use Rattle.rfc4180.specs.Rfc4180.{Readable};
 ghost use Rattle.book.specs.Values.{places};
 ghost use Rattle.book.specs.Says.{BookIs, EndedIs};
 ghost use mathlib.Core.List.{[]};
@@ -32,10 +32,10 @@ pub struct Book {
 pub fn refused(why: Refusal, row: usize) -> Book
     ensures { λ r. ⌜ (r .count ≡ Count.Refused why row) × (r .jobs ≡ places []) ⌝ }
 {
-    let none = jobs::blank_job();
+    let jobs = jobs::no_jobs();
     Book {
         count: Count::Refused(why, row),
-        jobs: [none; 64],
+        jobs,
     }
 }
 
@@ -61,42 +61,31 @@ pub fn read_rows(s: &[u8]) -> Book
 {
     let mut job = jobs::blank_job();
     let mut jobs = [job; 64];
-    let none = job.key;
-    let mut keys = [none; 64];
+    let mut keys = keys::no_keys();
     let mut n: usize = 0;
     let mut row: usize = 1;
     let mut at: usize = 0;
     loop {
         let step = steps::step_at(s, at, job);
+        job = step.job;
+        at = step.next;
         let way = step.way;
-        let taken = step.job;
-        let next = step.next;
         match way {
             Way::Refused(why) => return refused(why, row),
-            Way::Joined => {
-                let last = n - 1;
-                jobs[last] = taken;
-            }
+            Way::Joined => {}
             Way::Started => {
-                if 64 <= n {
-                    return refused(Refusal::TooMany, row);
-                }
-                let key = taken.key;
-                let used = keys::is_used(keys, n, key);
-                if used {
-                    return refused(Refusal::UsedKey, row);
+                let key = job.key;
+                if let Beginning::Barred(why) = keys::begins(keys, n, key) {
+                    return refused(why, row);
                 }
                 keys[n] = key;
-                jobs[n] = taken;
                 n += 1;
             }
         }
-        if s.len() <= next {
-            let loads = taken.count;
-            return ended(jobs, n, loads, row);
+        jobs[n - 1] = job;
+        if s.len() <= at {
+            return ended(jobs, n, job.count, row);
         }
-        job = taken;
         row += 1;
-        at = next;
     }
 }

@@ -3,7 +3,7 @@
 // book). One line a call: the book, what was asked, what came, and in brackets the whole buffer after the call, or the note.
 //
 // A buffer is lent full of dots, so that a byte which is written shows, and one which is not; CR and LF are shown as \r and \n.
-use debtarush::Written;
+use calls::Written;
 use libc::STDOUT_FILENO;
 ghost use Prim.Native.Nat.{_≤_};
 
@@ -64,8 +64,16 @@ fn call(text: &[u8], place: usize, out: &mut [u8]) {
     put_bytes(out);
 }
 
-// The same for a book of data/ and so many dots.
-fn show_call(name: &[u8], place: usize, lent: usize)
+// A call for the note of a row.
+fn note(text: &[u8], row: usize) {
+    put(b" row ");
+    put_number(row);
+    put(b": note");
+    put_bytes(reader::note_of(text, row));
+}
+
+// A call over a book of data/: for a job's lines with so many dots lent, or for a row's note.
+fn show(name: &[u8], place: usize, lent: usize, lines: bool)
     requires { ⌜ lent ≤ 160 ⌝ }
 {
     let mut text = io::buffer();
@@ -74,20 +82,21 @@ fn show_call(name: &[u8], place: usize, lent: usize)
     let len = io::read_full(file, &mut text);
     libc::close(file);
     put(name);
-    call(&text[..len], place, &mut dots[0..lent]);
+    if lines {
+        call(&text[..len], place, &mut dots[0..lent]);
+    } else {
+        note(&text[..len], place);
+    }
 }
 
-// A call for the note of a row.
+fn show_call(name: &[u8], place: usize, lent: usize)
+    requires { ⌜ lent ≤ 160 ⌝ }
+{
+    show(name, place, lent, true);
+}
+
 fn show_note(name: &[u8], row: usize) {
-    let mut text = io::buffer();
-    let file = os::open_read(name);
-    let len = io::read_full(file, &mut text);
-    libc::close(file);
-    put(name);
-    put(b" row ");
-    put_number(row);
-    put(b": note");
-    put_bytes(reader::note_of(&text[..len], row));
+    show(name, row, 0, false);
 }
 
 // The first job has lines of 128 bytes: a buffer that fits exactly, one byte short, none, and one with room to spare.
@@ -134,10 +143,14 @@ fn notes(book: &[u8]) {
     show_note(book, 0);
 }
 
+fn three_jobs(book: &[u8]) {
+    buffers(book);
+    refused_job(book);
+    places(book);
+    notes(book);
+}
+
 fn main() {
-    buffers(b"three.book");
-    refused_job(b"three.book");
-    places(b"three.book");
-    notes(b"three.book");
+    three_jobs(b"three.book");
     refused_book(b"unfinished.book");
 }

@@ -6,8 +6,8 @@ use mathlib.Core.Path.{_≡_, sym, subst, _∙_}
 use mathlib.Core.List.{List, _∷_}
 use lib.ListN.{length, getD, drop}
 use lib.Seq.{ext-getD}
-use Rattle.csv.specs.Rfc4180.{Cell, File, Readable}
-use Rattle.csv.proofs.First.{first, some-row}
+use Rattle.rfc4180.specs.Rfc4180.{Cell, File, Readable}
+use Rattle.rfc4180.proofs.First.{first, some-row}
 use Rattle.cells.specs.Cells.{RowIs, RowAt, Stands, CellAt}
 use Rattle.cells.specs.declared.Cells.{Cells}
 

@@ -3,7 +3,7 @@ use Prim.Native.Nat.{ℕ, zero, suc, _<_}
 use native.Mathlib.Nat.{le-of-suc-le-suc, not-suc-le-zero}
 use mathlib.Core.List.{List, _∷_}
 use lib.ListN.{length, getD}
-use Rattle.csv.specs.Rfc4180.{Cell, Field, Record, only, then, File, last, closed, next}
+use Rattle.rfc4180.specs.Rfc4180.{Cell, Field, Record, only, then, File, last, closed, next}
 use Rattle.cells.specs.Cells.{no-cell}
 
 abbrev pub IsField : Cell → Type 0

@@ -1,4 +1,3 @@
 -- Laws of the cells of a row. Other crates' proofs cite them.
-pub mod Notes
 pub mod Fields
 pub mod Answers

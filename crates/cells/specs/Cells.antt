@@ -3,8 +3,8 @@ use Prim.Native.Nat.{ℕ, zero, suc, _+_, _≤_, _<_, min}
 use mathlib.Core.Path.{_≡_}
 use mathlib.Core.List.{List, [], _∷_}
 use lib.ListN.{length, getD, drop}
-use Rattle.csv.specs.Rfc4180.{Cell, File, Rest}
-use Rattle.csv.specs.Answer.{part}
+use Rattle.rfc4180.specs.Rfc4180.{Cell, File, Rest}
+use Rattle.rfc4180.specs.Part.{part}
 use Rattle.cells.specs.declared.Cells.{Cells}
 
 -- the field stands at p in the text: from a up to e

@@ -1,14 +1,9 @@
 // The cells of a row of an RFC 4180 text, by position: how many there are, where the first ten stand, and where the
-// next row starts.
+// next row starts; and the stretch of the text that a cell is.
 //
-// The text is known to be RFC 4180, so no field is bad. What is hard is that each place is tied to the one reading of
-// the text: the loop keeps the fields passed, and what stands behind them still has the rest of the rows.
-use csv::Ended;
-ghost use mathlib.Core.Path.{_≡_};
-ghost use Prim.Native.Nat.{ℕ, _+_, _≤_, _<_};
-ghost use lib.ListN.{length, drop, set};
-ghost use Rattle.csv.specs.Rfc4180.{Readable};
-ghost use Rattle.cells.specs.Cells.{RowAt, CellAt};
+// What is hard is that the stretch is exact for any places, those of a row or not: nothing, where they are none.
+ghost use Prim.Native.Nat.{_<_};
+ghost use Rattle.cells.specs.Cells.{CellAt};
 
 // A row: how many fields it has, where the first ten start and end, and where the next row starts.
 pub struct Cells {
@@ -16,72 +11,6 @@ pub struct Cells {
     pub from: [usize; 10],
     pub to: [usize; 10],
     pub next: usize,
-}
-
-// The array with v at n, or as it is where it has no n.
-fn put(a: [usize; 10], n: usize, v: usize) -> [usize; 10]
-    ensures { λ r. ⌜ r ≡ set a n v ⌝ }
-{
-    let mut b = a;
-    if n < 10 {
-        b[n] = v;
-        return b;
-    }
-    b
-}
-
-// The row that starts at a place.
-pub fn row_at(s: &[u8], start: usize) -> Cells
-    requires { ⌜ start ≤ length (now s) ⌝ }
-    requires { ⌜ Readable (drop start (now s)) ⌝ }
-    ensures { λ r. ⌜ RowAt (now (s .entry)) start r ⌝ }
-{
-    let mut from = [0usize; 10];
-    let mut to = [0usize; 10];
-    let mut n: usize = 0;
-    let mut at = start;
-    loop {
-        let f = csv::field_end(s, at);
-        let a = put(from, n, at);
-        from = a;
-        match f {
-            Ended::Comma(e) => {
-                let b = put(to, n, e);
-                to = b;
-                n += 1;
-                at = e + 1;
-            }
-            Ended::Row(e) => {
-                let b = put(to, n, e);
-                to = b;
-                return Cells {
-                    count: n + 1,
-                    from,
-                    to,
-                    next: e + 2,
-                };
-            }
-            Ended::End => {
-                let e = s.len();
-                let b = put(to, n, e);
-                to = b;
-                return Cells {
-                    count: n + 1,
-                    from,
-                    to,
-                    next: e,
-                };
-            }
-            Ended::Bad => {
-                return Cells {
-                    count: 0,
-                    from,
-                    to,
-                    next: at,
-                };
-            }
-        }
-    }
 }
 
 // The cell k of a row, as the stretch of the text that it is.

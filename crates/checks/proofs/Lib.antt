@@ -1,4 +1,2 @@
--- The laws of figures and of their order. Other crates' proofs cite them.
+-- The laws of the order of figures. Other crates' proofs cite them.
 pub mod Ranking
-pub mod Showing
-pub mod Examples

@@ -1,2 +1,2 @@
-pub mod Figures
 pub mod Order
+pub mod Sized

@@ -42,7 +42,7 @@ pub fn stance_of(combination: Combination, load: Load) -> Stance
 {
     let phase = load.phase;
     let class = load.class;
-    if !permits::acts(combination, phase) {
+    if !phases::acts(combination, phase) {
         return Stance::Never;
     }
     by_class(combination, class)

@@ -1,5 +1,2 @@
--- The laws of the rules for clearance. Other crates' proofs cite them.
-pub mod Rules
-pub mod Bounds
-pub mod Levels
+-- The laws of what a C row is told. Other crates' proofs cite them.
 pub mod Clearances

@@ -3,8 +3,13 @@
 use book::Count;
 use libc::STDOUT_FILENO;
 
-fn put(text: &[u8]) {
-    io::write_all(STDOUT_FILENO, text);
+// Two figures, each behind its name, and the line's end.
+fn show_figures(first: &[u8], a: u64, second: &[u8], b: u64) {
+    io::write_all(STDOUT_FILENO, first);
+    io::print_decimal(STDOUT_FILENO, a);
+    io::write_all(STDOUT_FILENO, second);
+    io::print_decimal(STDOUT_FILENO, b);
+    io::write_all(STDOUT_FILENO, b"\n");
 }
 
 fn show(text: &[u8]) {
@@ -12,19 +17,17 @@ fn show(text: &[u8]) {
     match count {
         Count::Given(n) => {
             let note = reader::note_of(text, 1);
-            put(b" jobs ");
-            io::print_decimal(STDOUT_FILENO, n as u64);
-            put(b" note ");
-            io::print_decimal(STDOUT_FILENO, note.len() as u64);
+            show_figures(b" jobs ", n as u64, b" note ", note.len() as u64);
         }
         Count::Refused(why, row) => {
-            put(b" refused ");
-            io::print_decimal(STDOUT_FILENO, refusals::number_of(why) as u64);
-            put(b" row ");
-            io::print_decimal(STDOUT_FILENO, row as u64);
+            show_figures(
+                b" refused ",
+                refusals::number_of(why) as u64,
+                b" row ",
+                row as u64,
+            );
         }
     }
-    put(b"\n");
 }
 
 // The book that an argument names.
@@ -32,14 +35,15 @@ fn show_book(i: usize) {
     let mut name = [0u8; 64];
     let mut text = [0u8; 65537];
     let len = os::arg(i, &mut name);
-    let file = os::open_read(&name[..len]);
+    let named = &name[..len];
+    let file = os::open_read(named);
     if file < 0 {
-        os::fail(&name[..len]);
+        os::fail(named);
         return;
     }
     let got = io::read_full(file, &mut text);
     libc::close(file);
-    put(&name[..len]);
+    io::write_all(STDOUT_FILENO, named);
     show(&text[..got]);
 }
 

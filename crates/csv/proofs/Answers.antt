@@ -1,31 +1,29 @@
 -- Each promise of `src/` is met by one answer only.
-use Prim.Native.Nat.{ℕ, _-_, _≤_}
+use Prim.Native.Nat.{ℕ, _-_}
 use native.Mathlib.Nat.{le-refl}
 use native.Mathlib.Omega.{arith}
 use mathlib.Core.Path.{_≡_, refl, sym, ap, subst, _∙_}
 use mathlib.Core.List.{List}
-use lib.ListN.{length, drop, length-drop}
-use lib.Seq.{length-take-le}
-use Rattle.csv.specs.Rfc4180.{COMMA, CR, Cell, File, Stop, at-end, at-comma, at-row}
-use Rattle.csv.specs.Answer.{part, FieldTo, FieldAt}
+use lib.ListN.{length, drop}
+use Rattle.rfc4180.specs.Rfc4180.{COMMA, CR, Cell, File, Stop, at-end, at-comma, at-row}
+use Rattle.rfc4180.specs.Part.{part}
+use Rattle.csv.specs.Answer.{FieldTo, FieldAt}
 use Rattle.csv.specs.declared.Ended.{Ended}
 use Rattle.csv.specs.declared.Ended.the-variants.{Comma, Row, End, Bad}
-use Rattle.csv.proofs.Unique.{nil-cons, heads, stop-halts, field-unique, file-unique}
-use Rattle.csv.proofs.Parts.{part-rest, past}
+use Rattle.rfc4180.proofs.Unique.{nil-cons, heads, stop-halts, field-unique, file-unique}
+use Rattle.rfc4180.proofs.Parts.{part-rest, past}
+use Rattle.quoted.proofs.Answers.{part-length}
 
 -- a text has one reading
 pub reading-one : (s : List ℕ) (rs qs : List (List Cell)) → File s rs → File s qs → rs ≡ qs
 reading-one s rs qs p q = file-unique p q refl
 
 module _ (s : List ℕ) (at : ℕ) where
-  part-length : (e : ℕ) → e ≤ length s → length (part at e s) ≡ e - at
-  part-length e h = length-take-le (e - at) (drop at s) (rw length-drop (omega arith))
-
   -- two fields at one place end at one place
   one-end : (e d : ℕ) → FieldTo s at e → FieldTo s at d → Stop (drop e s) → Stop (drop d s) → e ≡ d
   one-end e d p q h k =
       let u = field-unique (p .field) (q .field) (stop-halts h) (stop-halts k) (sym (part-rest s at e (p .from)) ∙ part-rest s at d (q .from)) in
-      let n : e - at ≡ d - at = sym (part-length e (p .within)) ∙ ap length (u .0) ∙ part-length d (q .within) in
+      let n : e - at ≡ d - at = sym (part-length s at e (p .within)) ∙ ap length (u .0) ∙ part-length s at d (q .within) in
       let f = p .from in
       let g = q .from in
       omega arith

@@ -4,12 +4,14 @@ use native.Mathlib.Omega.{arith}
 use mathlib.Core.Path.{_≡_, sym, ap, subst, _∙_}
 use mathlib.Core.List.{List, [], _∷_, _++_, append-assoc}
 use lib.ListN.{getD, drop}
-use Rattle.csv.specs.Rfc4180.{COMMA, CR, DQUOTE, LF, Escaped, Field, plain, quoted, Stop}
-use Rattle.csv.specs.Answer.{part, Begins, PlainTo, EscapedTo, StopAt, FieldTo, FieldAt}
+use Rattle.rfc4180.specs.Rfc4180.{COMMA, CR, DQUOTE, LF, Escaped, Field, plain, quoted, Stop}
+use Rattle.rfc4180.specs.Part.{part}
+use Rattle.quoted.specs.Closing.{Begins, EscapedTo}
+use Rattle.csv.specs.Answer.{PlainTo, StopAt, FieldTo, FieldAt}
 use Rattle.csv.specs.declared.Ended.{Ended}
 use Rattle.csv.specs.declared.Ended.the-variants.{Comma, Row, End, Bad}
-use Rattle.csv.proofs.Unique.{tails, plain-unique, escaped-unique, closing-halts, plain-quote, stop-quote, stop-plain}
-use Rattle.csv.proofs.Parts.{part-more, part-rest, begins-at, begins-is, begins-lt, begins-behind}
+use Rattle.rfc4180.proofs.Unique.{tails, plain-unique, escaped-unique, closing-halts, plain-quote, stop-quote, stop-plain}
+use Rattle.rfc4180.proofs.Parts.{part-more, part-rest, begins-at, begins-is, begins-lt, begins-behind}
 
 -- every field at this place with an end behind it has that end where ours has it
 abbrev pub Follows : List ℕ → ℕ → ℕ → Type 0

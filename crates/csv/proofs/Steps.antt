@@ -6,11 +6,12 @@ use mathlib.Core.Path.{_≡_, ap, _∙_}
 use mathlib.Core.Logic.{_↔_}
 use mathlib.Core.List.{List, _∷_, _++_, append-nil}
 use lib.ListN.{length, drop, length-drop}
-use Rattle.csv.specs.Rfc4180.{COMMA, CR, LF, Readable}
-use Rattle.csv.specs.Answer.{part, FieldAt}
+use Rattle.rfc4180.specs.Rfc4180.{COMMA, CR, LF, Readable}
+use Rattle.rfc4180.specs.Part.{part}
+use Rattle.csv.specs.Answer.{FieldAt}
 use Rattle.csv.specs.declared.Ended.the-variants.{Comma, Row, End, Bad}
-use Rattle.csv.proofs.First.{comma-readable, row-readable, end-readable, starts}
-use Rattle.csv.proofs.Parts.{part-rest, past}
+use Rattle.rfc4180.proofs.First.{comma-readable, row-readable, end-readable, starts}
+use Rattle.rfc4180.proofs.Parts.{part-rest, past}
 
 pub record Step (s : List ℕ) (at next : ℕ) : Type 0 where
   pub on : at < next

@@ -1,22 +1,13 @@
 -- What the functions of `src/` answer, case by case, in terms of RFC 4180 as `Rfc4180` states it.
-use Prim.Native.Nat.{ℕ, _+_, _-_, _≤_, _<_}
+use Prim.Native.Nat.{ℕ, _+_, _≤_}
 use mathlib.Core.Path.{_≡_}
 use mathlib.Core.List.{List, _∷_, _++_}
-use lib.ListN.{length, take, drop}
-use Rattle.csv.specs.Rfc4180.{COMMA, CR, DQUOTE, LF, Textdata, Plain, Escaped, Field, Stop}
+use lib.ListN.{length, drop}
+use Rattle.rfc4180.specs.Part.{part}
+use Rattle.rfc4180.specs.Rfc4180.{COMMA, CR, LF, Textdata, Plain, Field, Stop}
 use Rattle.csv.specs.declared.Ended.{Ended}
 use Rattle.csv.specs.declared.Ended.the-variants.{Comma, Row, End, Bad}
-use Rattle.csv.specs.declared.Found.{Found}
-use Rattle.csv.specs.declared.Found.the-variants.{At, Nothing}
-
--- the stretch from `at` up to e, as the source's `&s[at..e]` has it
-abbrev pub part : ℕ → ℕ → List ℕ → List ℕ
-part at e s = take (e - at) (drop at s)
-
--- the text begins with the byte b
-pub record Begins (b : ℕ) (t : List ℕ) : Type 0 where
-  pub behind : List ℕ
-  pub begins : t ≡ b ∷ behind
+use Rattle.quoted.specs.Closing.{Begins}
 
 -- the longest plain stretch at a place ends at e
 pub record PlainTo (s : List ℕ) (at e : ℕ) : Type 0 where
@@ -24,21 +15,6 @@ pub record PlainTo (s : List ℕ) (at e : ℕ) : Type 0 where
   pub within : e ≤ length s
   pub all : Plain (part at e s)
   pub halts : (b : ℕ) → Textdata b → Begins b (drop e s) → ⊥
-
--- what stands between quotes from `at` on ends at e, where a quote stands alone
-pub record EscapedTo (s : List ℕ) (at e : ℕ) : Type 0 where
-  pub from : at ≤ e
-  pub within : e < length s
-  pub content : List ℕ
-  pub escaped : Escaped (part at e s) content
-  pub quote : drop e s ≡ DQUOTE ∷ drop (e + 1) s
-  pub alone : Begins DQUOTE (drop (e + 1) s) → ⊥
-
--- the closing quote of what stands between quotes from `at` on
-abbrev pub ClosedAt : List ℕ → ℕ → Found → Type 0
-ClosedAt s at (At e) = EscapedTo s at e
-ClosedAt s at Nothing =
-    (r c t : List ℕ) → Escaped r c → (Begins DQUOTE t → ⊥) → drop at s ≡ r ++ DQUOTE ∷ t → ⊥
 
 -- what follows a field that ends at e
 abbrev pub StopAt : List ℕ → ℕ → Ended → Type 0

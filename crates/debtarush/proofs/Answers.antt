@@ -1,27 +1,16 @@
 -- A call has one answer, and leaves one state of the buffer.
 use Prim.Native.Nat.{ℕ}
 use native.Mathlib.Omega.{arith}
-use mathlib.Core.Path.{_≡_, sym, ap, subst, _∙_}
+use mathlib.Core.Path.{_≡_, sym, ap, _∙_}
 use mathlib.Core.List.{List, _++_}
 use lib.ListN.{length, drop}
-use Rattle.jobs.specs.declared.Job.{Job}
-use Rattle.book.specs.JobBook.{Jobs, JobBook}
-use Rattle.book.specs.Values.{values}
 use Rattle.book.specs.Says as book
-use Rattle.book.specs.Notes.{RowIn}
-use Rattle.book.proofs.Answers.{says-one, refused-none, book-one}
-use Rattle.book.proofs.Noting.{row-one}
-use Rattle.earth.specs.declared.Coefficient.{Coefficient}
-use Rattle.job_text.proofs.Answers.{text-one}
-use Rattle.debtarush.specs.Called.{Told, written, refused, Called, no-book, no-place, too-short, lines}
-
-module _ {b : List ℕ} {place : ℕ} where
-  -- the job at a place is one
-  job-one : {js ks : Jobs} {j k : Job} → JobBook b js → JobBook b ks → RowIn (values js) place j → RowIn (values ks) place k → j ≡ k
-  job-one {k = k} x y p q = row-one p (subst (λ (l : Jobs). RowIn (values l) place k) (book-one y x) q)
-
-  there : {js ks : Jobs} {j : Job} → JobBook b js → JobBook b ks → RowIn (values js) place j → ((k : Job) → RowIn (values ks) place k → ⊥) → ⊥
-  there {j = j} x y p n = n j (subst (λ (l : Jobs). RowIn (values l) place j) (book-one x y) p)
+use Rattle.book.proofs.Answers.{says-one, refused-none}
+use Rattle.table2.specs.declared.Coefficient.{Coefficient}
+use Rattle.placed.proofs.Answers.{job-one, job-there}
+use Rattle.debtarush.proofs.Texts.{text-one}
+use Rattle.calls.specs.Told.{Told, written, refused}
+use Rattle.debtarush.specs.Called.{Called, no-book, no-place, too-short, lines}
 
 -- a book's refusal as a call's
 refusal : book.Told → Told
@@ -37,14 +26,14 @@ module _ {fill : ℕ → ℕ → Coefficient} {b : List ℕ} {place : ℕ} {befo
   called-one (no-book p a e) (lines q r s l c f) = absurd (refused-none p _ q)
   called-one (no-place p m a e) (no-book q c f) = absurd (refused-none q _ p)
   called-one (no-place p m a e) (no-place q n c f) = (a ∙ sym c, e ∙ sym f)
-  called-one (no-place p m a e) (too-short q r s l c f) = absurd (there q p r m)
-  called-one (no-place p m a e) (lines q r s l c f) = absurd (there q p r m)
+  called-one (no-place p m a e) (too-short q r s l c f) = absurd (job-there q p r m)
+  called-one (no-place p m a e) (lines q r s l c f) = absurd (job-there q p r m)
   called-one (too-short p r s l a e) (no-book q c f) = absurd (refused-none q _ p)
-  called-one (too-short p r s l a e) (no-place q m c f) = absurd (there p q r m)
+  called-one (too-short p r s l a e) (no-place q m c f) = absurd (job-there p q r m)
   called-one (too-short p r s l a e) (too-short q u v k c f) = (a ∙ sym c, e ∙ sym f)
   called-one (too-short p r s l a e) (lines q u v k c f) = let z = ap length (text-one (job-one p q r u) s v) in absurd (omega arith)
   called-one (lines p r s l a e) (no-book q c f) = absurd (refused-none q _ p)
-  called-one (lines p r s l a e) (no-place q m c f) = absurd (there p q r m)
+  called-one (lines p r s l a e) (no-place q m c f) = absurd (job-there p q r m)
   called-one (lines p r s l a e) (too-short q u v k c f) = let z = ap length (text-one (job-one p q r u) s v) in absurd (omega arith)
   called-one (lines p r s l a e) (lines q u v k c f) =
       let z = text-one (job-one p q r u) s v in

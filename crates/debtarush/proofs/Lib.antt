@@ -1,3 +1,5 @@
 -- Laws of the calls. Other crates' proofs cite them.
+pub mod Fitting
+pub mod Texts
 pub mod Placing
 pub mod Answers

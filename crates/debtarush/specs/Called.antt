@@ -6,25 +6,11 @@ use lib.ListN.{length, drop}
 use Rattle.jobs.specs.declared.Job.{Job}
 use Rattle.book.specs.JobBook.{Jobs, JobBook}
 use Rattle.book.specs.Values.{values}
-use Rattle.refusals.specs.Numbers.{refusal-number}
 use Rattle.book.specs.Says as book
-use Rattle.book.specs.Notes.{RowIn}
-use Rattle.earth.specs.declared.Coefficient.{Coefficient}
-use Rattle.job_text.specs.Lines.{TextOf}
-use Rattle.debtarush.specs.declared.Written.{Written}
-use Rattle.debtarush.specs.declared.Written.the-variants.{Length, Book, NoPlace, TooShort}
-
--- what a call is told: so many bytes written, or a refusal's number and its row
-pub data Told : Type 0 where
-  written : ℕ → Told
-  refused : ℕ → ℕ → Told
-
--- 1 to 6 as the book's; 10, the place is 0 or past the last job; 7, the buffer lent is shorter than the lines; both with row 0
-abbrev pub told : Written → Told
-told (Length n) = written n
-told (Book why row) = refused (refusal-number why) row
-told NoPlace = refused 10 0
-told TooShort = refused 7 0
+use Rattle.table2.specs.declared.Coefficient.{Coefficient}
+use Rattle.debtarush.specs.Lines.{TextOf}
+use Rattle.notes.specs.Notes.{RowIn}
+use Rattle.calls.specs.Told.{Told, written, refused}
 
 -- a call for the lines of the job at a place of a book, with a buffer that held `before` and holds `after` then.
 -- "Nothing is written by a call refused with 1 to 7 or 10. Otherwise exactly the lines' bytes are written from the start and the rest is untouched"

@@ -8,16 +8,18 @@ use lib.ListN.{length, drop}
 use Rattle.jobs.specs.declared.Job.{Job}
 use Rattle.book.specs.JobBook.{Jobs, JobBook}
 use Rattle.book.specs.Values.{values}
-use Rattle.book.specs.Notes.{RowIn}
-use Rattle.earth.specs.declared.Coefficient.{Coefficient}
+use Rattle.table2.specs.declared.Coefficient.{Coefficient}
+use Rattle.notes.specs.Notes.{RowIn}
 use Rattle.lines.specs.declared.Verdict.the-variants.{Refused}
 use Rattle.lines.specs.Lines.{verdict-line, unless-refused, lines-of}
 use Rattle.answer.specs.Rules.{Refuses}
 use Rattle.answer.specs.Answer as answer
-use Rattle.printing.specs.Text.{line-text, texts, text}
-use Rattle.job_text.specs.Lines.{TextOf}
-use Rattle.debtarush.specs.Called.{written, refused, Called, no-book, no-place, too-short, lines}
-use Rattle.job_text.proofs.Answers.{text-one}
+use Rattle.line_text.specs.Text.{line-text, texts}
+use Rattle.printing.specs.Text.{text}
+use Rattle.debtarush.specs.Lines.{TextOf}
+use Rattle.calls.specs.Told.{written, refused}
+use Rattle.debtarush.specs.Called.{Called, no-book, no-place, too-short, lines}
+use Rattle.debtarush.proofs.Texts.{text-one}
 use Rattle.debtarush.proofs.Answers.{called-one}
 use Rattle.demands.specs.Demand1.{Demand1}
 use Rattle.demands.proofs.Numbers.{book-numbers}

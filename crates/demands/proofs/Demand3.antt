@@ -7,12 +7,13 @@ use lib.ListN.{length}
 use Rattle.jobs.specs.declared.Job.{Job}
 use Rattle.book.specs.JobBook.{Written, Jobs, JobBook}
 use Rattle.book.specs.Values.{value, SameJob}
-use Rattle.book.specs.Notes.{RowIn}
+use Rattle.notes.specs.Notes.{RowIn}
 use Rattle.book.proofs.Answers as read
 use Rattle.book.proofs.Same.{same-value}
-use Rattle.earth.specs.declared.Coefficient.{Coefficient}
-use Rattle.debtarush.specs.Called.{Told, written, refused, Called, no-book, no-place, too-short, lines}
-use Rattle.job_text.proofs.Answers.{text-one}
+use Rattle.table2.specs.declared.Coefficient.{Coefficient}
+use Rattle.calls.specs.Told.{Told, written, refused}
+use Rattle.debtarush.specs.Called.{Called, no-book, no-place, too-short, lines}
+use Rattle.debtarush.proofs.Texts.{text-one}
 use Rattle.demands.specs.Words.{listed}
 use Rattle.demands.specs.Demand3.{Demand3}
 use Rattle.demands.proofs.Keys.{good-job, value-at}

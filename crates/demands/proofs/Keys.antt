@@ -3,13 +3,13 @@ use Prim.Native.Nat.{ℕ, _+_}
 use mathlib.Core.Path.{_≡_, refl, sym, ap, subst, _∙_}
 use mathlib.Core.List.{List, [], _∷_, _++_, map, map-append}
 use lib.ListN.{length-map}
-use Rattle.csv.specs.Rfc4180.{Cell}
+use Rattle.rfc4180.specs.Rfc4180.{Cell}
 use Rattle.rows.specs.Form.{BookRow, Form, content}
 use Rattle.jobs.specs.declared.Job.{Job}
 use Rattle.book.specs.JobBook.{Written, job, Jobs, none, _and_, job-rows, rows-of, GoodJob, Forms, no-form, form, Whole, no-whole, one-whole, JobBook}
 use Rattle.book.specs.Values.{value, values}
-use Rattle.book.specs.Notes.{RowIn}
-use Rattle.printing.specs.Keys.{IsKey}
+use Rattle.line_text.specs.Keys.{IsKey}
+use Rattle.notes.specs.Notes.{RowIn}
 use Rattle.demands.specs.Words.{listed}
 use Rattle.demands.proofs.All as all
 

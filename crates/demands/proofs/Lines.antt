@@ -4,20 +4,21 @@ use native.Mathlib.Omega.{arith}
 use mathlib.Core.Path.{_≡_, refl, sym, subst}
 use mathlib.Core.List.{List}
 use Rattle.jobs.specs.declared.Job.{Job}
-use Rattle.earth.specs.declared.Coefficient.{Coefficient}
+use Rattle.table2.specs.declared.Coefficient.{Coefficient}
 use Rattle.sets.specs.declared.Combination.{Combination}
 use Rattle.sets.specs.declared.Combination.the-variants.{I, II, III, IV}
 use Rattle.sets.specs.declared.Loads.{Loads}
 use Rattle.sets.specs.Sets.{Permitted}
 use Rattle.checks.specs.declared.Check.{Check}
 use Rattle.checks.specs.declared.Check.the-variants.{OP, OM, SL, PR, RK}
-use Rattle.limits.specs.Limits.{HasCheck}
-use Rattle.worst.specs.declared.Line.{Line}
-use Rattle.worst.specs.declared.Line.the-variants.{Missing, Shown}
-use Rattle.worst.specs.declared.Lines.{Lines}
+use Rattle.lines.specs.declared.Line.{Line}
+use Rattle.lines.specs.declared.Line.the-variants.{Missing, Shown}
+use Rattle.lines.specs.declared.Lines.{Lines}
+use Rattle.service.specs.Service.{HasCheck}
 use Rattle.worst.specs.Lines as worst
-use Rattle.loads.specs.Taken.{AreLoads, rowsOf}
-use Rattle.loads.proofs.Answering.{loads-one}
+use Rattle.load_rows.specs.LoadRows.{AreLoads}
+use Rattle.loads.specs.Taken.{rowsOf}
+use Rattle.load_rows.proofs.Loaded.{loads-one}
 use Rattle.lines.specs.declared.Verdict.{Verdict}
 use Rattle.lines.specs.declared.Verdict.the-variants.{Accepted, NotAccepted, Refused}
 use Rattle.lines.specs.declared.DepthLine.{DepthLine}
@@ -27,8 +28,9 @@ use Rattle.lines.specs.declared.ClearLine.the-variants as clear
 use Rattle.lines.specs.declared.Answer.{Answer}
 use Rattle.lines.specs.Lines.{PrintedLine, VERDICT, check, SC, CL, verdict-line, check-line, combination-lines, depth-line, clear-line, later-lines, unless-refused, lines-of}
 use Rattle.answer.specs.Rules.{Unrefused}
-use Rattle.answer.specs.Answer.{base-of, LinesAre, VerdictIs, Given, refusal, AnswerIs, refused, answered}
-use Rattle.book.specs.Notes.{RowIn}
+use Rattle.verdicts.specs.Verdict.{VerdictIs}
+use Rattle.answer.specs.Answer.{base-of, LinesAre, Given, refusal, AnswerIs, refused, answered}
+use Rattle.notes.specs.Notes.{RowIn}
 use Rattle.demands.specs.Words.{Named}
 use Rattle.demands.proofs.All as all
 

@@ -5,8 +5,8 @@ use mathlib.Core.Path.{_≡_, refl, sym, ap, subst, _∙_}
 use mathlib.Core.Bool.{true, false}
 use Rattle.decides.specs.Decides.{decided}
 use Rattle.jobs.specs.declared.Job.{Job}
-use Rattle.river.proofs.Scours.{scoured-one}
-use Rattle.earth.specs.declared.Coefficient.{Coefficient}
+use Rattle.scour.proofs.Scours.{scoured-one}
+use Rattle.table2.specs.declared.Coefficient.{Coefficient}
 use Rattle.sets.specs.declared.Combination.{Combination}
 use Rattle.sets.specs.declared.Combination.the-variants.{I, II, III, IV}
 use Rattle.sets.specs.declared.Loads.{Loads}
@@ -15,17 +15,19 @@ use Rattle.checks.specs.declared.Base.{Base}
 use Rattle.checks.specs.declared.Check.{Check}
 use Rattle.checks.specs.declared.Check.the-variants.{OP, OM, SL, PR, RK}
 use Rattle.checks.specs.declared.Figure.{Figure}
-use Rattle.checks.specs.Figures.{Shows}
+use Rattle.set_figures.specs.Figures.{Shows}
 use Rattle.checks.specs.Order.{side}
-use Rattle.limits.specs.Limits.{Limit, TippingLimit, SlidingLimit, HasCheck, Service, Passes}
-use Rattle.limits.proofs.Passing.{limit-one}
-use Rattle.worst.specs.declared.Line.{Line}
-use Rattle.worst.specs.declared.Line.the-variants.{Missing, Shown}
-use Rattle.worst.specs.declared.Lines.{Lines}
+use Rattle.limits.specs.Limits.{Limit, TippingLimit, SlidingLimit}
+use Rattle.lines.specs.declared.Line.{Line}
+use Rattle.lines.specs.declared.Line.the-variants.{Missing, Shown}
+use Rattle.lines.specs.declared.Lines.{Lines}
+use Rattle.service.specs.Service.{HasCheck, Service}
+use Rattle.passing.specs.Passing.{Passes}
+use Rattle.limits.proofs.Limiting.{limit-one}
 use Rattle.worst.specs.Lines as worst
 use Rattle.worst.proofs.Naming.{worst-decides}
 use Rattle.loads.specs.Taken.{rowsOf}
-use Rattle.loads.proofs.Answering.{loads-one}
+use Rattle.load_rows.proofs.Loaded.{loads-one}
 use Rattle.lines.specs.declared.Verdict.{Verdict}
 use Rattle.lines.specs.declared.Verdict.the-variants.{Accepted, NotAccepted, Refused}
 use Rattle.lines.specs.declared.DepthLine.{DepthLine}
@@ -33,9 +35,11 @@ use Rattle.lines.specs.declared.DepthLine.the-variants as depth
 use Rattle.lines.specs.declared.ClearLine.{ClearLine}
 use Rattle.lines.specs.declared.ClearLine.the-variants as clear
 use Rattle.lines.specs.declared.Answer.{Answer}
-use Rattle.waters.specs.Waters.{HasClearance, Founded, DepthIs, ClearIs}
+use Rattle.job_ranges.specs.Rows.{HasClearance}
+use Rattle.waters.specs.Waters.{Founded, DepthIs, ClearIs}
 use Rattle.waters.proofs.Answers.{clear-one}
-use Rattle.answer.specs.Answer.{base-of, LineYes, LinesYes, DepthYes, ClearYes, AllYes, VerdictIs, LinesAre, Given, AnswerIs, refused, answered}
+use Rattle.verdicts.specs.Verdict.{LineYes, LinesYes, DepthYes, ClearYes, AllYes, VerdictIs}
+use Rattle.answer.specs.Answer.{base-of, LinesAre, Given, AnswerIs, refused, answered}
 use Rattle.demands.specs.Words.{Bears, Deep, Clear, Sound}
 
 -- a combination that has a limit for a check has the check

@@ -8,12 +8,13 @@ use lib.Seq.{take-at}
 use Rattle.jobs.specs.declared.Job.{Job}
 use Rattle.book.specs.JobBook.{Jobs, JobBook}
 use Rattle.book.specs.Values.{values}
-use Rattle.book.specs.Notes.{RowIn}
+use Rattle.notes.specs.Notes.{RowIn}
 use Rattle.book.proofs.Answers.{refused-none, book-one}
-use Rattle.book.proofs.Noting.{row-one}
-use Rattle.earth.specs.declared.Coefficient.{Coefficient}
-use Rattle.job_text.specs.Lines.{TextOf}
-use Rattle.debtarush.specs.Called.{Told, written, refused, Called, no-book, no-place, too-short, lines}
+use Rattle.notes.proofs.Answers.{row-one}
+use Rattle.table2.specs.declared.Coefficient.{Coefficient}
+use Rattle.debtarush.specs.Lines.{TextOf}
+use Rattle.calls.specs.Told.{Told, written, refused}
+use Rattle.debtarush.specs.Called.{Called, no-book, no-place, too-short, lines}
 
 pub data Reached (fill : ℕ → ℕ → Coefficient) (job : Job) (before after : List ℕ) (t : Told) : Type 0 where
   short : {bytes : List ℕ} → TextOf fill job bytes → length before < length bytes → t ≡ refused 7 0 → Reached fill job before after t

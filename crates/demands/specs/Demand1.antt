@@ -9,14 +9,15 @@ use Rattle.jobs.specs.declared.Job.{Job}
 use Rattle.book.specs.JobBook.{Jobs, JobBook}
 use Rattle.book.specs.Values.{values}
 use Rattle.book.specs.Says as book
-use Rattle.book.specs.Notes.{RowIn}
-use Rattle.earth.specs.declared.Coefficient.{Coefficient}
+use Rattle.table2.specs.declared.Coefficient.{Coefficient}
+use Rattle.notes.specs.Notes.{RowIn}
 use Rattle.lines.specs.declared.Verdict.the-variants.{Refused}
 use Rattle.lines.specs.Lines.{verdict-line}
 use Rattle.answer.specs.Rules.{Refuses}
-use Rattle.printing.specs.Text.{line-text}
-use Rattle.job_text.specs.Lines.{TextOf}
-use Rattle.debtarush.specs.Called.{Told, written, refused, Called}
+use Rattle.line_text.specs.Text.{line-text}
+use Rattle.debtarush.specs.Lines.{TextOf}
+use Rattle.calls.specs.Told.{Told, written, refused}
+use Rattle.debtarush.specs.Called.{Called}
 
 pub record Demand1 (fill : ℕ → ℕ → Coefficient) : Type 0 where
   -- one answer, and one state of the buffer

@@ -7,20 +7,22 @@ use Rattle.keys.specs.declared.Key.{Key}
 use Rattle.jobs.specs.declared.Job.{Job}
 use Rattle.book.specs.JobBook.{Jobs, JobBook}
 use Rattle.book.specs.Values.{values}
-use Rattle.book.specs.Notes.{RowIn}
-use Rattle.earth.specs.declared.Coefficient.{Coefficient}
+use Rattle.table2.specs.declared.Coefficient.{Coefficient}
+use Rattle.notes.specs.Notes.{RowIn}
 use Rattle.sets.specs.declared.Combination.{Combination}
 use Rattle.sets.specs.declared.Loads.{Loads}
 use Rattle.sets.specs.Sets.{Permitted}
 use Rattle.checks.specs.declared.Check.{Check}
-use Rattle.limits.specs.Limits.{HasCheck}
-use Rattle.loads.specs.Taken.{AreLoads, rowsOf}
+use Rattle.service.specs.Service.{HasCheck}
+use Rattle.load_rows.specs.LoadRows.{AreLoads}
+use Rattle.loads.specs.Taken.{rowsOf}
 use Rattle.lines.specs.declared.Verdict.the-variants.{Accepted}
 use Rattle.lines.specs.Lines.{PrintedLine, check, verdict-line}
 use Rattle.answer.specs.Rules.{Unrefused}
 use Rattle.answer.specs.Answer.{base-of}
-use Rattle.printing.specs.Text.{line-text}
-use Rattle.debtarush.specs.Called.{written, Called}
+use Rattle.line_text.specs.Text.{line-text}
+use Rattle.calls.specs.Told.{written}
+use Rattle.debtarush.specs.Called.{Called}
 use Rattle.demands.specs.Words.{Begins, Tells, LinesOf, Sound, Named}
 
 pub record Demand2 (fill : ℕ → ℕ → Coefficient) : Type 0 where

@@ -5,9 +5,10 @@ use mathlib.Core.List.{List}
 use lib.ListN.{length, take}
 use Rattle.book.specs.JobBook.{Written, Jobs, JobBook}
 use Rattle.book.specs.Values.{SameJob}
-use Rattle.book.specs.Notes.{RowIn}
-use Rattle.earth.specs.declared.Coefficient.{Coefficient}
-use Rattle.debtarush.specs.Called.{Told, written, refused, Called}
+use Rattle.table2.specs.declared.Coefficient.{Coefficient}
+use Rattle.notes.specs.Notes.{RowIn}
+use Rattle.calls.specs.Told.{Told, written, refused}
+use Rattle.debtarush.specs.Called.{Called}
 use Rattle.demands.specs.Words.{listed}
 
 pub record Demand3 (fill : ℕ → ℕ → Coefficient) : Type 0 where

@@ -7,27 +7,32 @@ use Rattle.ranges.specs.Range.{value}
 use Rattle.keys.specs.declared.Key.{Key}
 use Rattle.jobs.specs.declared.Job.{Job}
 use Rattle.book.specs.JobBook.{Written, Jobs, none, _and_}
-use Rattle.river.specs.Scour as scour
-use Rattle.clearance.specs.Clear.{Cleared, given, signed}
-use Rattle.earth.specs.declared.Coefficient.{Coefficient}
+use Rattle.scour.specs.Scour as scour
+use Rattle.levels.specs.Told.{given, signed}
+use Rattle.clearance.specs.Clear.{Cleared}
+use Rattle.table2.specs.declared.Coefficient.{Coefficient}
 use Rattle.sets.specs.declared.Combination.{Combination}
 use Rattle.sets.specs.declared.Loads.{Loads}
 use Rattle.sets.specs.Sets.{Permitted}
 use Rattle.checks.specs.declared.Base.{Base}
 use Rattle.checks.specs.declared.Check.{Check}
 use Rattle.checks.specs.declared.Figure.{Figure}
-use Rattle.checks.specs.Figures.{Shows}
+use Rattle.set_figures.specs.Figures.{Shows}
 use Rattle.checks.specs.Order.{side}
-use Rattle.limits.specs.Limits.{Limit, Passes}
+use Rattle.limits.specs.Limits.{Limit}
+use Rattle.passing.specs.Passing.{Passes}
 use Rattle.worst.specs.Lines.{Printed}
-use Rattle.loads.specs.Taken.{AreLoads, rowsOf}
+use Rattle.load_rows.specs.LoadRows.{AreLoads}
+use Rattle.loads.specs.Taken.{rowsOf}
 use Rattle.lines.specs.declared.Answer.{Answer}
 use Rattle.lines.specs.Lines.{PrintedLine, check, holds, value-of, mark-of, lines-of}
-use Rattle.waters.specs.Waters.{HasClearance, Founded, AtLeast}
+use Rattle.job_ranges.specs.Rows.{HasClearance}
+use Rattle.river_marks.specs.Marks.{AtLeast}
+use Rattle.waters.specs.Waters.{Founded}
 use Rattle.answer.specs.Rules.{Unrefused}
 use Rattle.answer.specs.Answer.{base-of, AnswerIs}
-use Rattle.printing.specs.Keys.{IsKey}
-use Rattle.printing.specs.Text.{texts}
+use Rattle.line_text.specs.Keys.{IsKey}
+use Rattle.line_text.specs.Text.{texts}
 
 -- ---- what bytes say
 

@@ -9,7 +9,7 @@ use native.Mathlib.Nat.{lt-of-lt-of-le, pow-le-pow-right}
 use lib.Dec.{lit<}
 use lib.ListN.{length, getD, take, length-take, length-append, List·getD-append}
 use lib.Seq.{getD-at, take-suc}
-use Rattle.csv.proofs.Unique.{heads, tails, conses}
+use Rattle.rfc4180.proofs.Unique.{heads, tails, conses}
 use Rattle.digits.specs.Numerals.{Numeral, one, more}
 
 pub numeral-some : {s : List ℕ} {n : ℕ} → Numeral s n → 1 ≤ length s

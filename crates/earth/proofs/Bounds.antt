@@ -4,8 +4,9 @@ use native.Mathlib.Nat.{le-trans, mul-le-mul, pow-le-pow-left}
 use native.Mathlib.Omega.{arith}
 use lib.Dec.{lit≤}
 use Rattle.kinds.specs.declared.Numbers.{Numbers}
-use Rattle.earth.specs.Earth.{push, Pushed, value, Pressed, in-range, Small}
-use Rattle.earth.specs.declared.Coefficient.{Coefficient}
+use Rattle.table2.specs.Table2.{Small}
+use Rattle.earth.specs.Earth.{push, Pushed, value, Pressed, in-range}
+use Rattle.table2.specs.declared.Coefficient.{Coefficient}
 
 pub record Modest (H y : ℕ) : Type 0 where
   pub thrust : H ≤ 300000

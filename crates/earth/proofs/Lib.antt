@@ -1,4 +1,3 @@
 -- The laws of earth pressure. Other crates' proofs cite them.
-pub mod Marks
 pub mod Bounds
 pub mod Pressures

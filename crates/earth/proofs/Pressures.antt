@@ -6,7 +6,7 @@ use lib.Dec.{eqb}
 use Rattle.rounding.proofs.Laws.{least-one}
 use Rattle.kinds.specs.declared.Numbers.{Numbers}
 use Rattle.earth.specs.Earth.{Told, refused, push, told, Pushed, blank, value, Pressed, out-of-range, in-range}
-use Rattle.earth.specs.declared.Coefficient.{Coefficient}
+use Rattle.table2.specs.declared.Coefficient.{Coefficient}
 use Rattle.earth.specs.declared.EarthAnswer.{EarthAnswer}
 use Rattle.earth.specs.declared.EarthAnswer.the-variants.{OutOfRange, NoCoefficient, Push}
 

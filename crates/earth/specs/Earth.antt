@@ -1,22 +1,14 @@
 -- Document 01, "Earth pressure" (002, 5.7.2): what an E row is told, the thrust of its fill and the thrust's height, or a refusal of its job.
 -- Lengths in mm, H in kN, K in N/m² on each metre. `fill` is what is held for a soil and a slope: today Table 2.
-use Prim.Native.Nat.{ℕ, _*_, _^_, _≤_}
-use Rattle.rounding.specs.Least.{RoundedUp}
+use Prim.Native.Nat.{ℕ}
 use Rattle.ranges.specs.Range.{Ranged}
 use Rattle.kinds.specs.declared.Kind.the-variants.{E}
 use Rattle.kinds.specs.declared.Numbers.{Numbers}
-use Rattle.earth.specs.declared.Coefficient.{Coefficient}
-use Rattle.earth.specs.declared.Coefficient.the-variants.{Blank, Value}
+use Rattle.table2.specs.declared.Coefficient.{Coefficient}
+use Rattle.table2.specs.declared.Coefficient.the-variants.{Blank, Value}
+use Rattle.thrust.specs.Thrust.{Thrust, Arm}
 use Rattle.earth.specs.declared.EarthAnswer.{EarthAnswer}
 use Rattle.earth.specs.declared.EarthAnswer.the-variants.{OutOfRange, NoCoefficient, Push}
-
--- "H in kN is K·height²·length/(2·10^12) rounded up, toward +x,"
-abbrev pub Thrust : ℕ → ℕ → ℕ → ℕ → Type 0
-Thrust K height length H = RoundedUp (K * height ^ 2 * length) (2 * 10 ^ 12) H
-
--- "at y = height/3 rounded up;"
-abbrev pub Arm : ℕ → ℕ → Type 0
-Arm height y = RoundedUp height 3 y
 
 -- an answer in the paper's numbers: refused with a number, or H and y
 pub data Told : Type 0 where
@@ -37,8 +29,3 @@ pub data Pushed (height length : ℕ) : Coefficient → Told → Type 0 where
 pub data Pressed (fill : ℕ → ℕ → Coefficient) (row : Numbers) : Told → Type 0 where
   out-of-range : (Ranged E row → ⊥) → Pressed fill row (refused 11)
   in-range : {t : Told} → Ranged E row → Pushed (row .n3 .size) (row .n4 .size) (fill (row .n1 .size) (row .n2 .size)) t → Pressed fill row t
-
--- the code's numbers fit for any coefficient up to 40,000
-abbrev pub Small : Coefficient → Type 0
-Small Blank = Unit {0}
-Small (Value K) = K ≤ 40000

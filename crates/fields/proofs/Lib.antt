@@ -1,5 +1,3 @@
--- Laws of what stretches, names and numbers are. Other crates' proofs cite them.
-pub mod Contents
-pub mod Names
+-- Laws of what numbers are. Other crates' proofs cite them.
 pub mod Numerals
 pub mod Answers

@@ -5,16 +5,16 @@ use mathlib.Core.Path.{_≡_, refl, sym, ap, subst, _∙_}
 use mathlib.Core.List.{List, [], _∷_}
 use lib.ListN.{length, getD, take, drop}
 use lib.Seq.{take-all}
-use Rattle.csv.proofs.Unique.{tails}
-use Rattle.csv.specs.Rfc4180.{high, Plain, none, text}
+use Rattle.rfc4180.proofs.Unique.{tails}
+use Rattle.rfc4180.specs.Rfc4180.{high, Plain, none, text}
 use Rattle.digits.specs.Numerals.{Digited}
 use Rattle.digits.proofs.Numerals.{Digit, numeral-some, numeral-digit, numeral-unique}
-use Rattle.fields.specs.Content.{Bare}
+use Rattle.quotes.specs.Content.{Bare}
 use Rattle.fields.specs.Numbers.{positive, negative, IsNumber, is-positive, is-negative, IsEmpty, EntryAt, ContentIs}
 use Rattle.fields.specs.declared.Entry.{Entry}
 use Rattle.fields.specs.declared.Entered.{Entered}
 use Rattle.fields.specs.declared.Entered.the-variants.{Is, Wrong}
-use Rattle.fields.proofs.Contents.{bare-field, content-none}
+use Rattle.quotes.proofs.Contents.{bare-field, content-none}
 
 -- no number begins with a minus but a negative one
 minus-digits : {s : List ℕ} {n : ℕ} → Digited s n → getD s 0 0 ≡ 0x2D → ⊥

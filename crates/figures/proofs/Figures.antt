@@ -2,12 +2,12 @@
 use native.Mathlib.Nat.{not-le-of-lt}
 use lib.Dec.{lit<, lit≤}
 use Rattle.rounding.proofs.Compute.{up-test, cube-test, cube-test′}
-use Rattle.river.specs.River.{to-500, to-5000, to-25000}
+use Rattle.discharge.specs.Discharge.{to-500, to-5000, to-25000}
 use Rattle.earth.specs.Earth.{value}
 use Rattle.signed.specs.Whole.{worth, amount, above, below}
 use Rattle.sets.specs.Sets.{bit, row}
 use Rattle.sets.specs.Totals.{counted, sum, arm, upright, push, resists, overturns, resisting, overturning}
-use Rattle.checks.specs.Figures.{Presses}
+use Rattle.pressure.specs.Pressure.{Presses}
 use Rattle.figures.specs.Figures.{needed, pressure, pressure-either, Says, All, none, more, starred}
 use Rattle.figures.proofs.Loaded.{overturns-test}
 

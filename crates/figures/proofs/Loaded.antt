@@ -8,7 +8,7 @@ use lib.IntN.{pos, _*ℤ_}
 use lib.ListN.{replicate}
 use Rattle.rounding.proofs.Compute.{isDown, down-test}
 use Rattle.ranges.specs.Range.{value}
-use Rattle.earth.specs.Table2.{table2-fill}
+use Rattle.table2.specs.Table2.{table2-fill}
 use Rattle.signed.specs.Whole.{amount}
 use Rattle.sets.specs.declared.Class.the-variants.{Permanent}
 use Rattle.sets.specs.declared.Load.{Load}
@@ -16,10 +16,12 @@ use Rattle.sets.specs.declared.Loads.{Loads}
 use Rattle.sets.specs.Sets.{row, noLoad}
 use Rattle.sets.specs.Totals.{plus, resisting, overturning}
 use Rattle.checks.specs.declared.Figure.the-variants.{Number}
-use Rattle.checks.specs.Figures.{Shows, Tips}
-use Rattle.forces.specs.Exerts.{classOf, source, Forces, Exerts}
-use Rattle.loads.specs.Taken.{rowAt, AreLoads}
-use Rattle.loads.proofs.Laying.{all-no-load}
+use Rattle.ranks.specs.Figures.{Tips}
+use Rattle.set_figures.specs.Figures.{Shows}
+use Rattle.classes.specs.Classes.{classOf, source}
+use Rattle.forces.specs.Exerts.{Forces, Exerts}
+use Rattle.load_rows.specs.LoadRows.{rowAt, AreLoads}
+use Rattle.load_rows.proofs.Laying.{all-no-load}
 use Rattle.figures.specs.Figures.{dead-load, Overturns}
 
 module _ (v x h y : ℕ) where

@@ -7,16 +7,18 @@ use Rattle.decides.specs.Decides.{Decides}
 use Rattle.fields.specs.Numbers.{positive, absent}
 use Rattle.kinds.specs.declared.Kind.the-variants.{DL}
 use Rattle.kinds.specs.declared.Row.{Row}
-use Rattle.river.specs.River.{FoundationDischarge, RegimeMet, RegimeDepth, ConstrictedDepth, DepthNeeded}
-use Rattle.clearance.specs.Rules.{Afflux}
-use Rattle.earth.specs.Table2.{table2-fill}
+use Rattle.discharge.specs.Discharge.{FoundationDischarge}
+use Rattle.lacey.specs.Lacey.{RegimeMet, RegimeDepth, ConstrictedDepth, DepthNeeded}
+use Rattle.afflux.specs.Rules.{Afflux}
+use Rattle.table2.specs.Table2.{table2-fill}
 use Rattle.earth.specs.Earth.{Pushed, push}
 use Rattle.sets.specs.declared.Loads.{Loads}
 use Rattle.checks.specs.declared.Base.{Base}
 use Rattle.checks.specs.declared.Check.the-variants.{OP}
 use Rattle.checks.specs.declared.Figure.the-variants.{Number}
-use Rattle.checks.specs.Figures.{PressesWhole, PressesPart, Presses, Shows}
-use Rattle.loads.specs.Taken.{AreLoads}
+use Rattle.pressure.specs.Pressure.{PressesWhole, PressesPart, Presses}
+use Rattle.set_figures.specs.Figures.{Shows}
+use Rattle.load_rows.specs.LoadRows.{AreLoads}
 
 -- a DL row as it is written: V, x, H, y, in service
 abbrev pub dead-load : (v x h y : ℕ) → Row

@@ -2,12 +2,12 @@
 // earth, OP and PR are in forces_run. One line a figure, and two for a Qf: the row asked, what came and what 01 says; and a
 // last line with how many were asked and how many agree, of this program's alone.
 //
-// Qf, D, q and the regime width are inner rules, and the depth that an S row needs stands for them: in reach 4 one mm of D
+// No row asks for Qf, D, q or the regime width alone, and the depth that an S row needs stands for them: in reach 4 one mm of D
 // moves it, and the two silt factors of a Qf are such that one l/s less moves the first depth and one l/s more the second.
-use clearance::ClearanceAnswer;
 use fields::Entry;
+use levels::ClearanceAnswer;
 use libc::STDOUT_FILENO;
-use river::ScourAnswer;
+use scour::ScourAnswer;
 
 fn filled(size: u32) -> Entry {
     Entry {
@@ -45,14 +45,6 @@ fn clearance_of(answer: ClearanceAnswer, left: bool) -> u64 {
     }
 }
 
-// One figure more, where it agrees.
-fn counted(agree: u64, agrees: bool) -> u64 {
-    if agrees {
-        return std::num::wrapping_add_u64(agree, 1);
-    }
-    agree
-}
-
 // The depth that an S row needs, or its refusal.
 fn scour(
     agree: u64,
@@ -65,7 +57,7 @@ fn scour(
 ) -> u64 {
     let row = asked::row(b"S", q, catchment, silt, waterway, reach, filled(0));
     let came = depth_of(river::scour(row));
-    counted(agree, asked::agrees(came, says))
+    asked::counted(agree, asked::agrees(came, says))
 }
 
 // The clearance that a C row of v 3,000 and A 1,200 leaves of an underside 1,000 above the flood, or the one it needs.
@@ -82,7 +74,7 @@ fn clear(agree: u64, obstructed: u32, q: u32, left: bool, says: u32) -> u64 {
         fields::blank_entry(),
     );
     let came = clearance_of(clearance::clearance(row, filled(q)), left);
-    counted(agree, asked::agrees(came, says))
+    asked::counted(agree, asked::agrees(came, says))
 }
 
 // Beside each Qf, what one l/s less gives of the first silt factor, and one l/s more of the second.

@@ -13,8 +13,9 @@ use Rattle.kinds.specs.declared.Numbers.{Numbers}
 use Rattle.kinds.specs.declared.Row.{Row}
 use Rattle.kinds.specs.Table.{load-columns}
 use Rattle.ranges.specs.Range.{Around, InColumns, Ranged, value}
-use Rattle.earth.specs.declared.Coefficient.{Coefficient}
-use Rattle.earth.specs.Earth.{Told, refused, push, Pushed, blank, Pressed, out-of-range, in-range, Small}
+use Rattle.table2.specs.declared.Coefficient.{Coefficient}
+use Rattle.table2.specs.Table2.{Small}
+use Rattle.earth.specs.Earth.{Told, refused, Pushed, blank, Pressed, out-of-range, in-range}
 use Rattle.earth.specs.Earth as earth
 use Rattle.earth.proofs.Bounds.{pressed-modest}
 use Rattle.signed.specs.declared.Amount.{Amount}
@@ -22,24 +23,14 @@ use Rattle.signed.specs.Whole.{amount}
 use Rattle.sets.specs.declared.Load.{Load}
 use Rattle.sets.specs.declared.Class.the-variants.{Permanent}
 use Rattle.sets.specs.Sets.{BoundedLoad, noLoad}
-use Rattle.forces.specs.declared.Source.{Source}
-use Rattle.forces.specs.declared.Source.the-variants.{Absent, Earth, Written}
-use Rattle.forces.specs.Exerts.{source, OwnForces, EarthLoad, Forces, Exerts}
+use Rattle.classes.specs.declared.Source.{Source}
+use Rattle.classes.specs.declared.Source.the-variants.{Absent, Earth, Written}
+use Rattle.classes.specs.Classes.{source}
+use Rattle.classes.proofs.Sources.{absent-not, earth-not, absent-earth, written-earth}
+use Rattle.forces.specs.Exerts.{OwnForces, EarthLoad, Forces, Exerts}
 use Rattle.forces.proofs.Amounts.{amount-size, value-size, product-size}
 
 -- ---- the columns of a row
-absent-not : _≡_ {A = Source} Absent Written → ⊥
-absent-not q = let z : _≡_ {A = ℕ} 0 1 = cc in omega arith
-
-earth-not : _≡_ {A = Source} Earth Written → ⊥
-earth-not q = let z : _≡_ {A = ℕ} 0 1 = cc in omega arith
-
-pub absent-earth : _≡_ {A = Source} Absent Earth → ⊥
-absent-earth q = let z : _≡_ {A = ℕ} 0 1 = cc in omega arith
-
-pub written-earth : _≡_ {A = Source} Written Earth → ⊥
-written-earth q = let z : _≡_ {A = ℕ} 0 1 = cc in omega arith
-
 pub written-columns : (k : Kind) (n : Numbers) → source k ≡ Written → Ranged k n → InColumns load-columns n
 unfolding source
 written-columns B n e r = absurd (absent-not e)

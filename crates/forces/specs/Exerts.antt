@@ -2,38 +2,17 @@
 use mathlib.Core.Path.{_≡_}
 use Prim.Native.Nat.{ℕ, _*_}
 use lib.IntN.{pos, _*ℤ_}
-use Rattle.kinds.specs.declared.Kind.{Kind}
-use Rattle.kinds.specs.declared.Kind.the-variants.{B, S, C, E, DL, EP, LL, LF, CF, WC, BU, TM, EX, WL, SF}
 use Rattle.kinds.specs.declared.Numbers.{Numbers}
 use Rattle.kinds.specs.declared.Row.{Row}
 use Rattle.kinds.specs.Table.{phase}
 use Rattle.ranges.specs.Range.{value}
-use Rattle.earth.specs.declared.Coefficient.{Coefficient}
-use Rattle.earth.specs.Earth.{refused, push, Pressed}
+use Rattle.table2.specs.declared.Coefficient.{Coefficient}
+use Rattle.earth.specs.Earth.{push, Pressed}
 use Rattle.signed.specs.Whole.{amount}
-use Rattle.sets.specs.declared.Class.{Class}
-use Rattle.sets.specs.declared.Class.the-variants.{Permanent, Free, Wind, Earthquake}
 use Rattle.sets.specs.declared.Load.{Load}
-use Rattle.forces.specs.declared.Source.{Source}
-use Rattle.forces.specs.declared.Source.the-variants.{Absent, Earth, Written}
-
--- DL, EP, E are permanent, the rest optional and free; WL and SF stand apart in the combinations. B, S and C are no load rows.
-unfoldable pub classOf : Kind → Class
-classOf B = Permanent
-classOf S = Permanent
-classOf C = Permanent
-classOf E = Permanent
-classOf DL = Permanent
-classOf EP = Permanent
-classOf LL = Free
-classOf LF = Free
-classOf CF = Free
-classOf WC = Free
-classOf BU = Free
-classOf TM = Free
-classOf EX = Free
-classOf WL = Wind
-classOf SF = Earthquake
+use Rattle.classes.specs.declared.Source.{Source}
+use Rattle.classes.specs.declared.Source.the-variants.{Absent, Earth, Written}
+use Rattle.classes.specs.Classes.{classOf, source}
 
 -- a load as written: V, x, H, y
 pub record OwnForces (numbers : Numbers) (load : Load) : Type 0 where
@@ -60,24 +39,6 @@ pub record EarthForces (fill : ℕ → ℕ → Coefficient) (numbers : Numbers) 
 abbrev pub NoForces : Load → Type 0
 NoForces load = EarthLoad 0 0 load
 
--- where a row's forces come from: E from its fill, the last line of the table from the row's own numbers
-unfoldable pub source : Kind → Source
-source B = Absent
-source S = Absent
-source C = Absent
-source E = Earth
-source DL = Written
-source EP = Written
-source LL = Written
-source LF = Written
-source CF = Written
-source WC = Written
-source BU = Written
-source TM = Written
-source EX = Written
-source WL = Written
-source SF = Written
-
 unfoldable pub Forces : (ℕ → ℕ → Coefficient) → Source → Numbers → Load → Type 0
 Forces fill Absent numbers load = NoForces load
 Forces fill Earth numbers load = EarthForces fill numbers load
@@ -87,14 +48,3 @@ pub record Exerts (fill : ℕ → ℕ → Coefficient) (row : Row) (load : Load)
   pub class : load .class ≡ classOf (row .kind)
   pub phase : load .phase ≡ phase (row .kind) (row .numbers)
   pub forces : Forces fill (source (row .kind)) (row .numbers) load
-
--- "15, Table 2 is blank there", of an E row
-unfoldable pub BlankThere : (ℕ → ℕ → Coefficient) → Row → Type 0
-BlankThere fill r = (source (r .kind) ≡ Earth) × Pressed fill (r .numbers) (refused 15)
-
--- how many optional rows a row of a class is
-unfoldable pub optional : Class → ℕ
-optional Permanent = 0
-optional Free = 1
-optional Wind = 1
-optional Earthquake = 1

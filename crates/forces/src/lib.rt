@@ -1,10 +1,9 @@
 // What one load row exerts (document 01, the job book and Earth pressure): its class, its phase, and its forces, from its own
 // numbers or from its fill.
 //
-// A kind of load that is added, a table of fills that is lent and a shift of x change this step alone. What is hard is that
-// numbers have signs and zero has none.
+// A table of fills that is lent and a shift of x change this step alone. What is hard is that numbers have signs and zero has none.
+use classes::Source;
 use earth::EarthAnswer;
-use kinds::Kind;
 use kinds::Numbers;
 use kinds::Row;
 use sets::Class;
@@ -13,54 +12,12 @@ use signed::Amount;
 ghost use mathlib.Core.Path.{_≡_};
 ghost use mathlib.Core.Bool.{false};
 ghost use Prim.Native.Nat.{_*_, _≤_};
-ghost use Rattle.decides.specs.Decides.{Decides};
 ghost use Rattle.ranges.specs.Range.{Ranged};
-ghost use Rattle.earth.specs.Table2.{table2-fill};
+ghost use Rattle.table2.specs.Table2.{table2-fill};
 ghost use Rattle.signed.specs.Whole.{signed, amount};
 ghost use Rattle.sets.specs.Sets.{noLoad};
-ghost use Rattle.forces.specs.Exerts.{classOf, source, BlankThere, optional, OwnForces, EarthLoad, Exerts};
-
-// Where a row's forces come from: nowhere, a fill, or its own numbers.
-pub enum Source {
-    Absent,
-    Earth,
-    Written,
-}
-
-// What a row of a kind is to a combination.
-pub fn class_of(kind: Kind) -> Class
-    ensures { λ r. ⌜ r ≡ classOf kind ⌝ }
-{
-    match kind {
-        Kind::B => Class::Permanent,
-        Kind::S => Class::Permanent,
-        Kind::C => Class::Permanent,
-        Kind::E => Class::Permanent,
-        Kind::DL => Class::Permanent,
-        Kind::EP => Class::Permanent,
-        Kind::LL => Class::Free,
-        Kind::LF => Class::Free,
-        Kind::CF => Class::Free,
-        Kind::WC => Class::Free,
-        Kind::BU => Class::Free,
-        Kind::TM => Class::Free,
-        Kind::EX => Class::Free,
-        Kind::WL => Class::Wind,
-        Kind::SF => Class::Earthquake,
-    }
-}
-
-// How many optional rows a row of a class is.
-pub fn is_optional(class: Class) -> u64
-    ensures { λ r. ⌜ r ≡ optional class ⌝ }
-{
-    match class {
-        Class::Permanent => 0,
-        Class::Free => 1,
-        Class::Wind => 1,
-        Class::Earthquake => 1,
-    }
-}
+ghost use Rattle.blanks.specs.Blank.{BlankThere};
+ghost use Rattle.forces.specs.Exerts.{OwnForces, EarthLoad, Exerts};
 
 // The amount of a sign and a size; zero has no sign.
 fn amount_of(minus: bool, size: u64) -> Amount
@@ -73,46 +30,6 @@ fn amount_of(minus: bool, size: u64) -> Amount
         };
     }
     Amount { minus, size }
-}
-
-// Where a row's forces come from.
-fn source_of(kind: Kind) -> Source
-    ensures { λ r. ⌜ r ≡ source kind ⌝ }
-{
-    match kind {
-        Kind::B => Source::Absent,
-        Kind::S => Source::Absent,
-        Kind::C => Source::Absent,
-        Kind::E => Source::Earth,
-        Kind::DL => Source::Written,
-        Kind::EP => Source::Written,
-        Kind::LL => Source::Written,
-        Kind::LF => Source::Written,
-        Kind::CF => Source::Written,
-        Kind::WC => Source::Written,
-        Kind::BU => Source::Written,
-        Kind::TM => Source::Written,
-        Kind::EX => Source::Written,
-        Kind::WL => Source::Written,
-        Kind::SF => Source::Written,
-    }
-}
-
-// Whether Table 2 is blank where an E row asks.
-pub fn is_blank(row: Row) -> bool
-    ensures { λ r. ⌜ Decides r (BlankThere table2-fill row) ⌝ }
-{
-    let kind = row.kind;
-    let numbers = row.numbers;
-    match source_of(kind) {
-        Source::Absent => false,
-        Source::Earth => match earth::pressure(numbers) {
-            EarthAnswer::OutOfRange => false,
-            EarthAnswer::NoCoefficient => true,
-            EarthAnswer::Push { thrust: _, arm: _ } => false,
-        },
-        Source::Written => false,
-    }
 }
 
 // The load of an earth pressure.
@@ -177,9 +94,9 @@ pub fn exert(row: Row) -> Load
 {
     let kind = row.kind;
     let numbers = row.numbers;
-    let class = class_of(kind);
+    let class = classes::class_of(kind);
     let phase = kinds::phase_of(kind, numbers);
-    match source_of(kind) {
+    match classes::source_of(kind) {
         Source::Absent => earth_load(class, phase, 0, 0),
         Source::Earth => match earth::pressure(numbers) {
             EarthAnswer::OutOfRange => earth_load(class, phase, 0, 0),

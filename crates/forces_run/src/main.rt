@@ -9,7 +9,7 @@ use kinds::Kind;
 use kinds::Numbers;
 use kinds::Row;
 use loads::Answer;
-ghost use Rattle.checks.specs.Figures.{Sized};
+ghost use Rattle.checks.specs.Sized.{Sized};
 
 // The thrust of an E row, or its height; 0 where it is refused.
 fn push_of(answer: EarthAnswer, high: bool) -> u64 {
@@ -56,49 +56,39 @@ fn figure_of_row(check: Check, numbers: Numbers) -> u64 {
         Answer::OutOfRange => 0,
         Answer::NoCoefficient => 0,
         Answer::TooMany => 0,
-        Answer::Given => number_of(checks::figure_of(check, example_base(), borne, 1)),
+        Answer::Given => number_of(set_figures::figure_of(check, example_base(), borne, 1)),
     }
-}
-
-// One figure more, where it agrees.
-fn counted(agree: u64, agrees: bool) -> u64 {
-    if agrees {
-        return std::num::wrapping_add_u64(agree, 1);
-    }
-    agree
 }
 
 // The thrust or the height of a fill of soil a, level, 6,000 by 8,000.
 fn fill(agree: u64, kind: &[u8], high: bool, says: u32) -> u64 {
     let row = asked::row(kind, 1, 1, 6000, 8000, 0, fields::blank_entry());
     let came = push_of(earth::pressure(row), high);
-    counted(agree, asked::agrees(came, says))
+    asked::counted(agree, asked::agrees(came, says))
 }
 
-// A figure of a DL row alone.
-fn dead_load(
-    agree: u64,
-    kind: &[u8],
-    check: Check,
-    v: u32,
-    x: u32,
-    h: u32,
-    y: u32,
-    says: u32,
-) -> u64 {
-    let row = asked::row(kind, v, x, h, y, 0, fields::blank_entry());
-    let came = figure_of_row(check, row);
-    counted(agree, asked::agrees(came, says))
+// OP of a DL row of V 1,000 and H 100, alone.
+fn overturning(agree: u64, y: u32, says: u32) -> u64 {
+    let row = asked::row(b"OP of DL", 1000, 0, 100, y, 0, fields::blank_entry());
+    let came = figure_of_row(Check::OP, row);
+    asked::counted(agree, asked::agrees(came, says))
+}
+
+// PR of a DL row, alone.
+fn pressed(agree: u64, v: u32, x: u32, h: u32, y: u32, says: u32) -> u64 {
+    let row = asked::row(b"PR of DL", v, x, h, y, 0, fields::blank_entry());
+    let came = figure_of_row(Check::PR, row);
+    asked::counted(agree, asked::agrees(came, says))
 }
 
 fn loaded(agree: u64) -> u64 {
-    let a = dead_load(agree, b"OP of DL", Check::OP, 1000, 0, 100, 10000, 200);
-    let b = dead_load(a, b"OP of DL", Check::OP, 1000, 0, 100, 10001, 199);
+    let a = overturning(agree, 10000, 200);
+    let b = overturning(a, 10001, 199);
     // past the middle third, N 1,000 and M 2,000,000
-    let c = dead_load(b, b"PR of DL", Check::PR, 1000, 1000, 0, 0, 84);
+    let c = pressed(b, 1000, 1000, 0, 0, 84);
     // by either rule, N 900: the first at M 1,200,000, the second at 1,200,002, the next M that rows give
-    let d = dead_load(c, b"PR of DL", Check::PR, 900, 0, 100, 6000, 57);
-    dead_load(d, b"PR of DL", Check::PR, 900, 666, 1, 601, 57)
+    let d = pressed(c, 900, 0, 100, 6000, 57);
+    pressed(d, 900, 666, 1, 601, 57)
 }
 
 fn main() {

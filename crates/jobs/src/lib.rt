@@ -11,7 +11,8 @@ use kinds::Role;
 use kinds::Row;
 use placing::Stage;
 ghost use mathlib.Core.Path.{_≡_};
-ghost use Prim.Native.Nat.{ℕ, _+_, _≤_, _<_};
+ghost use Prim.Native.Nat.{_+_, _<_};
+ghost use lib.ListN.{replicate};
 ghost use Rattle.kinds.specs.declared.Role.the-variants.{Base, Scour, Clearance, Load};
 ghost use Rattle.jobs.specs.Place.{no-job, with-row};
 ghost use Rattle.jobs.specs.Taking.{answer-to, TakenIs};
@@ -55,6 +56,14 @@ pub fn blank_job() -> Job
         count: 0,
         loads: [row; 16],
     }
+}
+
+// The jobs of a book with none: 64 places, all blank.
+pub fn no_jobs() -> [Job; 64]
+    ensures { λ r. ⌜ r ≡ replicate 64 no-job ⌝ }
+{
+    let none = blank_job();
+    [none; 64]
 }
 
 // A job of one row, its B row.

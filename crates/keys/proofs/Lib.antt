@@ -1,2 +1,3 @@
 -- Laws of keys.
 mod Same
+pub mod Answers

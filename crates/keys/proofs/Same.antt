@@ -7,7 +7,7 @@ use mathlib.Core.Bool.{Bool, true, false}
 use mathlib.Core.List.{List}
 use lib.ListN.{getD}
 use Rattle.decides.specs.Decides.{Decides}
-use Rattle.fields.specs.declared.Name.{Name}
+use Rattle.names.specs.declared.Name.{Name}
 use Rattle.keys.specs.declared.Key.{Key}
 use Rattle.keys.specs.Among.{void-key}
 

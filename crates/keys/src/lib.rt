@@ -1,16 +1,19 @@
 // Member and job are together the key of a row (document 01, the job book): a row with its key, whether two keys are
-// one, and whether a key was used before (refusal 6).
+// one, and whether the next job may begin with a key (refusals 5 and 6).
 //
 // Keys are compared by their bytes, and the promise is about the keys themselves. What is hard is that names of one
 // length are one exactly if all their twelve bytes agree, so that the bytes behind a name must stand in the promise too.
-use fields::Name;
 use kinds::Kind;
 use kinds::Row;
+use names::Name;
+use refusals::Refusal;
 ghost use mathlib.Core.Path.{_≡_};
-ghost use Prim.Native.Nat.{ℕ, _≤_};
+ghost use Prim.Native.Nat.{_≤_};
+ghost use lib.ListN.{replicate};
 ghost use Rattle.decides.specs.Decides.{Decides};
 ghost use Rattle.keys.specs.Keyed.{no-row};
 ghost use Rattle.keys.specs.Among.{Among};
+ghost use Rattle.keys.specs.Begins.{BeginsIs};
 
 // Member and job, together the key.
 pub struct Key {
@@ -24,11 +27,17 @@ pub struct Keyed {
     pub row: Row,
 }
 
+// Whether a job begins; or the refusal of its B row.
+pub enum Beginning {
+    Free,
+    Barred(Refusal),
+}
+
 // No row: what stands where there is none.
 pub fn blank_row() -> Keyed
     ensures { λ r. ⌜ r ≡ no-row ⌝ }
 {
-    let name = fields::blank_name();
+    let name = names::blank_name();
     let numbers = kinds::no_numbers();
     let row = Row {
         kind: Kind::B,
@@ -39,6 +48,15 @@ pub fn blank_row() -> Keyed
         job: name,
     };
     Keyed { key, row }
+}
+
+// The keys of a book with no job: 64 places, all blank.
+pub fn no_keys() -> [Key; 64]
+    ensures { λ r. ⌜ r ≡ replicate 64 (no-row .key) ⌝ }
+{
+    let none = blank_row();
+    let key = none.key;
+    [key; 64]
 }
 
 fn same_bytes(a: [u8; 12], b: [u8; 12]) -> bool
@@ -82,7 +100,7 @@ pub fn same_key(a: Key, b: Key) -> bool
 }
 
 // Whether a key is among the first n.
-pub fn is_used(keys: [Key; 64], n: usize, key: Key) -> bool
+fn is_used(keys: [Key; 64], n: usize, key: Key) -> bool
     requires { ⌜ n ≤ 64 ⌝ }
     ensures { λ r. ⌜ Decides r (Among keys n key) ⌝ }
 {
@@ -96,4 +114,18 @@ pub fn is_used(keys: [Key; 64], n: usize, key: Key) -> bool
         i += 1;
     }
     false
+}
+
+// Whether a job with this key begins behind n jobs with theirs: a book has at most 64, and none with a key used before.
+pub fn begins(keys: [Key; 64], n: usize, key: Key) -> Beginning
+    ensures { λ r. ⌜ BeginsIs keys n key r ⌝ }
+{
+    if 64 <= n {
+        return Beginning::Barred(Refusal::TooMany);
+    }
+    let used = is_used(keys, n, key);
+    if used {
+        return Beginning::Barred(Refusal::UsedKey);
+    }
+    Beginning::Free
 }

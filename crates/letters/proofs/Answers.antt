@@ -2,7 +2,7 @@
 use Prim.Native.Nat.{ℕ}
 use mathlib.Core.Path.{_≡_, refl, ap}
 use mathlib.Core.List.{List}
-use Rattle.csv.proofs.Unique.{content-unique}
+use Rattle.rfc4180.proofs.Unique.{content-unique}
 use Rattle.letters.specs.Form.{KindAt}
 use Rattle.letters.specs.declared.KindRead.{KindRead}
 use Rattle.letters.specs.declared.KindRead.the-variants.{Known, Unknown}

@@ -6,9 +6,9 @@ use mathlib.Core.Bool.{cond}
 use mathlib.Core.List.{List, [], _∷_}
 use lib.Dec.{eqb}
 use lib.ListN.{length, getD}
-use Rattle.csv.specs.Rfc4180.{Textdata, high, Plain, none, text, Field}
-use Rattle.fields.specs.Content.{Bare}
-use Rattle.fields.proofs.Contents.{bare-field, field-bare}
+use Rattle.rfc4180.specs.Rfc4180.{Textdata, high, Plain, none, text, Field}
+use Rattle.quotes.specs.Content.{Bare}
+use Rattle.quotes.proofs.Contents.{bare-field, field-bare}
 use Rattle.kinds.specs.Table.{letters}
 use Rattle.letters.specs.Form.{KindIs, KindAt}
 use Rattle.kinds.specs.declared.Kind.{Kind}

@@ -2,7 +2,7 @@
 use Prim.Native.Nat.{ℕ}
 use mathlib.Core.Path.{_≡_}
 use mathlib.Core.List.{List}
-use Rattle.csv.specs.Rfc4180.{Field}
+use Rattle.rfc4180.specs.Rfc4180.{Field}
 use Rattle.kinds.specs.Table.{letters}
 use Rattle.kinds.specs.declared.Kind.{Kind}
 use Rattle.letters.specs.declared.KindRead.{KindRead}

@@ -70,6 +70,6 @@ fn kind_of(content: &[u8]) -> KindRead
 pub fn kind_at(raw: &[u8]) -> KindRead
     ensures { λ r. ⌜ KindAt (now (raw .entry)) r ⌝ }
 {
-    let content = fields::bare(raw);
+    let content = quotes::bare(raw);
     kind_of(content)
 }

@@ -1,2 +1,2 @@
 -- The laws of limits. Other crates' proofs cite them.
-pub mod Passing
+pub mod Limiting

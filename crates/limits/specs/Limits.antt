@@ -1,16 +1,13 @@
--- Document 01, Load sets: which checks a combination has, their limits (6.8, 6.7), and Y or N.
+-- Document 01, Load sets: the limits of the checks that a combination has (6.8, 6.7).
 use mathlib.Core.Path.{_≡_}
 use mathlib.Core.Bool.{true}
-use Prim.Native.Nat.{ℕ, _*_, _≤_}
+use Prim.Native.Nat.{ℕ, _*_}
 use Rattle.rounding.specs.Least.{RoundedDown}
 use Rattle.sets.specs.declared.Combination.{Combination}
 use Rattle.sets.specs.declared.Combination.the-variants.{I, II, III, IV}
 use Rattle.checks.specs.declared.Base.{Base}
 use Rattle.checks.specs.declared.Check.{Check}
 use Rattle.checks.specs.declared.Check.the-variants.{OP, OM, SL, PR, RK}
-use Rattle.checks.specs.declared.Figure.{Figure}
-use Rattle.checks.specs.declared.Figure.the-variants.{Nothing, Number, Off}
-use Rattle.checks.specs.Order.{Side, lowest, highest}
 
 -- OP and OM 200 in I, 150 in II and III.
 unfoldable pub TippingLimit : Combination → ℕ → Type 0
@@ -40,27 +37,3 @@ Limit combination OM base n = TippingLimit combination n
 Limit combination SL base n = SlidingLimit combination n
 Limit combination PR base n = PressureLimit combination (base .allowable) n
 Limit combination RK base n = (base .rock ≡ true) × (n ≡ 250)
-
--- the combination has the check
-unfoldable pub Service : Combination → Type 0
-Service I = Unit {0}
-Service II = Unit {0}
-Service III = Unit {0}
-Service IV = ⊥
-
-unfoldable pub HasCheck : Combination → Check → Base → Type 0
-HasCheck combination OP base = Service combination
-HasCheck combination OM base = Service combination
-HasCheck combination SL base = Service combination
-HasCheck combination PR base = Unit {0}
-HasCheck combination RK base = base .rock ≡ true
-
--- A line says Y for OP, OM, SL at or above the limit or "none", for PR, RK at or below it; "off" says N.
-unfoldable pub PassesNumber : Side → ℕ → ℕ → Type 0
-PassesNumber lowest limit v = limit ≤ v
-PassesNumber highest limit v = v ≤ limit
-
-unfoldable pub Passes : Side → ℕ → Figure → Type 0
-Passes s limit Nothing = Unit {0}
-Passes s limit (Number v) = PassesNumber s limit v
-Passes s limit Off = ⊥

@@ -1,39 +1,12 @@
-// Which checks a combination has, their limits, and Y or N (document 01, limits; 002, 6.7, 6.8).
+// The limits of the checks that a combination has (document 01, Load sets; 002, 6.7, 6.8).
 //
 // What is hard is only that a third more and two fifths more are rounded down, and not taken as per cent.
 use checks::Base;
 use checks::Check;
-use checks::Figure;
 use sets::Combination;
 ghost use Prim.Native.Nat.{_≤_};
-ghost use Rattle.decides.specs.Decides.{Decides};
-ghost use Rattle.checks.specs.Order.{side};
-ghost use Rattle.limits.specs.Limits.{TippingLimit, SlidingLimit, PressureLimit, Limit, Service, HasCheck, PassesNumber, Passes};
-
-// Whether a combination is one of service, I to III.
-pub fn serves(combination: Combination) -> bool
-    ensures { λ r. ⌜ Decides r (Service combination) ⌝ }
-{
-    match combination {
-        Combination::I => true,
-        Combination::II => true,
-        Combination::III => true,
-        Combination::IV => false,
-    }
-}
-
-// Whether a combination has a check.
-pub fn has_check(combination: Combination, check: Check, base: Base) -> bool
-    ensures { λ r. ⌜ Decides r (HasCheck combination check base) ⌝ }
-{
-    match check {
-        Check::OP => serves(combination),
-        Check::OM => serves(combination),
-        Check::SL => serves(combination),
-        Check::PR => true,
-        Check::RK => base.rock,
-    }
-}
+ghost use Rattle.service.specs.Service.{Service, HasCheck};
+ghost use Rattle.limits.specs.Limits.{TippingLimit, SlidingLimit, PressureLimit, Limit};
 
 fn tipping_limit(combination: Combination) -> u64
     requires { ⌜ Service combination ⌝ }
@@ -83,38 +56,5 @@ pub fn limit_of(combination: Combination, check: Check, base: Base) -> u64
         Check::SL => sliding_limit(combination),
         Check::PR => pressure_limit(combination, base.allowable),
         Check::RK => 250,
-    }
-}
-
-fn at_most(a: u64, b: u64) -> bool
-    ensures { λ r. ⌜ Decides r (a ≤ b) ⌝ }
-{
-    if a <= b {
-        return true;
-    }
-    false
-}
-
-// Whether a number is at or above the limit for OP, OM, SL, or at or below it for PR, RK.
-fn number_passes(check: Check, limit: u64, v: u64) -> bool
-    ensures { λ r. ⌜ Decides r (PassesNumber (side check) limit v) ⌝ }
-{
-    match check {
-        Check::OP => at_most(limit, v),
-        Check::OM => at_most(limit, v),
-        Check::SL => at_most(limit, v),
-        Check::PR => at_most(v, limit),
-        Check::RK => at_most(v, limit),
-    }
-}
-
-// Whether a line says Y.
-pub fn passes(check: Check, limit: u64, figure: Figure) -> bool
-    ensures { λ r. ⌜ Decides r (Passes (side check) limit figure) ⌝ }
-{
-    match figure {
-        Figure::Nothing => true,
-        Figure::Number(v) => number_passes(check, limit, v),
-        Figure::Off => false,
     }
 }

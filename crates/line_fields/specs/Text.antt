@@ -1,33 +1,17 @@
--- Document 01, The printed answer: the bytes of a line's fields.
+-- Document 01, The printed answer: the bytes of a line's fields behind its key.
 use Prim.Native.Nat.{ℕ}
 use mathlib.Core.Bool.{Bool}
 use mathlib.Core.List.{List, [], _∷_, _++_}
-use lib.ListN.{take}
-use Rattle.csv.specs.Rfc4180.{COMMA, CR, LF}
-use Rattle.fields.specs.declared.Name.{Name}
-use Rattle.keys.specs.declared.Key.{Key}
 use Rattle.sets.specs.declared.Combination.{Combination}
 use Rattle.sets.specs.declared.Combination.the-variants.{I, II, III, IV}
 use Rattle.checks.specs.declared.Check.{Check}
 use Rattle.checks.specs.declared.Check.the-variants.{OP, OM, SL, PR, RK}
 use Rattle.lines.specs.Lines.{LineName, VERDICT, check, SC, CL, Value, accepted, not-accepted, none, off, number, minus, Cell, empty, holds, Mark, unmarked, Y, N, mark-of}
 use Rattle.block.specs.Decimal.{decimal}
-use Rattle.block.specs.Block.{field}
+use Rattle.block.specs.Block.{field, line-end}
 
 abbrev pub HYPHEN : ℕ
 HYPHEN = 0x2D
-
--- "Lines end with CRLF."
-abbrev pub line-end : List ℕ
-line-end = CR ∷ LF ∷ []
-
--- a name's first len bytes, all 12 where len is above that
-unfoldable pub name-bytes : Name → List ℕ
-name-bytes name = take (name .len) (name .bytes)
-
--- "member, job", each with the comma behind it
-unfoldable pub key-text : Key → List ℕ
-key-text key = name-bytes (key .member) ++ (COMMA ∷ (name-bytes (key .job) ++ (COMMA ∷ [])))
 
 -- I, II, III, IV
 unfoldable pub combination-text : Combination → List ℕ

@@ -1,2 +1,2 @@
--- Laws of an answer's lines. Other crates' proofs cite them.
-pub mod Sets
+-- Laws of the lines of an answer.
+pub mod Answers

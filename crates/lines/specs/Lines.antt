@@ -1,5 +1,6 @@
 -- Document 01, The printed answer: the lines of an answer, in their order. A line's key is the job's, and stands before each of them.
 use Prim.Native.Nat.{ℕ, _<_}
+use mathlib.Core.Path.{_≡_}
 use mathlib.Core.Bool.{Bool, true, false}
 use mathlib.Core.List.{List, [], _∷_, _++_}
 use Rattle.sets.specs.declared.Combination.{Combination}
@@ -8,9 +9,9 @@ use Rattle.checks.specs.declared.Check.{Check}
 use Rattle.checks.specs.declared.Check.the-variants.{OP, OM, SL, PR, RK}
 use Rattle.checks.specs.declared.Figure.{Figure}
 use Rattle.checks.specs.declared.Figure.the-variants.{Nothing, Number, Off}
-use Rattle.worst.specs.declared.Line.{Line}
-use Rattle.worst.specs.declared.Line.the-variants as line
-use Rattle.worst.specs.declared.Lines.{Lines}
+use Rattle.lines.specs.declared.Line.{Line}
+use Rattle.lines.specs.declared.Line.the-variants as line
+use Rattle.lines.specs.declared.Lines.{Lines}
 use Rattle.lines.specs.declared.Verdict.{Verdict}
 use Rattle.lines.specs.declared.Verdict.the-variants.{Accepted, NotAccepted, Refused}
 use Rattle.lines.specs.declared.DepthLine.{DepthLine}
@@ -73,6 +74,11 @@ verdict-value Accepted = accepted
 verdict-value NotAccepted = not-accepted
 verdict-value (Refused n) = number n
 
+-- the verdict of a job that is not refused, by whether every line after it says Y
+abbrev pub verdict-by : Bool → Verdict
+verdict-by true = Accepted
+verdict-by false = NotAccepted
+
 -- "VERDICT comes first, with A, N or the refusal and the rest empty."
 unfoldable pub verdict-line : Verdict → PrintedLine
 verdict-line verdict = record { name = VERDICT; value = verdict-value verdict; limit = empty; set = empty; mark = unmarked }
@@ -119,6 +125,11 @@ unfoldable pub unless-refused : Verdict → List PrintedLine → List PrintedLin
 unless-refused Accepted later = later
 unless-refused NotAccepted later = later
 unless-refused (Refused n) later = []
+
+-- whether VERDICT stands alone
+abbrev pub Alone : Bool → Verdict → Type 0
+Alone true verdict = (later : List PrintedLine) → unless-refused verdict later ≡ []
+Alone false verdict = (later : List PrintedLine) → unless-refused verdict later ≡ later
 
 unfoldable pub lines-of : Answer → List PrintedLine
 lines-of answer = verdict-line (answer .verdict) ∷ unless-refused (answer .verdict) (later-lines answer)

@@ -1,8 +1,31 @@
 // The answer of a job, by value, and the lines that document 01, The printed answer, gives it.
 //
-// These are types alone: a combination's lines are those of `worst`, and the two lines of the river stand here. What is hard is
-// their order, which `specs/` states once as a list, for the text and for the demands.
-use worst::Lines;
+// These are types, A or N of a job that is not refused, and which verdict stands alone: `worst` gives the lines of a
+// combination, `waters` the two lines of the river, and `verdicts` whether they all say Y. What is hard is their order, which
+// `specs/` states once as a list, for the text and for the demands.
+use checks::Figure;
+ghost use mathlib.Core.Path.{_≡_};
+ghost use Rattle.lines.specs.Lines.{verdict-by, Alone};
+
+// The line of a check: value, limit, set, and whether it says Y.
+pub enum Line {
+    Missing,
+    Shown {
+        figure: Figure,
+        limit: u64,
+        set: u64,
+        passes: bool,
+    },
+}
+
+// The lines of a combination.
+pub struct Lines {
+    pub op: Line,
+    pub om: Line,
+    pub sl: Line,
+    pub pr: Line,
+    pub rk: Line,
+}
 
 pub enum Verdict {
     Accepted,
@@ -40,4 +63,25 @@ pub struct Answer {
     pub four: Lines,
     pub depth: DepthLine,
     pub clear: ClearLine,
+}
+
+// A where every line after VERDICT says Y, N where not.
+pub fn verdict_of(yes: bool) -> Verdict
+    ensures { λ r. ⌜ r ≡ verdict-by yes ⌝ }
+{
+    match yes {
+        true => Verdict::Accepted,
+        false => Verdict::NotAccepted,
+    }
+}
+
+// Whether VERDICT stands alone.
+pub fn stands_alone(verdict: Verdict) -> bool
+    ensures { λ r. ⌜ Alone r verdict ⌝ }
+{
+    match verdict {
+        Verdict::Accepted => false,
+        Verdict::NotAccepted => false,
+        Verdict::Refused(_) => true,
+    }
 }

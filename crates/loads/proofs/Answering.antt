@@ -1,64 +1,26 @@
 -- The answer for a job's load rows is one, and the loads that are given are bounded.
-use mathlib.Core.Path.{_≡_, refl, sym, _∙_, ap, ap₂, subst, subst₂, subst⁻¹}
+use mathlib.Core.Path.{_≡_, refl, sym, _∙_, ap, subst, subst⁻¹}
 use mathlib.Core.Bool.{Bool, true, false, cond}
 use mathlib.Core.List.{List}
 use borrow.Author.Tests.{ltb-false}
 use lib.Dec.{ltb}
 use Prim.Native.Nat.{ℕ, _≤_, _<_}
 use native.Mathlib.Omega.{arith}
-use native.Mathlib.Decide.{decLt}
-use lib.ListN.{getD}
-use lib.Seq.{ext-getD}
 use Rattle.kinds.specs.declared.Row.{Row}
-use Rattle.earth.specs.declared.Coefficient.{Coefficient}
-use Rattle.earth.specs.Earth as earth
-use Rattle.earth.proofs.Pressures.{pressed-one}
-use Rattle.sets.specs.declared.Load.{Load}
+use Rattle.table2.specs.declared.Coefficient.{Coefficient}
+use Rattle.table2.specs.Table2.{Small}
 use Rattle.sets.specs.declared.Loads.{Loads}
-use Rattle.sets.specs.Sets.{Bounded, noLoad, row}
-use Rattle.forces.specs.declared.Source.{Source}
-use Rattle.forces.specs.declared.Source.the-variants.{Absent, Earth, Written}
-use Rattle.forces.specs.Exerts.{source, EarthLoad, Forces, Exerts}
-use Rattle.forces.proofs.Exerting.{same-load, exerts-bounded}
+use Rattle.sets.specs.Sets.{Bounded}
+use Rattle.forces.proofs.Exerting.{exerts-bounded}
+use Rattle.load_rows.specs.LoadRows.{rowAt, AllRanged, AreLoads}
+use Rattle.load_rows.proofs.Loaded.{loads-one}
 use Rattle.loads.specs.declared.Answer.{Answer}
 use Rattle.loads.specs.declared.Answer.the-variants.{OutOfRange, NoCoefficient, TooMany, Given}
 use Rattle.loads.specs.declared.Taken.{Taken}
-use Rattle.loads.specs.Taken.{rowAt, AllRanged, AreLoads, Told, given, told, toldBy, Says, out-of-range, blank, too-many, loaded, rowsOf, Beside, Answers}
+use Rattle.loads.specs.Taken.{Told, given, told, toldBy, Says, out-of-range, blank, too-many, loaded, rowsOf, Beside, Answers}
 
--- ---- a row exerts one load
-same-push : {H y G z : ℕ} → earth.push H y ≡ earth.push G z → (H ≡ G) × (y ≡ z)
-same-push e = (cc, cc)
-
-pub exerts-one : (fill : ℕ → ℕ → Coefficient) (r : Row) (a b : Load) → Exerts fill r a → Exerts fill r b → a ≡ b
-unfolding Forces
-exerts-one fill r a b p q = go (source (r .kind)) (p .forces) (q .forces)
-  where
-    class : a .class ≡ b .class
-    class = p .class ∙ sym (q .class)
-
-    phase : a .phase ≡ b .phase
-    phase = p .phase ∙ sym (q .phase)
-
-    go : (s : Source) → Forces fill s (r .numbers) a → Forces fill s (r .numbers) b → a ≡ b
-    go Absent f g = same-load class phase (f .v ∙ sym (g .v)) (f .x ∙ sym (g .x)) (f .h ∙ sym (g .h)) (f .twist ∙ sym (g .twist))
-    go Earth f g =
-        let e = same-push (pressed-one (f .pressed) (g .pressed)) in
-        let k = subst₂ (λ (H y : ℕ). EarthLoad H y a) (e .0) (e .1) (f .exerts) in
-        same-load class phase (k .v ∙ sym (g .exerts .v)) (k .x ∙ sym (g .exerts .x)) (k .h ∙ sym (g .exerts .h)) (k .twist ∙ sym (g .exerts .twist))
-    go Written f g = same-load class phase (f .v ∙ sym (g .v)) (f .x ∙ sym (g .x)) (f .h ∙ sym (g .h)) (f .twist ∙ sym (g .twist))
-
--- ---- and the rows of a job one table of loads
+-- ---- the rows are told one answer
 module _ (fill : ℕ → ℕ → Coefficient) (rows : List Row) (n : ℕ) where
-  pub loads-one : (a b : Loads) → AreLoads fill rows n a → AreLoads fill rows n b → a ≡ b
-  unfolding row
-  loads-one a b p q =
-      ap₂ (λ (m : ℕ) (l : List Load). record { count = m; loads = l }) (p .count ∙ sym (q .count))
-      (ext-getD noLoad (a .loads) (b .loads) (p .whole ∙ sym (q .whole)) (λ i h. go i (decLt i n)))
-    where
-      go : (i : ℕ) → Dec (i < n) → getD (a .loads) i noLoad ≡ getD (b .loads) i noLoad
-      go i (yes h) = exerts-one fill (rowAt rows i) _ _ (p .each i h) (q .each i h)
-      go i (no h) = p .rest i (omega arith) ∙ sym (q .rest i (omega arith))
-
   pub says-one : {t u : Told} → Says fill rows n t → Says fill rows n u → t ≡ u
   says-one (out-of-range x) (out-of-range y) = refl
   says-one (out-of-range x) (blank y z) = absurd (x y)
@@ -75,7 +37,7 @@ module _ (fill : ℕ → ℕ → Coefficient) (rows : List Row) (n : ℕ) where
   says-one (loaded x y z l) (out-of-range w) = absurd (w x)
   says-one (loaded x y z l) (blank w v) = absurd (v y)
   says-one (loaded x y z l) (too-many w v u) = absurd (omega arith)
-  says-one (loaded x y z l) (loaded w v u m) = ap given (loads-one _ _ l m)
+  says-one (loaded x y z l) (loaded w v u m) = ap given (loads-one fill rows n _ _ l m)
 
 -- ---- no second answer meets the promise of `loads_of`
 back : (a b : Answer) (l m : Loads) → toldBy a l ≡ toldBy b m → Beside a l → Beside b m → (a ≡ b) × (l ≡ m)
@@ -118,7 +80,7 @@ rows-few count = go (ltb 16 count) refl
     go true e = omega arith
     go false e = ltb-false 16 count e
 
-pub given-bounded : (fill : ℕ → ℕ → Coefficient) → ((soil slope : ℕ) → earth.Small (fill soil slope)) → (rows : List Row) (count : ℕ) (taken : Taken) → Answers fill rows count taken
+pub given-bounded : (fill : ℕ → ℕ → Coefficient) → ((soil slope : ℕ) → Small (fill soil slope)) → (rows : List Row) (count : ℕ) (taken : Taken) → Answers fill rows count taken
     → taken .answer ≡ Given → Bounded (taken .loads)
 unfolding told toldBy AllRanged
 given-bounded fill small rows count taken a e =

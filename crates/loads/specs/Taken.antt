@@ -3,43 +3,16 @@ use mathlib.Core.Path.{_≡_}
 use mathlib.Core.Bool.{cond}
 use mathlib.Core.List.{List}
 use lib.Dec.{ltb}
-use Prim.Native.Nat.{ℕ, zero, suc, _+_, _≤_, _<_}
-use lib.ListN.{getD, length, replicate}
-use Rattle.kinds.specs.declared.Kind.the-variants.{B}
+use Prim.Native.Nat.{ℕ, _≤_, _<_}
+use lib.ListN.{replicate}
 use Rattle.kinds.specs.declared.Row.{Row}
-use Rattle.kinds.specs.Table.{blank-numbers}
-use Rattle.ranges.specs.Range.{Ranged}
-use Rattle.earth.specs.declared.Coefficient.{Coefficient}
+use Rattle.table2.specs.declared.Coefficient.{Coefficient}
 use Rattle.sets.specs.declared.Loads.{Loads}
-use Rattle.sets.specs.Sets.{row, noLoad}
-use Rattle.forces.specs.Exerts.{classOf, BlankThere, optional, Exerts}
+use Rattle.sets.specs.Sets.{noLoad}
+use Rattle.load_rows.specs.LoadRows.{AllRanged, NoneBlank, optionals, AreLoads}
 use Rattle.loads.specs.declared.Answer.{Answer}
 use Rattle.loads.specs.declared.Answer.the-variants.{OutOfRange, NoCoefficient, TooMany, Given}
 use Rattle.loads.specs.declared.Taken.{Taken}
-
--- row i, from 0, of the job's load rows; past the last an empty one
-unfoldable pub rowAt : List Row → ℕ → Row
-rowAt rows i = getD rows i (record { kind = B; numbers = blank-numbers })
-
--- 11, a number out of range
-unfoldable pub AllRanged : List Row → ℕ → Type 0
-AllRanged rows n = (i : ℕ) → i < n → Ranged ((rowAt rows i) .kind) ((rowAt rows i) .numbers)
-
--- 15, Table 2 is blank there
-unfoldable pub NoneBlank : (ℕ → ℕ → Coefficient) → List Row → ℕ → Type 0
-NoneBlank fill rows n = (i : ℕ) → i < n → BlankThere fill (rowAt rows i) → ⊥
-
--- 16, more than 12 optional load rows
-unfoldable pub optionals : List Row → ℕ → ℕ
-optionals rows zero = 0
-optionals rows (suc n) = optionals rows n + optional (classOf ((rowAt rows n) .kind))
-
--- the loads of the first n rows, and no others
-pub record AreLoads (fill : ℕ → ℕ → Coefficient) (rows : List Row) (n : ℕ) (loads : Loads) : Type 0 where
-  pub count : loads .count ≡ n
-  pub whole : length (loads .loads) ≡ 16
-  pub each : (i : ℕ) → i < n → Exerts fill (rowAt rows i) (row loads i)
-  pub rest : (i : ℕ) → n ≤ i → row loads i ≡ noLoad
 
 -- an answer in the paper's numbers
 pub data Told : Type 0 where

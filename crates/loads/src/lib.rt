@@ -5,10 +5,9 @@
 use kinds::Row;
 use sets::Loads;
 ghost use mathlib.Core.Path.{_≡_};
-ghost use Prim.Native.Nat.{_+_, _<_, _≤_};
-ghost use Rattle.decides.specs.Decides.{Decides};
-ghost use Rattle.earth.specs.Table2.{table2-fill};
-ghost use Rattle.loads.specs.Taken.{AllRanged, NoneBlank, optionals, AreLoads, noLoads, rowsOf, Answers};
+ghost use Prim.Native.Nat.{_≤_};
+ghost use Rattle.table2.specs.Table2.{table2-fill};
+ghost use Rattle.loads.specs.Taken.{noLoads, rowsOf, Answers};
 
 pub enum Answer {
     OutOfRange,
@@ -23,56 +22,6 @@ pub struct Taken {
     pub loads: Loads,
 }
 
-// Whether every number of the first n rows is in its range.
-fn all_ranged(rows: [Row; 16], n: usize) -> bool
-    requires { ⌜ n ≤ 16 ⌝ }
-    ensures { λ r. ⌜ Decides r (AllRanged rows n) ⌝ }
-{
-    let mut i: usize = 0;
-    while i < n {
-        let row = rows[i];
-        let kind = row.kind;
-        let numbers = row.numbers;
-        if !ranges::is_ranged(kind, numbers) {
-            return false;
-        }
-        i = i + 1;
-    }
-    true
-}
-
-// Whether Table 2 is blank for none of the first n rows.
-fn none_blank(rows: [Row; 16], n: usize) -> bool
-    requires { ⌜ n ≤ 16 ⌝ }
-    ensures { λ r. ⌜ Decides r (NoneBlank table2-fill rows n) ⌝ }
-{
-    let mut i: usize = 0;
-    while i < n {
-        let row = rows[i];
-        if forces::is_blank(row) {
-            return false;
-        }
-        i = i + 1;
-    }
-    true
-}
-
-// How many of the first n rows are optional.
-fn optional_rows(rows: [Row; 16], n: usize) -> u64
-    requires { ⌜ n ≤ 16 ⌝ }
-    ensures { λ r. ⌜ r ≡ optionals rows n ⌝ }
-{
-    let mut many: u64 = 0;
-    let mut i: usize = 0;
-    while i < n {
-        let row = rows[i];
-        let kind = row.kind;
-        many = many + forces::is_optional(forces::class_of(kind));
-        i = i + 1;
-    }
-    many
-}
-
 // No loads.
 pub fn no_loads() -> Loads
     ensures { λ r. ⌜ r ≡ noLoads ⌝ }
@@ -80,25 +29,6 @@ pub fn no_loads() -> Loads
     let none = forces::no_load();
     let loads = [none; 16];
     Loads { count: 0, loads }
-}
-
-// The loads of the first n rows.
-fn exert_all(rows: [Row; 16], n: usize) -> Loads
-    requires { ⌜ n ≤ 16 ⌝ }
-    requires { ⌜ AllRanged rows n ⌝ }
-    requires { ⌜ NoneBlank table2-fill rows n ⌝ }
-    ensures { λ r. ⌜ AreLoads table2-fill rows n r ⌝ }
-{
-    let none = forces::no_load();
-    let mut loads = [none; 16];
-    let mut i: usize = 0;
-    while i < n {
-        let row = rows[i];
-        let load = forces::exert(row);
-        loads[i] = load;
-        i = i + 1;
-    }
-    Loads { count: n, loads }
 }
 
 // How many rows there are.
@@ -117,25 +47,25 @@ pub fn loads_of(rows: [Row; 16], count: usize) -> Taken
 {
     let n = rows_of(count);
     let none = no_loads();
-    if !all_ranged(rows, n) {
+    if !load_rows::all_ranged(rows, n) {
         return Taken {
             answer: Answer::OutOfRange,
             loads: none,
         };
     }
-    if !none_blank(rows, n) {
+    if !load_rows::none_blank(rows, n) {
         return Taken {
             answer: Answer::NoCoefficient,
             loads: none,
         };
     }
-    if 12 < optional_rows(rows, n) {
+    if 12 < load_rows::optional_rows(rows, n) {
         return Taken {
             answer: Answer::TooMany,
             loads: none,
         };
     }
-    let loads = exert_all(rows, n);
+    let loads = load_rows::exert_all(rows, n);
     Taken {
         answer: Answer::Given,
         loads,

@@ -1,51 +1,18 @@
--- The best so far with one set more is one: of a mark and a set the better is one, since a weight tells its rank and its set.
-use mathlib.Core.Path.{_≡_, refl, sym, _∙_, ap₂, subst}
-use mathlib.Core.Logic.{⊎-elim}
+-- The best so far with one set more is one.
+use mathlib.Core.Path.{_≡_, refl, sym, _∙_}
 use mathlib.Core.Bool.{Bool, true, false, true≢false}
-use Prim.Native.Nat.{ℕ, zero, suc, _≤_, _<_}
-use native.Mathlib.Omega.{arith}
-use native.Mathlib.Nat.{le-antisymm}
+use Prim.Native.Nat.{_<_}
 use Rattle.sets.specs.declared.Sums.{Sums}
 use Rattle.checks.specs.declared.Base.{Base}
 use Rattle.checks.specs.declared.Check.{Check}
 use Rattle.checks.specs.declared.Check.the-variants.{OP, OM, SL, PR, RK}
 use Rattle.checks.specs.declared.Figure.{Figure}
-use Rattle.checks.specs.Figures.{Judged}
-use Rattle.checks.specs.Order.{Side}
-use Rattle.checks.proofs.Ranking.{ranks-one, tips-one, slides-one, presses-one, leans-one}
-use Rattle.named.specs.declared.Mark.{Mark}
+use Rattle.set_figures.specs.Figures.{Judged}
+use Rattle.pressure.proofs.Pressing.{presses-one}
+use Rattle.ranks.proofs.Ranks.{tips-one, slides-one, leans-one}
 use Rattle.named.specs.declared.Best.{Best}
-use Rattle.named.specs.Marks.{place, weight, weightOf, Better, Offered}
 use Rattle.named.specs.Weighs.{markOf, Weighed, Low, Weighs}
-use Rattle.named.proofs.Weights.{place-none, place-some, place-low, some-low, better-low}
-
-place-one : (s t : ℕ) → s < 65536 → t < 65536 → place s ≡ place t → s ≡ t
-place-one zero zero p q e = refl
-place-one zero (suc t) p q e = absurd (omega (arith, place-none, some-low (suc t) (omega arith) q, e))
-place-one (suc s) zero p q e = absurd (omega (arith, place-none, some-low (suc s) (omega arith) p, e))
-place-one (suc s) (suc t) p q e = omega (arith, place-some (suc s) (omega arith), place-some (suc t) (omega arith), p, q, e)
-
-weight-one : (a b : Mark) → a .set < 65536 → b .set < 65536 → weightOf a ≡ weightOf b → a ≡ b
-unfolding weightOf weight
-weight-one a b p q e = λ i. record { rank = ranks i; set = place-one (a .set) (b .set) p q (omega (arith, e, ranks)) i }
-  where
-    ranks : a .rank ≡ b .rank
-    ranks = omega (arith, e, place-low (a .set) p, place-low (b .set) q)
-
-module _ {b : Mark} {n s : ℕ} (p : b .set < 65536) (q : s < 65536) where
-  lightest : {r t : Mark} → Better b n s r → Better b n s t → weightOf r ≤ weightOf t
-  unfolding weightOf
-  lightest {r} {t} x y =
-      ⊎-elim (λ e. subst (λ (m : Mark). weightOf r ≤ weightOf m) (sym e) (x .kept)) (λ e. subst (λ (m : ℕ). weightOf r ≤ m) (sym (ap₂ weight (e .0) (e .1))) (x .first)) (y .from)
-
-  better-one : {r t : Mark} → Better b n s r → Better b n s t → r ≡ t
-  better-one {r} {t} x y = weight-one r t (better-low p q x) (better-low p q y) (le-antisymm (lightest x y) (lightest y x))
-
--- The better of a mark and of a set is one where the set has one figure.
-pub offered-one : {from : Side} {P : Figure → Type 0} {b : Mark} {s : ℕ} {r t : Mark} → ((v w : Figure) → P v → P w → v ≡ w) → b .set < 65536 → s < 65536
-    → Offered from P b s r → Offered from P b s t → r ≡ t
-offered-one {from} {P} {b} {s} {r} {t} one p q x y =
-    better-one p q (subst (λ (n : ℕ). Better b n s r) (ranks-one one (x .ranks) (y .ranks)) (x .better)) (y .better)
+use Rattle.marks.proofs.Weights.{offered-one}
 
 -- The sums of a set show one figure.
 judged-one : (check : Check) (base : Base) (sums : Sums) (v w : Figure) → Judged check base sums v → Judged check base sums w → v ≡ w

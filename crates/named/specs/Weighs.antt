@@ -6,11 +6,11 @@ use Rattle.sets.specs.declared.Sums.{Sums}
 use Rattle.checks.specs.declared.Base.{Base}
 use Rattle.checks.specs.declared.Check.{Check}
 use Rattle.checks.specs.declared.Check.the-variants.{OP, OM, SL, PR, RK}
-use Rattle.checks.specs.Figures.{Judged}
+use Rattle.set_figures.specs.Figures.{Judged}
 use Rattle.checks.specs.Order.{side}
-use Rattle.named.specs.declared.Mark.{Mark}
+use Rattle.marks.specs.declared.Mark.{Mark}
 use Rattle.named.specs.declared.Best.{Best}
-use Rattle.named.specs.Marks.{Offered}
+use Rattle.marks.specs.Marks.{Offered}
 
 -- the best so far of each check
 unfoldable pub markOf : Check → Best → Mark

@@ -4,23 +4,19 @@
 // order of going through the sets is part of the definition, or of the laws by which a search meets it; and that most sets are
 // seen to be no worse without a division.
 use checks::Base;
+use marks::Mark;
 use sets::Balance;
 use sets::Sums;
 ghost use mathlib.Core.Path.{_≡_};
 ghost use mathlib.Core.Bool.{true};
 ghost use Prim.Native.Nat.{_+_, _*_, _-_, _^_, _<_, _≤_};
-ghost use Rattle.decides.specs.Decides.{Decides};
 ghost use Rattle.sets.specs.Sums.{Room};
-ghost use Rattle.checks.specs.Figures.{Sized, Tips, Slides, Presses, Leans};
+ghost use Rattle.checks.specs.Sized.{Sized};
+ghost use Rattle.pressure.specs.Pressure.{Presses};
+ghost use Rattle.ranks.specs.Figures.{Tips, Slides, Leans};
 ghost use Rattle.checks.specs.Order.{lowest, highest};
-ghost use Rattle.named.specs.Marks.{place, Better, Offered, Offers};
+ghost use Rattle.marks.specs.Marks.{Offered, Offers};
 ghost use Rattle.named.specs.Weighs.{Low, Weighs};
-
-// The best so far of a check: the rank of its figure, and its set; set 0 where there is none yet.
-pub struct Mark {
-    pub rank: u64,
-    pub set: u64,
-}
 
 // The best so far of each check.
 pub struct Best {
@@ -35,46 +31,6 @@ const TOP: u64 = 18446744073709551615;
 
 // Up to here a figure so far may be multiplied out to see, with no division, that a set is plainly no worse.
 const PLAIN: u64 = 16777216;
-
-// Of two sets with the same figure, whether s comes before t: it has fewer rows, or as many and the smaller number.
-fn fewer(s: u64, t: u64) -> bool
-    requires { ⌜ (0 < s) × (s < 65536) × (t < 65536) ⌝ }
-    ensures { λ r. ⌜ Decides r (place s < place t) ⌝ }
-{
-    if t == 0 {
-        return true;
-    }
-    let p = u64::count_ones(s);
-    let q = u64::count_ones(t);
-    if p < q {
-        return true;
-    }
-    if q < p {
-        return false;
-    }
-    if s < t {
-        return true;
-    }
-    false
-}
-
-// The better of the best so far and of one set more.
-fn better(best: Mark, rank: u64, set: u64) -> Mark
-    requires { ⌜ (0 < set) × (set < 65536) × (best .set < 65536) ⌝ }
-    ensures { λ r. ⌜ Better best rank set r ⌝ }
-{
-    let last = best.rank;
-    if rank < last {
-        return Mark { rank, set };
-    }
-    if last < rank {
-        return best;
-    }
-    if fewer(set, best.set) {
-        return Mark { rank, set };
-    }
-    best
-}
 
 fn tipped(on: bool, best: Mark, balance: Balance, set: u64) -> Mark
     requires { ⌜ (balance .resisting ≤ 2 ^ 40) × (balance .overturning ≤ 2 ^ 38) ⌝ }
@@ -92,7 +48,7 @@ fn tipped(on: bool, best: Mark, balance: Balance, set: u64) -> Mark
             return best;
         }
     }
-    better(best, checks::tip_rank(balance), set)
+    marks::better(best, ranks::tip_rank(balance.resisting, over), set)
 }
 
 fn slid(on: bool, best: Mark, friction: u64, n: u64, h: u64, set: u64) -> Mark
@@ -111,7 +67,7 @@ fn slid(on: bool, best: Mark, friction: u64, n: u64, h: u64, set: u64) -> Mark
             }
         }
     }
-    better(best, checks::slide_rank(friction, n, h), set)
+    marks::better(best, ranks::slide_rank(friction, n, h), set)
 }
 
 fn pressed(best: Mark, base: Base, n: u64, m: u64, set: u64) -> Mark
@@ -120,7 +76,11 @@ fn pressed(best: Mark, base: Base, n: u64, m: u64, set: u64) -> Mark
     requires { ⌜ (0 < set) × (set < 65536) × (best .set < 65536) ⌝ }
     ensures { λ r. ⌜ (r .set < 65536) × Offered highest (Presses (base .width) (base .length) n m) best set r ⌝ }
 {
-    better(best, checks::press_rank(base.width, base.length, n, m), set)
+    marks::better(
+        best,
+        pressure::press_rank(base.width, base.length, n, m),
+        set,
+    )
 }
 
 // Whether RK of a set is plainly below the figure shown.
@@ -154,7 +114,7 @@ fn leaned(on: bool, best: Mark, base: Base, n: u64, m: u64, set: u64) -> Mark
             }
         }
     }
-    better(best, checks::lean_rank(base.width, n, m), set)
+    marks::better(best, ranks::lean_rank(base.width, n, m), set)
 }
 
 // The best so far of every check with one set more.

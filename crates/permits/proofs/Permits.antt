@@ -1,7 +1,7 @@
--- The decision of a permitted set: row by row, and by the number of its wind and earthquake rows.
+-- The decision of a permitted set whose rows may stand in it: by the number of its wind and earthquake rows.
 use mathlib.Core.Path.{_≡_, refl, sym, subst}
 use mathlib.Core.Logic.{_⊎_, inl, inr, ⊎-elim}
-use mathlib.Core.Bool.{Bool, true, false, not}
+use mathlib.Core.Bool.{Bool}
 use Prim.Native.Nat.{ℕ, zero, suc, _+_, _^_, _<_}
 use native.Mathlib.Omega.{arith}
 use native.Mathlib.Decide.{ℕ-discrete}
@@ -12,23 +12,11 @@ use Rattle.sets.specs.declared.Combination.{Combination}
 use Rattle.sets.specs.declared.Combination.the-variants.{I, II, III, IV}
 use Rattle.sets.specs.declared.Load.{Load}
 use Rattle.sets.specs.declared.Loads.{Loads}
-use Rattle.sets.specs.Sets.{bit, row, Acts, Has, Mixed, Permitted, RowFits, Opens, Together, Admits}
+use Rattle.sets.specs.Sets.{bit, row, Has, Mixed, Permitted, RowFits, Opens, Together, Admits}
 use Rattle.sets.specs.Totals.{sum, counted}
 use Rattle.sets.specs.Sums.{isWind, isQuake, sumsOf}
 use Rattle.sets.proofs.Adding.{winds-is, quakes-is}
 use Rattle.sets.proofs.Bits.{bit-two}
-
--- ---- one row
-module _ (combination : Combination) (load : Load) (held : ℕ) where
-  pub fits-inside : (r : Bool) → held ≡ 1 → Decides r (Acts combination (load .phase)) → Decides r (RowFits combination load held)
-  fits-inside r e d = decides-same r (λ h. record { acting = λ _. h; permanent = λ _ _. e }) (λ f. f .acting e) d
-
-  pub fits-outside : (r : Bool) → (held ≡ 1 → ⊥) → load .class ≡ Permanent → Decides r (Acts combination (load .phase)) → Decides (not r) (RowFits combination load held)
-  fits-outside true n e d = λ f. n (f .permanent e d)
-  fits-outside false n e d = record { acting = λ i. absurd (n i); permanent = λ _ i. absurd (d i) }
-
-  pub fits-unless : (held ≡ 1 → ⊥) → (load .class ≡ Permanent → ⊥) → RowFits combination load held
-  fits-unless n m = record { acting = λ i. absurd (n i); permanent = λ i. absurd (m i) }
 
 -- ---- a natural sum is above zero exactly where a row of the set gives something
 counted-some : (held n : ℕ) → 0 < counted held n → held < 2 → (held ≡ 1) × (0 < n)

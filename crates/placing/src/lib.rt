@@ -7,7 +7,7 @@ use kinds::Role;
 ghost use mathlib.Core.Path.{_≡_};
 ghost use mathlib.Core.Bool.{true};
 ghost use mathlib.Core.Logic.{_⊎_};
-ghost use Prim.Native.Nat.{ℕ, _≤_, _<_};
+ghost use Prim.Native.Nat.{_≤_, _<_};
 ghost use Rattle.decides.specs.Decides.{Decides};
 ghost use Rattle.placing.specs.Fits.{Fits, stage-level};
 

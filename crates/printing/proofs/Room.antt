@@ -1,12 +1,13 @@
 -- A job's lines fit: 20 lines of at most 84 bytes, SC and CL in 151 and VERDICT in 42 make 1,873.
 use Prim.Native.Nat.{_+_, _≤_}
 use native.Mathlib.Omega.{arith}
-use Rattle.worst.specs.declared.Line.{Line}
-use Rattle.worst.specs.declared.Line.the-variants.{Missing, Shown}
-use Rattle.worst.specs.declared.Lines.{Lines}
+use Rattle.lines.specs.declared.Line.{Line}
+use Rattle.lines.specs.declared.Line.the-variants.{Missing, Shown}
+use Rattle.lines.specs.declared.Lines.{Lines}
 use Rattle.lines.specs.declared.Answer.{Answer}
 use Rattle.lines.specs.Lines.{SetFits, SetsFit, Numbered}
-use Rattle.printing.specs.Room.{line-room, lines-room, answer-room}
+use Rattle.line_text.specs.Room.{line-room}
+use Rattle.printing.specs.Room.{lines-room, answer-room}
 use Rattle.block.proofs.Numbers.{decimal-length}
 
 line-fits : (l : Line) → SetFits l → line-room l ≤ 84

@@ -1,2 +1,2 @@
--- Passing the rows of a text to the one whose note is sought.
-mod Passing
+-- The notes of a book by those of its text.
+mod Noted

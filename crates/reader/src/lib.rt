@@ -2,13 +2,12 @@
 // the refusal, 1 to 6, with its row; and the note of a row, as the stretch of the lent book that it is.
 //
 // A book is refused by its length before its form, and by its form before its rows. What is hard is the note: it is the
-// tenth cell of a row that is found by passing the rows before it, and the forms of the book's rows say the same of it.
+// tenth cell of a row of the text, and the forms of the book's rows say the same of it.
 use book::Book;
 use book::Count;
 use refusals::Refusal;
-ghost use Rattle.csv.specs.Rfc4180.{Readable};
 ghost use Rattle.book.specs.Says.{BookIs, CountIs};
-ghost use Rattle.book.specs.Notes.{NoteAt, NoteIs};
+ghost use Rattle.book.specs.Notes.{NoteIs};
 
 // The jobs of a book, by value; or why it is refused.
 pub fn read_book(book: &[u8]) -> Book
@@ -33,27 +32,6 @@ pub fn count_jobs(book: &[u8]) -> Count
     count
 }
 
-// The note of a row of an RFC 4180 text, as the stretch that it is; nothing where there is no such row.
-fn note_at(s: &[u8], row: usize) -> &[u8]
-    requires { ⌜ Readable (now s) ⌝ }
-    ensures { λ r. ⌜ NoteAt (now (s .entry)) row (now r) ⌝ }
-{
-    let mut n: usize = 1;
-    let mut at: usize = 0;
-    loop {
-        let places = cells::row_at(s, at);
-        if n == row {
-            return cells::cell(s, places, 9);
-        }
-        let behind = places.next;
-        if s.len() <= behind {
-            return &s[0..0];
-        }
-        n += 1;
-        at = behind;
-    }
-}
-
 // The note of a row of a book, counted from 1, as the stretch of the lent book that it is; nothing where the book is
 // refused or has no such row.
 pub fn note_of(book: &[u8], row: usize) -> &[u8]
@@ -61,7 +39,7 @@ pub fn note_of(book: &[u8], row: usize) -> &[u8]
 {
     let count = count_jobs(book);
     match count {
-        Count::Given(_) => note_at(book, row),
+        Count::Given(_) => notes::note_at(book, row),
         Count::Refused(_, _) => &book[0..0],
     }
 }

@@ -1,10 +1,9 @@
 -- Document 01, The printed answer: the line of a refused book.
 use Prim.Native.Nat.{ℕ}
 use mathlib.Core.List.{List, [], _∷_, _++_}
-use Rattle.csv.specs.Rfc4180.{COMMA}
+use Rattle.rfc4180.specs.Rfc4180.{COMMA}
 use Rattle.block.specs.Decimal.{decimal}
-use Rattle.block.specs.Block.{field}
-use Rattle.line_fields.specs.Text.{line-end}
+use Rattle.block.specs.Block.{field, line-end}
 
 -- "A refused book prints `,,BOOK,number,row,,`."
 unfoldable pub book-text : ℕ → ℕ → List ℕ

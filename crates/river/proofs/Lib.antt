@@ -1,5 +1,2 @@
--- The laws of the rules for scour. Other crates' proofs cite them.
-pub mod Rules
-pub mod Bounds
-pub mod Cubes
-pub mod Scours
+-- The laws of what an S row is told. Other crates' proofs cite them.
+pub mod River

@@ -1,41 +1,10 @@
--- Document 01, "River rules" for scour (002, 4.4 to 4.6 and 6.9.1), each rule in the paper's words and letters. Lengths in mm, discharges in l/s,
--- q in l/s on each metre of the waterway, catchments in km², silt factors in thousandths.
-use mathlib.Core.List.{List, [], _∷_}
-use Prim.Native.Nat.{ℕ, _-_, _*_, _^_, _≤_, _<_}
-use lib.ListN.{getD}
-use Rattle.rounding.specs.Least.{Least, RoundedUp}
+-- Document 01, what an S row is told: the depth needed (SC), or a refusal of its job.
+use Rattle.ranges.specs.Range.{Ranged}
+use Rattle.kinds.specs.declared.Kind.the-variants.{S}
+use Rattle.kinds.specs.declared.Numbers.{Numbers}
+use Rattle.scour.specs.Scour.{Told, refused, Scoured}
 
--- 4.4. "Qf, rounded up: catchment Z to 500: 13Q/10; to 5,000: Q(59,000-Z)/45,000; to 25,000: Q(245,000-Z)/200,000." Above 25,000 there is none
-pub data FoundationDischarge (Q Z Qf : ℕ) : Type 0 where
-  to-500 : Z ≤ 500 → RoundedUp (13 * Q) 10 Qf → FoundationDischarge Q Z Qf
-  to-5000 : 500 < Z → Z ≤ 5000 → RoundedUp (Q * (59000 - Z)) 45000 Qf → FoundationDischarge Q Z Qf
-  to-25000 : 5000 < Z → Z ≤ 25000 → RoundedUp (Q * (245000 - Z)) 200000 Qf → FoundationDischarge Q Z Qf
-
--- 4.5.3. "Regime width is met if 10,000,000 W² >= 483,537² Q (1.811 times 2.67)."
-abbrev pub RegimeMet : ℕ → ℕ → Type 0
-RegimeMet Q W = 483537 ^ 2 * Q ≤ 10000000 * W ^ 2
-
--- 4.6.3. "Then D is the least whole mm with D³f >= 473³ Qf."
-abbrev pub RegimeDepth : ℕ → ℕ → ℕ → Type 0
-RegimeDepth Qf f D = Least (λ d. 473 ^ 3 * Qf ≤ d ^ 3 * f) D
-
--- 4.6.4. "Otherwise q = 1,000 Qf/W rounded up,"
-abbrev pub Intensity : ℕ → ℕ → ℕ → Type 0
-Intensity Qf W q = RoundedUp (1000 * Qf) W q
-
--- "and D is the least with 1,000 f D³ >= 1,338³ q²."
-abbrev pub ConstrictedDepth : ℕ → ℕ → ℕ → Type 0
-ConstrictedDepth q f D = Least (λ d. 1338 ^ 3 * q ^ 2 ≤ 1000 * f * d ^ 3) D
-
--- 4.6.6. "Greatest scour, rounded up: D times 1.25, 1.5, 1.75, 2, 2.75 for reach 1 to 5.", in hundredths
-abbrev pub reaches : List ℕ
-reaches = 125 ∷ 150 ∷ 175 ∷ 200 ∷ 275 ∷ []
-
-abbrev pub GreatestScour : ℕ → ℕ → ℕ → Type 0
-GreatestScour D reach greatest = RoundedUp (getD reaches (reach - 1) 0 * D) 100 greatest
-
--- 6.9.1. "Depth needed: 1.33 times that, rounded up."
-pub record DepthNeeded (D reach needed : ℕ) : Type 0 where
-  pub greatest : ℕ
-  pub scour : GreatestScour D reach greatest
-  pub rounded : RoundedUp (133 * greatest) 100 needed
+-- "11, a number out of range"; else what the row's Q, catchment, silt factor, waterway and reach give
+pub data Says (row : Numbers) : Told → Type 0 where
+  out-of-range : (Ranged S row → ⊥) → Says row (refused 11)
+  in-range : {t : Told} → Ranged S row → Scoured (row .n1 .size) (row .n2 .size) (row .n3 .size) (row .n4 .size) (row .n5 .size) t → Says row t

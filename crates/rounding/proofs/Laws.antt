@@ -77,3 +77,10 @@ module _ (a b : ℕ) (pos : 0 < b) where
 
   pub up-fits : (a % b ≡ 0 → ⊥) → a / b + 1 ≤ a
   up-fits e = add-one-le (lt-of-le-of-lt (le-mul-of-pos-right (a / b) pos) (short e))
+
+-- a quotient is no larger than what is divided
+pub down-le : {a b c : ℕ} → 0 < b → RoundedDown a b c → c ≤ a
+down-le {c = c} pos r = le-trans (le-mul-of-pos-right c pos) (r .holds)
+
+pub up-le : {a b c : ℕ} → 0 < b → RoundedUp a b c → c ≤ a
+up-le {a} pos r = r .least a (le-mul-of-pos-right a pos)

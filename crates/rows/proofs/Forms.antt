@@ -4,8 +4,8 @@ use mathlib.Core.Bool.{Bool, true, false}
 use mathlib.Core.Path.{_≡_, refl, sym, ap, subst, _∙_}
 use mathlib.Core.List.{List, _∷_}
 use lib.ListN.{drop}
-use Rattle.csv.specs.Rfc4180.{Cell, File, Readable}
-use Rattle.csv.proofs.First.{first, some-row}
+use Rattle.rfc4180.specs.Rfc4180.{Cell, File, Readable}
+use Rattle.rfc4180.proofs.First.{first, some-row}
 use Rattle.kinds.specs.Table.{columns}
 use Rattle.kinds.specs.declared.Columns.{Columns}
 use Rattle.kinds.specs.declared.Kind.{Kind}

@@ -5,15 +5,15 @@ use mathlib.Core.Path.{_≡_, sym, subst, _∙_}
 use mathlib.Core.Bool.{Bool, true, false}
 use mathlib.Core.List.{List, _∷_}
 use lib.ListN.{length, drop}
-use Rattle.csv.specs.Rfc4180.{Cell, Field, File}
-use Rattle.csv.proofs.Unique.{content-unique}
+use Rattle.rfc4180.specs.Rfc4180.{Cell, Field, File}
+use Rattle.rfc4180.proofs.Unique.{content-unique}
 use Rattle.cells.specs.Cells.{offset, RowAt, CellAt}
 use Rattle.cells.specs.declared.Cells.{Cells}
 use Rattle.cells.proofs.Fields.{row-fields}
-use Rattle.fields.specs.Names.{ContentNamed, NameIn, named, NameAt}
+use Rattle.names.specs.Names.{ContentNamed, NameIn, named, NameAt}
 use Rattle.fields.specs.Numbers.{EntryAt}
-use Rattle.fields.specs.declared.Name.{Name}
-use Rattle.fields.specs.declared.NameRead.{NameRead}
+use Rattle.names.specs.declared.Name.{Name}
+use Rattle.names.specs.declared.NameRead.{NameRead}
 use Rattle.fields.specs.declared.Entry.{Entry}
 use Rattle.fields.specs.declared.Entered.the-variants.{Is, Wrong}
 use Rattle.kinds.specs.Table.{columns, letters}

@@ -4,7 +4,7 @@ use mathlib.Core.Path.{_≡_}
 use mathlib.Core.Bool.{Bool, true, false}
 use mathlib.Core.List.{List, _∷_}
 use lib.ListN.{length, getD, drop}
-use Rattle.csv.specs.Rfc4180.{Cell, Field, File, Rest}
+use Rattle.rfc4180.specs.Rfc4180.{Cell, Field, File, Rest}
 use Rattle.cells.specs.Cells.{no-cell, Stretch, offset}
 use Rattle.cells.specs.declared.Cells.{Cells}
 use Rattle.kinds.specs.Table.{columns}

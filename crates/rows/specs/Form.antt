@@ -4,9 +4,9 @@ use mathlib.Core.Path.{_≡_}
 use mathlib.Core.Bool.{true}
 use mathlib.Core.List.{List}
 use lib.ListN.{length, getD}
-use Rattle.csv.specs.Rfc4180.{Cell}
+use Rattle.rfc4180.specs.Rfc4180.{Cell}
 use Rattle.cells.specs.Cells.{no-cell}
-use Rattle.fields.specs.Names.{ContentNamed}
+use Rattle.names.specs.Names.{ContentNamed}
 use Rattle.kinds.specs.Table.{columns, letters}
 use Rattle.kinds.specs.Form.{Means}
 use Rattle.kinds.specs.declared.Columns.{Columns}

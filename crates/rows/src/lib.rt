@@ -12,9 +12,9 @@ use kinds::Row;
 use letters::KindRead;
 ghost use mathlib.Core.Path.{_≡_};
 ghost use mathlib.Core.Bool.{false};
-ghost use Prim.Native.Nat.{ℕ, _+_, _≤_, _<_};
+ghost use Prim.Native.Nat.{_≤_};
 ghost use lib.ListN.{length, drop};
-ghost use Rattle.csv.specs.Rfc4180.{Readable};
+ghost use Rattle.rfc4180.specs.Rfc4180.{Readable};
 ghost use Rattle.keys.specs.Keyed.{no-row};
 ghost use Rattle.rows.specs.Answer.{NumbersAre, FormedAt, SeenAt};
 
@@ -92,13 +92,13 @@ fn unformed() -> Formed
 fn row_of(s: &[u8], places: Cells) -> Formed
     ensures { λ r. ⌜ FormedAt (now (s .entry)) places r ⌝ }
 {
-    let m = fields::name_at(cells::cell(s, places, 0));
+    let m = names::name_at(cells::cell(s, places, 0));
     let good = m.good;
     let member = m.name;
     if !good {
         return unformed();
     }
-    let j = fields::name_at(cells::cell(s, places, 1));
+    let j = names::name_at(cells::cell(s, places, 1));
     let good = j.good;
     let job = j.name;
     if !good {
@@ -127,7 +127,7 @@ pub fn read_row(s: &[u8], start: usize) -> RowRead
     requires { ⌜ Readable (drop start (now s)) ⌝ }
     ensures { λ r. ⌜ SeenAt (now (s .entry)) start r ⌝ }
 {
-    let places = cells::row_at(s, start);
+    let places = places::row_at(s, start);
     let next = places.next;
     let count = places.count;
     if count == 10 {

@@ -8,7 +8,7 @@ use lib.IntN.{ℤ, pos, _+ℤ_, _-ℤ_, _*ℤ_}
 use lib.Pow.{pow-mono}
 use Rattle.signed.specs.declared.Amount.{Amount}
 use Rattle.signed.specs.declared.Parts.{Parts}
-use Rattle.signed.specs.Whole.{worth, above, below, partsOf, times, amount}
+use Rattle.signed.specs.Whole.{worth, above, below, partsOf, times}
 use Rattle.signed.proofs.Laws.{same-parts, parts, add-diffs, add-parts, above-less, below-less, above-more, below-more, above-neg, below-neg, above-twice, below-twice, above-mul, below-mul, above-size, below-size}
 use Rattle.sets.specs.declared.Balance.{Balance}
 use Rattle.sets.specs.declared.Class.{Class}

@@ -1,7 +1,7 @@
 // A book's lines on standard output, once for all programs that print them (document 01, The printed answer).
 //
 // No contract can say what reaches standard output. Which bytes are sent there is said by the promises of
-// `job_text::lines_of` and `refused_book::book_line`, whose blocks are printed here as they come.
+// `debtarush::lines_of` and `refused_book::book_line`, whose blocks are printed here as they come.
 use block::Block;
 use book::Count;
 use jobs::Job;
@@ -25,7 +25,7 @@ fn print_jobs(jobs: [Job; 64], count: usize) {
     while i < 64 {
         if i < count {
             let job = jobs[i];
-            print(job_text::lines_of(job));
+            print(debtarush::lines_of(job));
         }
         i += 1;
     }

@@ -5,7 +5,7 @@ use mathlib.Core.Path.{_≡_, refl, sym, ap, subst, _∙_}
 use mathlib.Core.Bool.{Bool, true}
 use mathlib.Core.List.{List}
 use lib.ListN.{drop}
-use Rattle.csv.specs.Rfc4180.{Readable}
+use Rattle.rfc4180.specs.Rfc4180.{Readable}
 use Rattle.refusals.specs.declared.Refusal.{Refusal}
 use Rattle.refusals.specs.declared.Refusal.the-variants.{TooLong, NotCsv, NoForm, NoPlace, TooMany, UsedKey}
 use Rattle.keys.specs.declared.Keyed.{Keyed}

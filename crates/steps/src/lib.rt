@@ -6,9 +6,9 @@ use jobs::Job;
 use jobs::Took;
 use refusals::Refusal;
 ghost use mathlib.Core.Path.{_≡_};
-ghost use Prim.Native.Nat.{ℕ, _≤_};
+ghost use Prim.Native.Nat.{_≤_};
 ghost use lib.ListN.{length, drop};
-ghost use Rattle.csv.specs.Rfc4180.{Readable};
+ghost use Rattle.rfc4180.specs.Rfc4180.{Readable};
 ghost use Rattle.steps.specs.Step.{way, StepIs};
 
 // What a row does: it is refused, or it joins the job before it, or it starts the next.

@@ -1,81 +1,12 @@
-// The rows of a search in one lent table, 13 numbers each, and the sums of a choice of them.
+// The sums of a choice of the rows of a search, read from one lent table.
 //
-// A search adds rows for each set that it weighs, so they lie side by side in an array of numbers. What is hard is only that what
-// is written is what is read back, and that nothing else moves.
-use sets::Balance;
+// What is hard is that the choice is taken apart bit by bit as the rows are gone through, those from a place on.
 use sets::Sums;
-use signed::Parts;
 ghost use mathlib.Core.Path.{_≡_};
 ghost use Prim.Native.Nat.{ℕ, _+_, _<_, _≤_};
 ghost use Rattle.sets.specs.Sums.{Room};
 ghost use Rattle.choices.specs.Stance.{chosen};
-ghost use Rattle.tables.specs.Table.{rowOf, rowsFrom, Puts};
-
-// The table with the terms of one row written.
-pub fn put_row(table: [u64; 208], j: usize, sums: Sums) -> [u64; 208]
-    requires { ⌜ j < 16 ⌝ }
-    ensures { λ r. ⌜ Puts table j sums r ⌝ }
-{
-    let row = [
-        sums.v.above,
-        sums.v.below,
-        sums.h.above,
-        sums.h.below,
-        sums.m.above,
-        sums.m.below,
-        sums.plus.resisting,
-        sums.plus.overturning,
-        sums.minus.resisting,
-        sums.minus.overturning,
-        sums.winds,
-        sums.quakes,
-        sums.set,
-    ];
-    let mut next = table;
-    let mut f: usize = 0;
-    while f < 13 {
-        next[13 * j + f] = row[f];
-        f = f + 1;
-    }
-    next
-}
-
-fn row_at(table: &[u64; 208], j: usize) -> Sums
-    requires { ⌜ j < 16 ⌝ }
-    ensures { λ r. ⌜ r ≡ rowOf (now (table .entry)) j ⌝ }
-{
-    let i = 13 * j;
-    let v = Parts {
-        above: table[i],
-        below: table[i + 1],
-    };
-    let h = Parts {
-        above: table[i + 2],
-        below: table[i + 3],
-    };
-    let m = Parts {
-        above: table[i + 4],
-        below: table[i + 5],
-    };
-    let plus = Balance {
-        resisting: table[i + 6],
-        overturning: table[i + 7],
-    };
-    let minus = Balance {
-        resisting: table[i + 8],
-        overturning: table[i + 9],
-    };
-    Sums {
-        v,
-        h,
-        m,
-        plus,
-        minus,
-        winds: table[i + 10],
-        quakes: table[i + 11],
-        set: table[i + 12],
-    }
-}
+ghost use Rattle.table_rows.specs.Table.{rowsFrom};
 
 // The sums of a choice of rows of the table, those from a place on, added to the first sums row by row: bit j of the choice is for
 // the j-th of the rows.
@@ -90,7 +21,7 @@ pub fn sums_at(table: &[u64; 208], from: usize, count: usize, choice: u64, first
     let mut j: usize = 0;
     while j < count {
         if rest % 2 == 1 {
-            let row = row_at(table, from + j);
+            let row = table_reads::row_at(table, from + j);
             let more = sets::add_sums(sums, row);
             sums = more;
         }

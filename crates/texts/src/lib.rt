@@ -3,7 +3,7 @@
 // What is hard is that one walk from field to field decides it: from the start of a field, the text is readable exactly
 // if it is from the start of the next.
 use csv::Ended;
-ghost use Rattle.csv.specs.Rfc4180.{Readable};
+ghost use Rattle.rfc4180.specs.Rfc4180.{Readable};
 ghost use Rattle.decides.specs.Decides.{Decides};
 
 // Whether the text is RFC 4180.

@@ -4,14 +4,16 @@ use mathlib.Core.Path.{_≡_, refl, sym, subst, _∙_}
 use mathlib.Core.Bool.{Bool}
 use Rattle.decides.specs.Decides.{Decides, decides-one}
 use Rattle.jobs.specs.declared.Job.{Job}
-use Rattle.clearance.specs.declared.ClearanceAnswer.the-variants as clearance
-use Rattle.river.proofs.Scours.{scoured-one}
-use Rattle.clearance.proofs.Clearances.{cleared-one, told-one}
+use Rattle.levels.specs.declared.ClearanceAnswer.the-variants as clearance
+use Rattle.scour.proofs.Scours.{scoured-one}
+use Rattle.levels.proofs.Told.{told-one}
+use Rattle.clearance.proofs.Clearances.{cleared-one}
 use Rattle.lines.specs.declared.DepthLine.{DepthLine}
 use Rattle.lines.specs.declared.DepthLine.the-variants as depth
 use Rattle.lines.specs.declared.ClearLine.{ClearLine}
 use Rattle.lines.specs.declared.ClearLine.the-variants as clear
-use Rattle.waters.specs.Waters.{DepthIs, AtLeast, ClearShown, ClearIs, RiverSays, large, intense, obstructed, shown}
+use Rattle.river_marks.specs.Marks.{AtLeast}
+use Rattle.waters.specs.Waters.{DepthIs, ClearShown, ClearIs, RiverSays, large, intense, obstructed, shown}
 use Rattle.waters.specs.declared.RiverRead.{RiverRead}
 use Rattle.waters.specs.declared.RiverRead.the-variants.{Shown}
 

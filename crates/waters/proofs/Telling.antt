@@ -2,74 +2,62 @@
 use Prim.Native.Nat.{ℕ, _≤_, _<_}
 use native.Mathlib.Omega.{arith}
 use mathlib.Core.Path.{_≡_, refl, sym, subst}
-use mathlib.Core.Bool.{Bool, true, false}
+use mathlib.Core.Bool.{Bool, true}
 use Rattle.decides.specs.Decides.{Decides, decided, refuted}
-use Rattle.ranges.specs.Range.{value, Ranged}
-use Rattle.kinds.specs.declared.Kind.the-variants.{B, S, C}
+use Rattle.ranges.specs.Range.{value}
 use Rattle.jobs.specs.declared.Job.{Job}
-use Rattle.placing.specs.declared.Stage.{Stage}
-use Rattle.placing.specs.declared.Stage.the-variants.{Unbegun, Dry, Scoured, Crossed}
-use Rattle.river.specs.Scour as scour
+use Rattle.job_ranges.specs.Rows.{HasScour, HasClearance, RowsRanged}
+use Rattle.job_ranges.proofs.Rows.{crossed-scoured}
+use Rattle.scour.specs.Scour as scour
+use Rattle.river.specs.River as river
+use Rattle.levels.specs.Told as told
 use Rattle.clearance.specs.Clear as clearing
-use Rattle.clearance.specs.declared.ClearanceAnswer.the-variants as clearance
-use Rattle.river.proofs.Scours as scours
+use Rattle.river.proofs.River.{says-one}
 use Rattle.clearance.proofs.Clearances as clearances
 use Rattle.lines.specs.declared.DepthLine.{DepthLine}
 use Rattle.lines.specs.declared.DepthLine.the-variants as depth
 use Rattle.lines.specs.declared.ClearLine.the-variants as clear
-use Rattle.waters.specs.Waters.{HasScour, HasClearance, RowsRanged, told-refusal, told-depth, LargeCatchment, TooIntense, OverObstructed, OnRock, DepthShown, DepthIs, AtLeast, Passed, DepthLineIs, RiverSays, large, intense, obstructed, shown}
+use Rattle.scour_told.specs.Numbers.{told-refusal, told-depth}
+use Rattle.river_marks.specs.Marks.{AtLeast}
+use Rattle.waters.specs.Waters.{LargeCatchment, TooIntense, OverObstructed, OnRock, DepthShown, DepthIs, Passed, DepthLineIs, RiverSays, large, intense, obstructed, shown}
 use Rattle.waters.specs.declared.RiverRead.the-variants.{Refused, Shown}
-
--- a C row stands only behind an S row
-pub crossed-scoured : (s : Stage) → HasClearance s → HasScour s
-crossed-scoured Unbegun h = h
-crossed-scoured Dry h = h
-crossed-scoured Scoured h = absurd h
-crossed-scoured Crossed h = h
-
-pub ranged-dry : {job : Job} → Ranged B (job .base) → (HasScour (job .stage) → ⊥) → RowsRanged job
-ranged-dry {job} b n = record { base = b; scour = λ h. absurd (n h); clearance = λ h. absurd (n (crossed-scoured (job .stage) h)) }
-
-pub ranged-crossed : (job : Job) → Ranged B (job .base) → Ranged S (job .scour) → HasClearance (job .stage) → (r : Bool) → Decides r (Ranged C (job .clearance)) → Decides r (RowsRanged job)
-ranged-crossed job b s h true c = record { base = b; scour = λ x. s; clearance = λ x. c }
-ranged-crossed job b s h false n = λ w. n (w .clearance h)
 
 pub dry-shown : (job : Job) → (HasScour (job .stage) → ⊥) → RiverSays job (Shown depth.Missing clear.Missing)
 dry-shown job n = shown {d = depth.Missing} {c = clear.Missing} (record { catchment = λ l. n (l .has); intensity = λ t. n (t .has) }) (λ o. n (crossed-scoured (job .stage) (o .has))) (λ f. n (f .has)) (λ h. n (crossed-scoured (job .stage) h))
 
 -- the S row
 module _ (job : Job) (r : RowsRanged job) (has : HasScour (job .stage)) where
-  says-large : LargeCatchment job → scour.Says (job .scour) (scour.refused 12)
-  says-large l = scour.in-range (r .scour has) (scour.large-catchment (l .above))
+  says-large : LargeCatchment job → river.Says (job .scour) (scour.refused 12)
+  says-large l = river.in-range (r .scour has) (scour.large-catchment (l .above))
 
-  says-intense : TooIntense job → scour.Says (job .scour) (scour.refused 13)
-  says-intense t = scour.in-range (r .scour has) (scour.too-intense (t .constricted) (t .above))
+  says-intense : TooIntense job → river.Says (job .scour) (scour.refused 13)
+  says-intense t = river.in-range (r .scour has) (scour.too-intense (t .constricted) (t .above))
 
   -- a refusal of the row is one of the job
-  pub scour-refused : {t : scour.Told} → scour.Says (job .scour) t → 0 < told-refusal t → RiverSays job (Refused (told-refusal t))
-  scour-refused (scour.out-of-range h) p = absurd (h (r .scour has))
-  scour-refused (scour.in-range k (scour.large-catchment h)) p = large (record { has = has; above = h })
-  scour-refused (scour.in-range k (scour.too-intense {q} c h)) p =
-      intense (λ l. let e = scours.says-one (says-large l) (scour.in-range k (scour.too-intense c h)) in let z : _≡_ {A = ℕ} 12 13 = cc in omega arith)
+  pub scour-refused : {t : scour.Told} → river.Says (job .scour) t → 0 < told-refusal t → RiverSays job (Refused (told-refusal t))
+  scour-refused (river.out-of-range h) p = absurd (h (r .scour has))
+  scour-refused (river.in-range k (scour.large-catchment h)) p = large (record { has = has; above = h })
+  scour-refused (river.in-range k (scour.too-intense {q} c h)) p =
+      intense (λ l. let e = says-one (says-large l) (river.in-range k (scour.too-intense c h)) in let z : _≡_ {A = ℕ} 12 13 = cc in omega arith)
       (record { has = has; q = q; constricted = c; above = h })
-  scour-refused (scour.in-range k (scour.needed l n)) p = absurd (omega arith)
+  scour-refused (river.in-range k (scour.needed l n)) p = absurd (omega arith)
 
   -- and where there is none a depth is needed
-  pub scour-needs : {t : scour.Told} → scour.Says (job .scour) t → told-refusal t ≤ 0 → scour.Says (job .scour) (scour.needs (told-depth t))
-  scour-needs (scour.out-of-range h) p = absurd (omega arith)
-  scour-needs (scour.in-range k (scour.large-catchment h)) p = absurd (omega arith)
-  scour-needs (scour.in-range k (scour.too-intense c h)) p = absurd (omega arith)
-  scour-needs (scour.in-range k (scour.needed l n)) p = scour.in-range k (scour.needed l n)
+  pub scour-needs : {t : scour.Told} → river.Says (job .scour) t → told-refusal t ≤ 0 → river.Says (job .scour) (scour.needs (told-depth t))
+  scour-needs (river.out-of-range h) p = absurd (omega arith)
+  scour-needs (river.in-range k (scour.large-catchment h)) p = absurd (omega arith)
+  scour-needs (river.in-range k (scour.too-intense c h)) p = absurd (omega arith)
+  scour-needs (river.in-range k (scour.needed l n)) p = river.in-range k (scour.needed l n)
 
-  module _ (needed : ℕ) (says : scour.Says (job .scour) (scour.needs needed)) where
+  module _ (needed : ℕ) (says : river.Says (job .scour) (scour.needs needed)) where
     pub scour-passed : Passed job
     scour-passed = record {
-      catchment = λ l. let e = scours.says-one (says-large l) says in let z : _≡_ {A = ℕ} 0 1 = cc in omega arith;
-      intensity = λ t. let e = scours.says-one (says-intense t) says in let z : _≡_ {A = ℕ} 0 1 = cc in omega arith;
+      catchment = λ l. let e = says-one (says-large l) says in let z : _≡_ {A = ℕ} 0 1 = cc in omega arith;
+      intensity = λ t. let e = says-one (says-intense t) says in let z : _≡_ {A = ℕ} 0 1 = cc in omega arith;
     }
 
-    depth-of : scour.Says (job .scour) (scour.needs needed) → scour.Scoured (job .scour .n1 .size) (job .scour .n2 .size) (job .scour .n3 .size) (job .scour .n4 .size) (job .scour .n5 .size) (scour.needs needed)
-    depth-of (scour.in-range k v) = v
+    depth-of : river.Says (job .scour) (scour.needs needed) → scour.Scoured (job .scour .n1 .size) (job .scour .n2 .size) (job .scour .n3 .size) (job .scour .n4 .size) (job .scour .n5 .size) (scour.needs needed)
+    depth-of (river.in-range k v) = v
 
     pub scour-line : (rock : Bool) (found : ℕ) (line : DepthLine) → Decides rock (OnRock job) → found ≡ job .scour .n6 .size → DepthLineIs rock needed found line → DepthIs job line
     scour-line rock found depth.Missing d e w = λ f. f .soil (decided rock w d)
@@ -87,20 +75,20 @@ module _ (job : Job) (r : RowsRanged job) (line : DepthLine) (p : Passed job) (d
     ranged : clearing.RangedWith (job .clearance) (job .scour .n1)
     ranged = record { numbers = r .clearance has; flow = r .scour (crossed-scoured (job .stage) has) .n1 }
 
-    pub clear-ranged : clearing.Says (job .clearance) (job .scour .n1) (clearing.refused 11) → ⊥
+    pub clear-ranged : clearing.Says (job .clearance) (job .scour .n1) (told.refused 11) → ⊥
     clear-ranged (clearing.out-of-range h) = h ranged
 
-    pub clear-obstructed : clearing.Says (job .clearance) (job .scour .n1) (clearing.refused 14) → RiverSays job (Refused 14)
+    pub clear-obstructed : clearing.Says (job .clearance) (job .scour .n1) (told.refused 14) → RiverSays job (Refused 14)
     clear-obstructed (clearing.in-range k (clearing.over-obstructed h)) = obstructed p (record { has = has; above = h })
 
-    module _ (minus : Bool) (size needed : ℕ) (says : clearing.Says (job .clearance) (job .scour .n1) (clearing.given (clearing.signed minus size) needed)) (plain : minus ≡ true → 0 < size) where
+    module _ (minus : Bool) (size needed : ℕ) (says : clearing.Says (job .clearance) (job .scour .n1) (told.given (told.signed minus size) needed)) (plain : minus ≡ true → 0 < size) where
       not-obstructed : OverObstructed job → ⊥
       not-obstructed o =
           let e = clearances.says-one (clearing.in-range ranged (clearing.over-obstructed (o .above))) says in
           let z : _≡_ {A = ℕ} 0 1 = cc in
           omega arith
 
-      value-of : {t : clearing.Told} → clearing.Says (job .clearance) (job .scour .n1) t → t ≡ clearing.given (clearing.signed minus size) needed
+      value-of : {t : told.Told} → clearing.Says (job .clearance) (job .scour .n1) t → t ≡ told.given (told.signed minus size) needed
           → clearing.Cleared (job .clearance .n1 .size) (job .clearance .n2 .size) (job .clearance .n3 .size) (value (job .clearance .n4)) (value (job .clearance .n5)) (job .scour .n1 .size) t
       value-of (clearing.out-of-range h) e = let z : _≡_ {A = ℕ} 0 1 = cc in absurd (omega arith)
       value-of (clearing.in-range k v) e = v

@@ -3,47 +3,22 @@ use Prim.Native.Nat.{ℕ, _≤_, _<_}
 use mathlib.Core.Path.{_≡_}
 use mathlib.Core.Bool.{Bool, true, false}
 use Rattle.decides.specs.Decides.{Decides}
-use Rattle.ranges.specs.Range.{value, Ranged}
-use Rattle.kinds.specs.declared.Kind.the-variants.{B, S, C}
+use Rattle.ranges.specs.Range.{value}
 use Rattle.jobs.specs.declared.Job.{Job}
 use Rattle.placing.specs.declared.Stage.{Stage}
-use Rattle.placing.specs.declared.Stage.the-variants.{Unbegun, Dry, Scoured, Crossed}
-use Rattle.river.specs.Scour as scour
-use Rattle.clearance.specs.Clear.{Cleared, given, signed}
+use Rattle.job_ranges.specs.Rows.{HasScour, HasClearance, RowsRanged}
+use Rattle.scour.specs.Scour as scour
+use Rattle.river.specs.River as river
+use Rattle.clearance.specs.Clear as clearance
+use Rattle.levels.specs.Told.{given, signed, Answers}
+use Rattle.levels.specs.declared.ClearanceAnswer.{ClearanceAnswer}
+use Rattle.river_marks.specs.Marks.{AtLeast}
 use Rattle.lines.specs.declared.DepthLine.{DepthLine}
 use Rattle.lines.specs.declared.DepthLine.the-variants as depth
 use Rattle.lines.specs.declared.ClearLine.{ClearLine}
 use Rattle.lines.specs.declared.ClearLine.the-variants as clear
 use Rattle.waters.specs.declared.RiverRead.{RiverRead}
 use Rattle.waters.specs.declared.RiverRead.the-variants.{Refused, Shown}
-
--- a job with an S row, and one with a C row
-abbrev pub HasScour : Stage → Type 0
-HasScour Unbegun = ⊥
-HasScour Dry = ⊥
-HasScour Scoured = Unit {0}
-HasScour Crossed = Unit {0}
-
-abbrev pub HasClearance : Stage → Type 0
-HasClearance Unbegun = ⊥
-HasClearance Dry = ⊥
-HasClearance Scoured = ⊥
-HasClearance Crossed = Unit {0}
-
--- the numbers of the B, S and C rows that there are
-pub record RowsRanged (job : Job) : Type 0 where
-  pub base : Ranged B (job .base)
-  pub scour : HasScour (job .stage) → Ranged S (job .scour)
-  pub clearance : HasClearance (job .stage) → Ranged C (job .clearance)
-
--- what an S row is told, by its numbers: that of its refusal, and the depth needed; each 0 where there is none
-abbrev pub told-refusal : scour.Told → ℕ
-told-refusal (scour.refused n) = n
-told-refusal (scour.needs needed) = 0
-
-abbrev pub told-depth : scour.Told → ℕ
-told-depth (scour.refused n) = 0
-told-depth (scour.needs needed) = needed
 
 -- 12, catchment above 25,000
 pub record LargeCatchment (job : Job) : Type 0 where
@@ -82,13 +57,9 @@ DepthIs job depth.Missing = Founded job → ⊥
 DepthIs job (depth.Shown needed found passes) = DepthShown job needed found passes
 
 -- CL: with C; value underside - flood - afflux, limit the clearance needed; it needs value >= limit
-abbrev pub AtLeast : Bool → ℕ → ℕ → Type 0
-AtLeast true size needed = ⊥
-AtLeast false size needed = needed ≤ size
-
 pub record ClearShown (job : Job) (minus : Bool) (size needed : ℕ) (passes : Bool) : Type 0 where
   pub has : HasClearance (job .stage)
-  pub value : Cleared (job .clearance .n1 .size) (job .clearance .n2 .size) (job .clearance .n3 .size) (value (job .clearance .n4)) (value (job .clearance .n5)) (job .scour .n1 .size) (given (signed minus size) needed)
+  pub value : clearance.Cleared (job .clearance .n1 .size) (job .clearance .n2 .size) (job .clearance .n3 .size) (value (job .clearance .n4)) (value (job .clearance .n5)) (job .scour .n1 .size) (given (signed minus size) needed)
   pub plain : minus ≡ true → 1 ≤ size
   pub mark : Decides passes (AtLeast minus size needed)
 
@@ -101,6 +72,17 @@ abbrev pub DepthLineIs : Bool → ℕ → ℕ → DepthLine → Type 0
 DepthLineIs rock needed found depth.Missing = rock ≡ true
 DepthLineIs rock needed found (depth.Shown n f passes) = (rock ≡ false) × (n ≡ needed) × (f ≡ found) × Decides passes (needed ≤ found)
 
+-- what a job's rows are told, as the lines are read from it: the S row and the strata, and the C row and the stage
+pub record DepthTold (job : Job) (rock : Bool) (found : ℕ) (told : scour.Told) : Type 0 where
+  pub strata : Decides rock (OnRock job)
+  pub limit : found ≡ job .scour .n6 .size
+  pub says : river.Says (job .scour) told
+
+pub record ClearTold (job : Job) (stage : Stage) (answer : ClearanceAnswer) : Type 0 where
+  pub ranged : RowsRanged job
+  pub come : stage ≡ job .stage
+  pub says : Answers (clearance.Says (job .clearance) (job .scour .n1)) answer
+
 -- what the river rows of a job give, where their numbers are in range: refusals 12 to 14 in their order, or their lines
 pub record Passed (job : Job) : Type 0 where
   pub catchment : LargeCatchment job → ⊥
@@ -111,3 +93,10 @@ pub data RiverSays (job : Job) : RiverRead → Type 0 where
   intense : (LargeCatchment job → ⊥) → TooIntense job → RiverSays job (Refused 13)
   obstructed : Passed job → OverObstructed job → RiverSays job (Refused 14)
   shown : {d : DepthLine} {c : ClearLine} → Passed job → (OverObstructed job → ⊥) → DepthIs job d → ClearIs job c → RiverSays job (Shown d c)
+
+-- whatever job the rows stand in: what a C row adds to the depth line of an S row that is not refused, and what both rows give
+abbrev pub ClearGives : Stage → DepthLine → ClearanceAnswer → RiverRead → Type 0
+ClearGives stage line answer r = (job : Job) → ClearTold job stage answer → Passed job → DepthIs job line → RiverSays job r
+
+abbrev pub RowsGive : Stage → Bool → ℕ → scour.Told → ClearanceAnswer → RiverRead → Type 0
+RowsGive stage rock found told answer r = (job : Job) → DepthTold job rock found told → ClearTold job stage answer → RiverSays job r

@@ -1,3 +1,4 @@
--- What the search is shown by. `Naming` holds what other crates cite.
+-- What the search is shown by. `Naming` and `Sets` hold what other crates cite.
 pub mod Naming
+pub mod Sets
 pub mod Walking

@@ -10,14 +10,15 @@ use Rattle.checks.specs.declared.Base.{Base}
 use Rattle.checks.specs.declared.Check.{Check}
 use Rattle.checks.specs.declared.Check.the-variants.{OP, OM, SL, PR, RK}
 use Rattle.checks.specs.declared.Figure.{Figure}
-use Rattle.checks.specs.Figures.{Shows}
+use Rattle.set_figures.specs.Figures.{Shows}
 use Rattle.checks.specs.Order.{side}
-use Rattle.limits.specs.Limits.{Passes}
-use Rattle.limits.proofs.Passing.{limit-one, passes-better}
-use Rattle.worst.specs.declared.Line.{Line}
-use Rattle.worst.specs.declared.Line.the-variants.{Missing, Shown}
+use Rattle.lines.specs.declared.Line.{Line}
+use Rattle.lines.specs.declared.Line.the-variants.{Missing, Shown}
+use Rattle.passing.specs.Passing.{Passes}
+use Rattle.limits.proofs.Limiting.{limit-one}
+use Rattle.passing.proofs.Passing.{passes-better}
 use Rattle.named.proofs.Unique.{named-figure, named-set}
-use Rattle.worst.specs.declared.Lines.{Lines}
+use Rattle.lines.specs.declared.Lines.{Lines}
 use Rattle.worst.specs.Lines.{Says, line}
 
 -- No second line meets the promise.

@@ -1,10 +1,9 @@
--- The table row by row, and from all choices to what the walk finds.
-use mathlib.Core.Path.{_≡_, refl, sym, _∙_, ap, ap₂, subst, subst⁻¹}
+-- From all choices to what the walk finds.
+use mathlib.Core.Path.{_≡_, refl, sym, _∙_, ap, subst, subst⁻¹}
 use mathlib.Core.Logic.{_⊎_, inl, inr, ⊎-elim}
 use mathlib.Core.Bool.{Bool, true, false}
-use Prim.Native.Nat.{ℕ, zero, suc, _+_, _-_, _^_, _≤_, _<_}
+use Prim.Native.Nat.{ℕ, _+_, _-_, _^_, _<_}
 use native.Mathlib.Omega.{arith}
-use native.Mathlib.Numerals.{add-one}
 use native.Mathlib.Nat.{lt-of-lt-of-le}
 use native.Mathlib.Decide.{decLt}
 use lib.Pow.{pow-mono}
@@ -13,117 +12,30 @@ use Rattle.sets.specs.declared.Combination.{Combination}
 use Rattle.sets.specs.declared.Loads.{Loads}
 use Rattle.sets.specs.declared.Sums.{Sums}
 use Rattle.sets.specs.Sets.{row, Bounded, Opens, Permitted, Admits, RowFits}
-use Rattle.sets.specs.Sums.{noSums, sumsOf, Room}
-use Rattle.sets.proofs.Adding.{room-none, room-add, room-more, room-row, low-place}
+use Rattle.sets.specs.Sums.{sumsOf}
 use Rattle.permits.proofs.Permits.{Fit, permits, admitted}
 use Rattle.checks.specs.declared.Base.{Base}
 use Rattle.checks.specs.declared.Check.{Check}
 use Rattle.checks.specs.declared.Check.the-variants.{OP, OM, SL, PR, RK}
 use Rattle.checks.specs.declared.Figure.{Figure}
-use Rattle.checks.specs.Figures.{Shows, Judged}
-use Rattle.checks.specs.Order.{side, rank}
-use Rattle.limits.specs.Limits.{Service, HasCheck}
-use Rattle.checks.proofs.Showing.{judged-shows, shows-one, ranks-map}
+use Rattle.set_figures.specs.Figures.{Shows, Judged}
+use Rattle.checks.specs.Order.{side}
+use Rattle.service.specs.Service.{Service, HasCheck}
+use Rattle.checks.proofs.Ranking.{ranks-map}
+use Rattle.set_figures.proofs.Showing.{judged-shows, shows-one}
 use Rattle.named.specs.declared.Best.{Best}
-use Rattle.named.specs.declared.Mark.{Mark}
-use Rattle.choices.specs.declared.Stance.{Stance}
-use Rattle.choices.specs.declared.Stance.the-variants.{Never, Always, Either}
-use Rattle.worst.specs.declared.Table.{Table}
-use Rattle.choices.specs.Stance.{next, free, pick, fixedBy, fixed, chosen}
-use Rattle.named.specs.Marks.{Offered}
-use Rattle.choices.specs.Stance.{rowTerms, stanceAt}
-use Rattle.named.specs.Weighs.{markOf, Weighed}
-use Rattle.tables.specs.Table.{rowOf}
-use Rattle.worst.specs.Search.{Visits, Grows, Filled, Walked}
+use Rattle.marks.specs.declared.Mark.{Mark}
+use Rattle.filling.specs.declared.Table.{Table}
+use Rattle.marks.specs.Marks.{Offered}
+use Rattle.choices.specs.Stance.{free, pick, chosen, stanceAt}
+use Rattle.named.specs.Weighs.{markOf, Weighed, Weighs}
+use Rattle.table_rows.specs.Table.{rowOf}
+use Rattle.visits.specs.Visits.{Visits}
+use Rattle.filling.specs.Filling.{Filled}
+use Rattle.worst.specs.Search.{Walked}
 use Rattle.named.proofs.Weights.{Extends, nothing-yet, offer, skip, ends-named, ends-empty}
-use Rattle.choices.proofs.Choices.{next-le, free-room, pick-low, pick-bit, Stands, Made, made, sums-number, Tabled, pick-sums}
+use Rattle.choices.proofs.Choices.{pick-low, pick-bit, Stands, Made, made, sums-number, Tabled, pick-sums}
 use Rattle.choices.proofs.Rows.{stance-says, held-never, held-always, stance-fits}
-
--- ---- the table, one row more
-module _ (combination : Combination) (width : ℕ) (loads : Loads) where
-  pub filled-none : (table : Table) → table .free ≡ 0 → table .fixed ≡ noSums → Filled combination width loads 0 table
-  unfolding free fixed
-  filled-none table e f = record { count = e; always = f; rows = λ i h. absurd (omega arith) }
-
-  free-step : (i n : ℕ) → i < n → stanceAt combination loads i ≡ Either → free (stanceAt combination loads) i < free (stanceAt combination loads) n
-  unfolding free next
-  free-step i zero h e = absurd (omega arith)
-  free-step i (suc n) h e = go (λ l. free-step i n l e) (decLt i n)
-    where
-      go : (i < n → free (stanceAt combination loads) i < free (stanceAt combination loads) n) → Dec (i < n)
-          → free (stanceAt combination loads) i < next (stanceAt combination loads n) (free (stanceAt combination loads) n)
-      go before (yes l) = lt-of-lt-of-le (before l) (next-le (stanceAt combination loads n) (free (stanceAt combination loads) n))
-      go before (no l) =
-          let d : i ≡ n = omega arith in
-          let f : stanceAt combination loads n ≡ Either = subst (λ (j : ℕ). stanceAt combination loads j ≡ Either) d e in
-          subst (λ (j : ℕ). free (stanceAt combination loads) j < next (stanceAt combination loads n) (free (stanceAt combination loads) n)) (sym d)
-          (subst⁻¹ (λ (a : Stance). free (stanceAt combination loads) n < next a (free (stanceAt combination loads) n)) f (omega arith))
-
-  pub filled-more : (n : ℕ) {table r : Table} {a : Stance} {sums : Sums} → Filled combination width loads n table → a ≡ stanceAt combination loads n → sums ≡ rowTerms width loads n
-      → Grows table a sums r → Filled combination width loads (n + 1) r
-  unfolding free fixed
-  filled-more n {table} {r} {a} {sums} f e d g =
-      subst⁻¹ (λ (m : ℕ). Filled combination width loads m r) (add-one n)
-      (record {
-        count = g .count ∙ ap₂ next e (f .count);
-        always = g .always ∙ (λ i. fixedBy (e i) (f .always i) (d i));
-        rows = λ i h s. go i s (decLt i n) (omega arith);
-      })
-    where
-      go : (i : ℕ) → stanceAt combination loads i ≡ Either → Dec (i < n) → i ≤ n → rowOf (r .terms) (free (stanceAt combination loads) i) ≡ rowTerms width loads i
-      go i s (yes l) h = g .others (free (stanceAt combination loads) i) (subst (λ (m : ℕ). free (stanceAt combination loads) i < m) (sym (f .count)) (free-step i n l s)) ∙ f .rows i l s
-      go i s (no l) h =
-          let k : i ≡ n = omega arith in
-          subst (λ (j : ℕ). rowOf (r .terms) (free (stanceAt combination loads) j) ≡ rowTerms width loads j) (sym k)
-          (ap (rowOf (r .terms)) (sym (f .count)) ∙ g .own (e ∙ subst (λ (j : ℕ). stanceAt combination loads j ≡ Either) k s) ∙ d)
-
-  -- ---- sizes
-  module _ (wide : width ≤ 30000) (b : Bounded loads) where
-    pub terms-room : (i : ℕ) → i < loads .count → Room 1 (rowTerms width loads i)
-    unfolding rowTerms
-    terms-room i h = room-row width (row loads i) wide (b .each i h) (2 ^ i) (low-place i (omega (arith, b .count)))
-
-    fixed-room-by : (a : Stance) (n : ℕ) (s t : Sums) → Room n s → Room 1 t → Room (suc n) (fixedBy a s t)
-    unfolding fixedBy
-    fixed-room-by Never n s t p q = room-more (omega arith) p
-    fixed-room-by Always n s t p q = room-more (omega arith) (room-add p q)
-    fixed-room-by Either n s t p q = room-more (omega arith) p
-
-    pub fixed-room : (n : ℕ) → n ≤ loads .count → Room n (fixed (stanceAt combination loads) (rowTerms width loads) n)
-    unfolding fixed
-    fixed-room zero h = room-none 0
-    fixed-room (suc n) h =
-        fixed-room-by (stanceAt combination loads n) n _ _ (fixed-room n (omega arith)) (terms-room n (omega arith))
-
--- every place of the table that is in use is that of a free row
-free-onto : (stance : ℕ → Stance) (n j : ℕ) → j < free stance n → (i : ℕ) × (i < n) × (stance i ≡ Either) × (free stance i ≡ j)
-unfolding free next
-free-onto stance zero j h = absurd (omega arith)
-free-onto stance (suc n) j h = go (stance n) refl (λ l. free-onto stance n j l) h
-  where
-    Found-at : Type 0
-    Found-at = (i : ℕ) × (i < suc n) × (stance i ≡ Either) × (free stance i ≡ j)
-
-    below : ((i : ℕ) × (i < n) × (stance i ≡ Either) × (free stance i ≡ j)) → Found-at
-    below w = (w .0, omega (arith, w .1), w .2, w .3)
-
-    own : stance n ≡ Either → (j < free stance n → Found-at) → j < suc (free stance n) → Dec (j < free stance n) → Found-at
-    own e before l (yes k) = before k
-    own e before l (no k) = (n, omega arith, e, omega arith)
-
-    go : (a : Stance) → stance n ≡ a → (j < free stance n → (i : ℕ) × (i < n) × (stance i ≡ Either) × (free stance i ≡ j)) → j < next a (free stance n) → Found-at
-    go Never e before l = below (before l)
-    go Always e before l = below (before l)
-    go Either e before l = own e (λ k. below (before k)) l (decLt j (free stance n))
-
-pub filled-room : (combination : Combination) (width : ℕ) (loads : Loads) (table : Table) → width ≤ 30000 → Bounded loads → Filled combination width loads (loads .count) table
-    → (j : ℕ) → j < table .free → Room 1 (rowOf (table .terms) j)
-filled-room combination width loads table w b f j h =
-    let i = free-onto (stanceAt combination loads) (loads .count) j (subst (λ (m : ℕ). j < m) (f .count) h) in
-    subst (λ (x : ℕ). Room 1 (rowOf (table .terms) x)) (i .3) (subst⁻¹ (Room 1) (f .rows (i .0) (i .1) (i .2)) (terms-room combination width loads w b (i .0) (i .1)))
-
-pub filled-few : (combination : Combination) (width : ℕ) (loads : Loads) (table : Table) → Bounded loads → Filled combination width loads (loads .count) table → table .free ≤ 16
-filled-few combination width loads table b f = omega (arith, f .count, free-room (stanceAt combination loads) (loads .count), b .count)
 
 -- ---- the choices gone through, and what is found over all of them
 -- the set of choice k, and the sets of the first n choices
@@ -183,12 +95,12 @@ module _ (combination : Combination) (base : Base) (loads : Loads) (bounded : Bo
       admits = (λ i. Admits combination ((e i) .winds) ((e i) .quakes) (number i))
 
       inside : Admits combination (sums .winds) (sums .quakes) (sums .set)
-          × ((check : Check) → Weighed full rock check → Offered (side check) (Judged check base sums) (markOf check b) (sums .set) (markOf check r))
+          × Weighs full rock base sums b r
           → Extends (side check) (Permitted combination loads) (Shows check base loads) (Passed combination loads (n + 1)) none (markOf check r)
       inside w =
           offer (side check) (Permitted combination loads) (Shows check base loads) (setOf combination loads n) (so check on) (passed-more n)
           (permits (base .width) loads (setOf combination loads n) combination (fits n) opens (subst (λ (A : Type 0). A) admits (w .0)))
-          (shown (w .1 check on))
+          (shown (w .1 .offered check on))
         where
           shown : Offered (side check) (Judged check base sums) (markOf check b) (sums .set) (markOf check r) → Offered (side check) (Shows check base loads (setOf combination loads n)) (markOf check b) (setOf combination loads n) (markOf check r)
           shown o =

@@ -9,12 +9,14 @@ use Rattle.checks.specs.declared.Base.{Base}
 use Rattle.checks.specs.declared.Check.{Check}
 use Rattle.checks.specs.declared.Check.the-variants.{OP, OM, SL, PR, RK}
 use Rattle.checks.specs.declared.Figure.{Figure}
-use Rattle.checks.specs.Figures.{Shows}
+use Rattle.set_figures.specs.Figures.{Shows}
 use Rattle.checks.specs.Order.{side}
-use Rattle.limits.specs.Limits.{Limit, HasCheck, Passes}
-use Rattle.worst.specs.declared.Line.{Line}
-use Rattle.worst.specs.declared.Line.the-variants.{Missing, Shown}
-use Rattle.worst.specs.declared.Lines.{Lines}
+use Rattle.limits.specs.Limits.{Limit}
+use Rattle.lines.specs.declared.Line.{Line}
+use Rattle.lines.specs.declared.Line.the-variants.{Missing, Shown}
+use Rattle.lines.specs.declared.Lines.{Lines}
+use Rattle.service.specs.Service.{HasCheck}
+use Rattle.passing.specs.Passing.{Passes}
 use Rattle.named.specs.Named.{Named}
 
 -- value, limit, set, Y or N

@@ -5,129 +5,20 @@
 // before the one that is named.
 use checks::Base;
 use checks::Check;
-use checks::Figure;
-use choices::Stance;
+use lines::Line;
+use lines::Lines;
+use marks::Mark;
 use named::Best;
-use named::Mark;
 use sets::Combination;
 use sets::Loads;
-use sets::Sums;
-ghost use Prim.Native.Nat.{_<_, _≤_};
+ghost use Prim.Native.Nat.{_≤_};
 ghost use Rattle.sets.specs.Sets.{Bounded, Opens};
-ghost use Rattle.sets.specs.Sums.{Room};
-ghost use Rattle.checks.specs.Figures.{Sized};
-ghost use Rattle.limits.specs.Limits.{HasCheck};
-ghost use Rattle.named.specs.Weighs.{Low};
+ghost use Rattle.checks.specs.Sized.{Sized};
+ghost use Rattle.service.specs.Service.{HasCheck};
 ghost use Rattle.worst.specs.Lines.{Says, line};
-ghost use Rattle.worst.specs.Search.{Visits, Grows, Filled, Found, Walked};
-
-// The rows of a combination: the terms of its free rows, 13 numbers each, how many they are, and the sums of the rows in every set.
-pub struct Table {
-    pub terms: [u64; 208],
-    pub free: usize,
-    pub fixed: Sums,
-}
-
-// The line of a check: value, limit, set, and whether it says Y.
-pub enum Line {
-    Missing,
-    Shown {
-        figure: Figure,
-        limit: u64,
-        set: u64,
-        passes: bool,
-    },
-}
-
-pub struct Lines {
-    pub op: Line,
-    pub om: Line,
-    pub sl: Line,
-    pub pr: Line,
-    pub rk: Line,
-}
+ghost use Rattle.worst.specs.Search.{Found, Walked};
 
 const TOP: u64 = 18446744073709551615;
-
-// The best so far with one choice more: the one place that decides whether its set is permitted.
-fn visit(
-    combination: Combination,
-    full: bool,
-    rock: bool,
-    base: Base,
-    sums: Sums,
-    best: Best,
-) -> Best
-    requires { ⌜ Sized base ⌝ }
-    requires { ⌜ Room 16 sums ⌝ }
-    requires { ⌜ sums .set < 65536 ⌝ }
-    requires { ⌜ Low best ⌝ }
-    ensures { λ r. ⌜ Visits combination full rock base sums best r ⌝ }
-{
-    if !permits::admits(combination, sums.winds, sums.quakes, sums.set) {
-        return best;
-    }
-    named::weigh(full, rock, base, sums, best)
-}
-
-// The table with one row more.
-fn grown(table: Table, stance: Stance, sums: Sums) -> Table
-    requires { ⌜ table .free < 16 ⌝ }
-    requires { ⌜ Room 64 (table .fixed) ⌝ }
-    requires { ⌜ Room 64 sums ⌝ }
-    ensures { λ r. ⌜ Grows table stance sums r ⌝ }
-{
-    let terms = table.terms;
-    let free = table.free;
-    let fixed = table.fixed;
-    match stance {
-        Stance::Never => table,
-        Stance::Always => {
-            let more = sets::add_sums(fixed, sums);
-            Table {
-                terms,
-                free,
-                fixed: more,
-            }
-        }
-        Stance::Either => {
-            let next = tables::put_row(terms, free, sums);
-            Table {
-                terms: next,
-                free: free + 1,
-                fixed,
-            }
-        }
-    }
-}
-
-// The table of a combination.
-fn fill(combination: Combination, width: u64, loads: Loads) -> Table
-    requires { ⌜ width ≤ 30000 ⌝ }
-    requires { ⌜ Bounded loads ⌝ }
-    ensures { λ r. ⌜ Filled combination width loads (loads .count) r ⌝ }
-{
-    let count = loads.count;
-    let terms = [0u64; 208];
-    let fixed = sets::no_sums();
-    let mut table = Table {
-        terms,
-        free: 0,
-        fixed,
-    };
-    let mut place: u64 = 1;
-    let mut i: usize = 0;
-    while i < count {
-        let load = loads.loads[i];
-        let stance = choices::stance_of(combination, load);
-        let sums = sets::terms_of(width, load, place);
-        let next = grown(table, stance, sums);
-        table = next;
-        place = 2 * place;
-        i = i + 1;
-    }
-    table
-}
 
 // The best of all choices: every permitted set of the combination is one of them. The first rows, a quarter of them, change most
 // often, so the sums of the others are added once for all choices that differ in the first alone.
@@ -137,9 +28,9 @@ fn walk(combination: Combination, base: Base, loads: Loads) -> Best
     requires { ⌜ Opens combination loads ⌝ }
     ensures { λ r. ⌜ Walked combination base loads r ⌝ }
 {
-    let full = limits::serves(combination);
+    let full = service::serves(combination);
     let rock = base.rock;
-    let table = fill(combination, base.width, loads);
+    let table = filling::fill(combination, base.width, loads);
     let terms = table.terms;
     let free = table.free;
     let fixed = table.fixed;
@@ -162,7 +53,7 @@ fn walk(combination: Combination, base: Base, loads: Loads) -> Best
             upper = part;
         }
         let sums = tables::sums_at(&terms, 0, low, k % step, upper);
-        let next = visit(combination, full, rock, base, sums, best);
+        let next = visits::visit(combination, full, rock, base, sums, best);
         best = next;
         k = k + 1;
     }
@@ -175,7 +66,7 @@ fn line_at(combination: Combination, check: Check, base: Base, loads: Loads, mar
     requires { ⌜ (HasCheck combination check base → Found combination check base loads mark) ⌝ }
     ensures { λ r. ⌜ Says combination check base loads r ⌝ }
 {
-    if !limits::has_check(combination, check, base) {
+    if !service::has_check(combination, check, base) {
         return Line::Missing;
     }
     let set = mark.set;
@@ -184,7 +75,7 @@ fn line_at(combination: Combination, check: Check, base: Base, loads: Loads, mar
     }
     let figure = checks::figure_at(check, mark.rank);
     let limit = limits::limit_of(combination, check, base);
-    let passes = limits::passes(check, limit, figure);
+    let passes = passing::passes(check, limit, figure);
     Line::Shown {
         figure,
         limit,
@@ -199,7 +90,7 @@ pub fn worst_lines(combination: Combination, base: Base, loads: Loads) -> Lines
     requires { ⌜ Bounded loads ⌝ }
     ensures { λ r. ⌜ ((check : Check) → Says combination check base loads (line check r)) ⌝ }
 {
-    if !permits::opens(combination, loads) {
+    if !erection::opens(combination, loads) {
         return Lines {
             op: Line::Missing,
             om: Line::Missing,

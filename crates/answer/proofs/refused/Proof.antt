@@ -1,5 +1,5 @@
 use mathlib.Core.Path.{ap}
-use Rattle.worst.specs.declared.Lines.{Lines}
+use Rattle.lines.specs.declared.Lines.{Lines}
 use Rattle.lines.specs.declared.Verdict.the-variants.{Refused}
 use Rattle.lines.specs.declared.DepthLine.the-variants as depth
 use Rattle.lines.specs.declared.ClearLine.the-variants as clear

@@ -1,19 +1,17 @@
-use Prim.Native.Nat.{ℕ, _-_, _≤_}
+use Prim.Native.Nat.{ℕ, _-_, _≤_, _<_}
 use native.Mathlib.Omega.{arith}
 use mathlib.Core.Path.{_≡_, refl, ap, subst}
 use mathlib.Core.Logic.{⊎-elim}
 use mathlib.Core.Bool.{true}
 use mathlib.Core.List.{List}
-use lib.ListN.{length, replicate}
+use lib.ListN.{length, set, replicate}
 use borrow.Author.Needs.{needs}
-use Rattle.decides.specs.Decides.{decided, refuted}
 use Rattle.keys.specs.declared.Key.{Key}
 use Rattle.jobs.specs.declared.Job.{Job}
-use Rattle.refusals.specs.declared.Refusal.the-variants.{TooMany, UsedKey}
 use Rattle.steps.specs.Step.{Goes}
 use Rattle.steps.specs.declared.Way.{Way}
 use Rattle.steps.specs.declared.Way.the-variants.{Refused, Joined, Started}
-use Rattle.book.proofs.Walking.{Walk, walk-start, walk-on, walk-refused, walk-surplus, walk-reused, walk-some, After, walk-joined, walk-started, walk-more, walk-end, refused-is}
+use Rattle.book.proofs.Walking.{Walk, walk-start, walk-on, walk-refused, walk-barred, begun-new, walk-some, After, walk-joined, walk-started, walk-more, walk-end, refused-is}
 use Rattle.book.proofs.read_rows.Statement.{statement}
 use Rattle.book.proofs.read_rows.Tie as tie
 
@@ -27,34 +25,42 @@ abbrev μ-loop : tie.MeasureT-loop
 goes : (c : tie.After-step-at Inv-loop μ-loop) (w : Way) → c .step-at .result .way ≡ w → Goes (c .before .loop .job) (c .step-at .ensures .good) (c .step-at .ensures .keyed) w (c .step-at .result .job)
 goes c w e = subst (λ (w : Way). Goes (c .before .loop .job) (c .step-at .ensures .good) (c .step-at .ensures .keyed) w (c .step-at .result .job)) e (c .step-at .ensures .goes)
 
--- behind the row, which has a form
-record Behind (c : tie.After-step-at Inv-loop μ-loop) (vs : List Job) (ks : List Key) (m : ℕ) : Type 0 where
+-- behind the row, which has a form and is the last job's
+record Behind (c : tie.After-step-at Inv-loop μ-loop) (ks : List Key) (m : ℕ) : Type 0 where
   good : c .step-at .ensures .good ≡ true
-  after : After (c .before .loop .inv) (c .step-at .ensures .seen) good (c .step-at .result .job) vs ks m
+  after : After (c .before .loop .inv) (c .step-at .ensures .seen) good (c .step-at .result .job) (set (c .before .loop .jobs) (m - 1) (c .step-at .result .job)) ks m
+  some : 1 ≤ m
+  few : m ≤ 64
 
 -- whichever way it was taken
-behind : (c : tie.At-match-came Inv-loop μ-loop) → Behind (c .before .before) (c .match .jobs) (c .match .keys) (c .match .n)
+behind : (c : tie.At-match-came Inv-loop μ-loop) → Behind (c .before .before) (c .match .keys) (c .match .n)
 behind c =
     let step = c .before .before in
     let seen = step .step-at .ensures .seen in
     ⊎-elim
     (λ w.
     let g = goes step Joined (w .1 .given .1) in
-    rw (w .2, w .3, w .4) (record { good = g .0; after = walk-joined (step .before .loop .inv) seen (g .0) _ (g .1) }))
+    let m = walk-some (step .before .loop .inv) seen (g .0) _ (g .1) in
+    rw (w .2, w .3) (record { good = g .0; after = walk-joined (step .before .loop .inv) seen (g .0) _ (g .1); some = m .0; few = m .1 }))
     (λ w.
     let g = goes step Started (w .1 .given .1) in
-    rw (w .6, w .7, w .8)
-    (record { good = g .0; after = walk-started (step .before .loop .inv) seen (g .0) _ (g .1) (w .2 .left) (refuted (w .4 .result) (w .5 .left) (w .4 .ensures)) }))
+    let new = begun-new (w .3 .ensures) (w .5 .given .1) in
+    let few = new .0 in
+    rw (w .6, w .7)
+    (record { good = g .0; after = walk-started (step .before .loop .inv) seen (g .0) _ (g .1) (new .0) (new .1); some = omega arith; few = omega arith }))
     (c .match .came)
 
 blank-job-requires : tie.Need-blank-job-requires Inv-loop μ-loop
 blank-job-requires c κs = search needs
 
+no-keys-requires : tie.Need-no-keys-requires Inv-loop μ-loop
+no-keys-requires c κs = search needs
+
 loop-holds : tie.Need-loop-holds Inv-loop μ-loop
 loop-holds c =
     let e = c .before .blank-job .ensures in
-    walk-start (c .before .before .before .pre .0) (c .before .before .before .pre .1)
-    (record { many = refl; keys = ap (λ (j : Job). replicate 64 (j .key)) e; jobs = ap (λ (j : Job). replicate 64 j) e; job = e })
+    let start = c .before .before .before in
+    walk-start (start .pre .0) (start .pre .1) (record { many = refl; keys = c .no-keys .ensures; jobs = ap (λ (j : Job). replicate 64 j) e; job = e })
 
 step-at-requires : tie.Need-step-at-requires Inv-loop μ-loop
 step-at-requires c κs = (c .loop .inv .within, record { rows = _; reading = c .loop .inv .here })
@@ -68,102 +74,96 @@ refused-requires c κs = search needs
 returns : tie.Need-returns Inv-loop μ-loop
 returns c =
     let step = c .before .before .before .before .before in
-    let e = step .step-at .ensures in
-    refused-is (c .refused .result) (c .before .before .way .given .0 .0) _ (c .refused .ensures) (walk-refused (step .before .loop .inv) (e .seen) (c .before .before .way .given .0 .0) (goes step (Refused (c .before .before .way .given .0 .0)) (c .before .before .way .given .1) .0))
-
--- a row that joins the last job finds one
-some-job : (c : tie.After-enum-told Inv-loop μ-loop) → (1 ≤ c .before .before .before .before .loop .n) × (c .before .before .before .before .loop .n ≤ 64)
-some-job c =
-    let step = c .before .before .before in
-    let g = goes step Joined (c .enum-told .given .1) in
-    walk-some (step .before .loop .inv) (step .step-at .ensures .seen) (g .0) _ (g .1)
+    let why = c .before .before .way .given .0 .0 in
+    refused-is (c .refused .result) why _ (c .refused .ensures) (walk-refused (step .before .loop .inv) (step .step-at .ensures .seen) why (goes step (Refused why) (c .before .before .way .given .1) .0))
 
 enum-told : tie.Need-enum-told Inv-loop μ-loop
 enum-told c = search needs
 
-sub-last : tie.Need-sub-last Inv-loop μ-loop
-sub-last c = some-job c .0
-
-mul-jobs : tie.Need-mul-jobs Inv-loop μ-loop
-mul-jobs c = let few = some-job c .1 in omega arith
-
-array-set-from-jobs : tie.Need-array-set-from-jobs Inv-loop μ-loop
-array-set-from-jobs c = let few = some-job c .1 in omega arith
-
 enum-told-2 : tie.Need-enum-told-2 Inv-loop μ-loop
 enum-told-2 c = search needs
+
+begins-requires : tie.Need-begins-requires Inv-loop μ-loop
+begins-requires c κs = search needs
+
+enum-known-why : tie.Need-enum-known-why Inv-loop μ-loop
+enum-known-why c = search needs
 
 refused-requires-2 : tie.Need-refused-requires-2 Inv-loop μ-loop
 refused-requires-2 c κs = search needs
 
 returns-2 : tie.Need-returns-2 Inv-loop μ-loop
 returns-2 c =
-    let step = c .before .before .before .before .before in
-    let g = goes step Started (c .before .before .enum-told2 .given .1) in
-    refused-is (c .refused2 .result) TooMany _ (c .refused2 .ensures) (walk-surplus (step .before .loop .inv) (step .step-at .ensures .seen) (g .0) _ (g .1) (c .before .if1 .taken))
+    let tested = c .before .before .before .before in
+    let row = tested .before .before in
+    let step = row .before .before .before in
+    let why = c .before .before .why .given .0 .0 in
+    let g = goes step Started (row .enum-told2 .given .1) in
+    refused-is (c .refused2 .result) why _ (c .refused2 .ensures) (walk-barred (step .before .loop .inv) (step .step-at .ensures .seen) (g .0) _ (g .1) why (tested .begins .ensures) (c .before .before .why .given .1))
 
-is-used-requires : tie.Need-is-used-requires Inv-loop μ-loop
-is-used-requires c κs = let few = c .before .if1 .left in omega arith
+enum-told-3 : tie.Need-enum-told-3 Inv-loop μ-loop
+enum-told-3 c = search needs
 
-refused-requires-3 : tie.Need-refused-requires-3 Inv-loop μ-loop
-refused-requires-3 c κs = search needs
+-- a job that begins is one of 64
+begun-few : (c : tie.After-enum-told3 Inv-loop μ-loop) → c .before .before .before .before .before .before .before .before .loop .n < 64
+begun-few c = begun-new (c .before .before .begins .ensures) (c .enum-told3 .given .1) .0
+
+mul-keys : tie.Need-mul-keys Inv-loop μ-loop
+mul-keys c = let few = begun-few c in omega arith
+
+array-set-from-keys : tie.Need-array-set-from-keys Inv-loop μ-loop
+array-set-from-keys c = let few = begun-few c in omega arith
+
+add-n : tie.Need-add-n Inv-loop μ-loop
+add-n c = let few = begun-few c in omega arith
+
+sub-jobs : tie.Need-sub-jobs Inv-loop μ-loop
+sub-jobs c = behind (c .before) .some
+
+mul-jobs : tie.Need-mul-jobs Inv-loop μ-loop
+mul-jobs c = let few = behind (c .before) .few in omega arith
+
+array-set-from-jobs : tie.Need-array-set-from-jobs Inv-loop μ-loop
+array-set-from-jobs c =
+    let b = behind (c .before) in
+    let few = b .few in
+    let some = b .some in
+    omega arith
+
+-- no row is counted that has no byte
+module _ (c : tie.After-row-known Inv-loop μ-loop) where
+  counted : c .before .before .before .before .loop .row ≤ 65537
+  counted =
+      let w = c .before .before .before .before .loop .inv in
+      let few = w .few in
+      let within = w .within in
+      let size = w .size in
+      omega arith
+
+ended-requires : tie.Need-ended-requires Inv-loop μ-loop
+ended-requires c κs = counted (c .before)
 
 returns-3 : tie.Need-returns-3 Inv-loop μ-loop
 returns-3 c =
-    let step = c .before .before .before .before .before .before .before .before in
-    let g = goes step Started (c .before .before .before .before .before .enum-told2 .given .1) in
-    refused-is (c .refused3 .result) UsedKey _ (c .refused3 .ensures)
-    (walk-reused (step .before .loop .inv) (step .step-at .ensures .seen) (g .0) _ (g .1) (c .before .before .before .before .if1 .left) (decided (c .before .before .is-used .result) (c .before .if2 .taken) (c .before .before .is-used .ensures)))
-
-mul-keys : tie.Need-mul-keys Inv-loop μ-loop
-mul-keys c = let few = c .before .before .before .if1 .left in omega arith
-
-array-set-from-keys : tie.Need-array-set-from-keys Inv-loop μ-loop
-array-set-from-keys c = let few = c .before .before .before .if1 .left in omega arith
-
-mul-jobs-2 : tie.Need-mul-jobs-2 Inv-loop μ-loop
-mul-jobs-2 c = let few = c .before .before .before .if1 .left in omega arith
-
-array-set-from-jobs-2 : tie.Need-array-set-from-jobs-2 Inv-loop μ-loop
-array-set-from-jobs-2 c = let few = c .before .before .before .if1 .left in omega arith
-
-add-n : tie.Need-add-n Inv-loop μ-loop
-add-n c = let few = c .before .before .before .if1 .left in omega arith
-
-ended-requires : tie.Need-ended-requires Inv-loop μ-loop
-ended-requires c κs =
-    let w = c .before .before .before .before .loop .inv in
-    let few = w .few in
-    let within = w .within in
-    let size = w .size in
-    omega arith
-
-returns-4 : tie.Need-returns-4 Inv-loop μ-loop
-returns-4 c =
-    let step = c .before .before .before .before in
-    let b = behind (c .before .before) in
-    walk-end (step .before .loop .inv) (step .step-at .ensures .seen) (b .good) (b .after) (c .before .if3 .taken) (c .ended .result) (c .ended .ensures)
+    let step = c .before .before .before .before .before in
+    let b = behind (c .before .before .before) in
+    walk-end (step .before .loop .inv) (step .step-at .ensures .seen) (b .good) (b .after) (c .before .if1 .taken) (c .ended .result) (c .ended .ensures)
 
 add-row : tie.Need-add-row Inv-loop μ-loop
-add-row c =
-    let w = c .before .before .before .before .loop .inv in
-    let few = w .few in
-    let within = w .within in
-    let size = w .size in
-    omega arith
+add-row c = let few = counted (c .before) in omega arith
 
 loop-less : tie.Need-loop-less Inv-loop μ-loop
 loop-less c =
-    let step = c .before .before .before in
-    let on = walk-on (step .before .loop .inv) (step .step-at .ensures .seen) (c .if3 .left) in
-    let more = c .if3 .left in
+    let step = c .before .before .before .before in
+    let on = walk-on (step .before .loop .inv) (step .step-at .ensures .seen) (c .if1 .left) in
+    let more = c .if1 .left in
     omega arith
 
 loop-again : tie.Need-loop-again Inv-loop μ-loop
 loop-again c =
-    let step = c .before .before .before in
-    let b = behind (c .before) in
-    walk-more (step .before .loop .inv) (step .step-at .ensures .seen) (b .good) (b .after) (c .if3 .left)
+    let step = c .before .before .before .before in
+    let b = behind (c .before .before) in
+    walk-more (step .before .loop .inv) (step .step-at .ensures .seen) (b .good) (b .after) (c .if1 .left)
 
 pub read-rows-spec : {M : Type 1} → statement M
 read-rows-spec =
@@ -172,28 +172,27 @@ read-rows-spec =
     Inv-loop
     μ-loop
     blank-job-requires
+    no-keys-requires
     loop-holds
     step-at-requires
     enum-known-way
     refused-requires
     returns
     enum-told
-    sub-last
-    mul-jobs
-    array-set-from-jobs
     enum-told-2
+    begins-requires
+    enum-known-why
     refused-requires-2
     returns-2
-    is-used-requires
-    refused-requires-3
-    returns-3
+    enum-told-3
     mul-keys
     array-set-from-keys
-    mul-jobs-2
-    array-set-from-jobs-2
     add-n
+    sub-jobs
+    mul-jobs
+    array-set-from-jobs
     ended-requires
-    returns-4
+    returns-3
     add-row
     loop-less
     loop-again)

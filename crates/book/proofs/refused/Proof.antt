@@ -1,15 +1,13 @@
-use mathlib.Core.Path.{refl, ap}
-use lib.ListN.{replicate}
-use Rattle.jobs.specs.declared.Job.{Job}
+use mathlib.Core.Path.{refl}
 use borrow.Author.Needs.{needs}
 use Rattle.book.proofs.refused.Statement.{statement}
 use Rattle.book.proofs.refused.Tie as tie
 
-blank-job-requires : tie.Need-blank-job-requires
-blank-job-requires c κs = search needs
+no-jobs-requires : tie.Need-no-jobs-requires
+no-jobs-requires c κs = search needs
 
 returns : tie.Need-returns
-returns c = (refl, ap (λ (j : Job). replicate 64 j) (c .blank-job .ensures))
+returns c = (refl, c .no-jobs .ensures)
 
 pub refused-spec : {M : Type 1} → statement M
-refused-spec = tie.close (tie.spec blank-job-requires returns)
+refused-spec = tie.close (tie.spec no-jobs-requires returns)

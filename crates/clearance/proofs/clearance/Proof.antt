@@ -8,7 +8,7 @@ use Rattle.ranges.specs.Range.{InRange}
 use Rattle.kinds.specs.declared.Columns.{Columns}
 use Rattle.kinds.specs.declared.Kind.the-variants.{S}
 use Rattle.clearance.specs.Clear.{RangedWith, out-of-range, in-range}
-use Rattle.clearance.proofs.Clearances.{told-as}
+use Rattle.levels.proofs.Told.{told-as}
 use Rattle.clearance.proofs.clearance.Statement.{statement}
 use Rattle.clearance.proofs.clearance.Tie as tie
 

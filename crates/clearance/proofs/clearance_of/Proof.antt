@@ -2,8 +2,8 @@
 use mathlib.Core.Path.{refl}
 use borrow.Author.Needs.{needs}
 use Rattle.clearance.specs.Clear.{over-obstructed, clear}
-use Rattle.clearance.proofs.Bounds.{afflux-most}
-use Rattle.clearance.proofs.Clearances.{told-exactly}
+use Rattle.afflux.proofs.Bounds.{afflux-most}
+use Rattle.levels.proofs.Told.{told-exactly}
 use Rattle.clearance.proofs.clearance_of.Statement.{statement}
 use Rattle.clearance.proofs.clearance_of.Tie as tie
 

@@ -2,10 +2,10 @@ use Prim.Native.Nat.{_+_, _<_}
 use mathlib.Core.Path.{subst}
 use native.Mathlib.Omega.{arith}
 use lib.ListN.{length}
-use Rattle.csv.specs.Rfc4180.{DQUOTE}
-use Rattle.csv.specs.Answer.{ClosedAt}
+use Rattle.rfc4180.specs.Rfc4180.{DQUOTE}
+use Rattle.quoted.specs.Closing.{ClosedAt}
 use Rattle.decides.specs.Decides.{decided, refuted}
-use Rattle.csv.proofs.Parts.{begins-lt}
+use Rattle.rfc4180.proofs.Parts.{begins-lt}
 use Rattle.csv.proofs.Ends.{field-ends, plain-field, plain-follows, quoted-field, quoted-follows, unclosed}
 use borrow.Author.Needs.{needs}
 use Rattle.csv.proofs.field_end.Statement.{statement}

@@ -3,10 +3,10 @@ use mathlib.Core.Path.{sym, subst}
 use Rattle.csv.proofs.Scan.{plain-more}
 use borrow.Author.Needs.{needs}
 use lib.ListN.{length}
-use Rattle.csv.specs.Rfc4180.{Plain, none, Textdata}
-use Rattle.csv.specs.Answer.{part}
+use Rattle.rfc4180.specs.Rfc4180.{Plain, none, Textdata}
+use Rattle.rfc4180.specs.Part.{part}
 use Rattle.decides.specs.Decides.{decided, refuted}
-use Rattle.csv.proofs.Parts.{part-none, begins-is, past-begins}
+use Rattle.rfc4180.proofs.Parts.{part-none, begins-is, past-begins}
 use Rattle.csv.proofs.plain_end.Statement.{statement}
 use Rattle.csv.proofs.plain_end.Tie as tie
 

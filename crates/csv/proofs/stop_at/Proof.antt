@@ -1,8 +1,8 @@
 use mathlib.Core.Path.{refl}
 use mathlib.Core.List.{_∷_}
-use Rattle.csv.specs.Rfc4180.{CR, LF}
+use Rattle.rfc4180.specs.Rfc4180.{CR, LF}
 use Rattle.decides.specs.Decides.{decided, refuted}
-use Rattle.csv.proofs.Parts.{begins-at, begins-is, begins-behind}
+use Rattle.rfc4180.proofs.Parts.{begins-at, begins-is, begins-behind}
 use Rattle.csv.proofs.Scan.{no-stop, two-bytes}
 use borrow.Author.Needs.{needs}
 use Rattle.csv.proofs.stop_at.Statement.{statement}

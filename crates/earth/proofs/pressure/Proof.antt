@@ -4,9 +4,10 @@ use borrow.Author.Needs.{needs}
 use Rattle.decides.specs.Decides.{decided, refuted}
 use Rattle.ranges.specs.Range.{Ranged}
 use Rattle.kinds.specs.declared.Kind.the-variants.{E}
-use Rattle.earth.specs.Earth.{Pushed, Small, told, out-of-range, in-range}
-use Rattle.earth.specs.declared.Coefficient.{Coefficient}
-use Rattle.earth.proofs.Marks.{table2-small}
+use Rattle.table2.specs.Table2.{Small}
+use Rattle.earth.specs.Earth.{Pushed, told, out-of-range, in-range}
+use Rattle.table2.specs.declared.Coefficient.{Coefficient}
+use Rattle.table2.proofs.Marks.{table2-small}
 use Rattle.earth.proofs.pressure.Statement.{statement}
 use Rattle.earth.proofs.pressure.Tie as tie
 

@@ -1,8 +1,9 @@
 -- `earth::push_of` meets its contract: each arm of the match is one case of what is told.
 use mathlib.Core.Path.{sym, subst}
 use borrow.Author.Needs.{needs}
-use Rattle.earth.specs.Earth.{refused, push, Pushed, blank, value, Small}
-use Rattle.earth.specs.declared.Coefficient.{Coefficient}
+use Rattle.table2.specs.Table2.{Small}
+use Rattle.earth.specs.Earth.{refused, push, Pushed, blank, value}
+use Rattle.table2.specs.declared.Coefficient.{Coefficient}
 use Rattle.earth.proofs.push_of.Statement.{statement}
 use Rattle.earth.proofs.push_of.Tie as tie
 

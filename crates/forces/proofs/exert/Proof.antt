@@ -4,11 +4,12 @@ use mathlib.Core.Path.{sym, _∙_, subst, subst⁻¹}
 use lib.Dec.{lit≤}
 use Rattle.earth.specs.declared.EarthAnswer.{EarthAnswer}
 use Rattle.earth.specs.Earth.{told, Pressed}
-use Rattle.earth.specs.Table2.{table2-fill}
+use Rattle.table2.specs.Table2.{table2-fill}
 use Rattle.earth.proofs.Bounds.{pressed-modest}
-use Rattle.earth.proofs.Marks.{table2-small}
-use Rattle.forces.specs.declared.Source.{Source}
-use Rattle.forces.specs.Exerts.{BlankThere, Forces}
+use Rattle.table2.proofs.Marks.{table2-small}
+use Rattle.forces.specs.Exerts.{Forces}
+use Rattle.classes.specs.declared.Source.{Source}
+use Rattle.blanks.specs.Blank.{BlankThere}
 use Rattle.forces.proofs.Exerting.{written-columns, earth-columns, around-size, in-range-not}
 use Rattle.forces.proofs.exert.Statement.{statement}
 use Rattle.forces.proofs.exert.Tie as tie

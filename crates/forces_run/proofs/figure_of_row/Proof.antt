@@ -1,7 +1,7 @@
 -- `forces_run::figure_of_row` meets its contract. The loads that are given for a row are bounded, so a figure may be asked of them.
 use borrow.Author.Needs.{needs}
-use Rattle.earth.specs.Table2.{table2-fill}
-use Rattle.earth.proofs.Marks.{table2-small}
+use Rattle.table2.specs.Table2.{table2-fill}
+use Rattle.table2.proofs.Marks.{table2-small}
 use Rattle.loads.proofs.Answering.{given-bounded}
 use Rattle.forces_run.proofs.figure_of_row.Statement.{statement}
 use Rattle.forces_run.proofs.figure_of_row.Tie as tie

@@ -1,6 +1,6 @@
 use borrow.Author.Needs.{needs}
 use mathlib.Core.Path.{ap}
-use Rattle.fields.specs.declared.Name.{Name}
+use Rattle.names.specs.declared.Name.{Name}
 use Rattle.keys.proofs.Same.{name-decides}
 use Rattle.keys.proofs.same_name.Statement.{statement}
 use Rattle.keys.proofs.same_name.Tie as tie

@@ -1,7 +1,8 @@
 use borrow.Author.Needs.{needs}
 use mathlib.Core.Path.{refl, subst, subst⁻¹}
 use Rattle.checks.specs.declared.Check.{Check}
-use Rattle.limits.specs.Limits.{Limit, HasCheck}
+use Rattle.service.specs.Service.{HasCheck}
+use Rattle.limits.specs.Limits.{Limit}
 use Rattle.limits.proofs.limit_of.Statement.{statement}
 use Rattle.limits.proofs.limit_of.Tie as tie
 

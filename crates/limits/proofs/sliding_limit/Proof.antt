@@ -1,7 +1,8 @@
 use borrow.Author.Needs.{needs}
 use mathlib.Core.Path.{refl, subst, subst⁻¹}
 use Rattle.sets.specs.declared.Combination.{Combination}
-use Rattle.limits.specs.Limits.{SlidingLimit, Service}
+use Rattle.service.specs.Service.{Service}
+use Rattle.limits.specs.Limits.{SlidingLimit}
 use Rattle.limits.proofs.sliding_limit.Statement.{statement}
 use Rattle.limits.proofs.sliding_limit.Tie as tie
 

@@ -16,11 +16,11 @@ use Rattle.line_fields.proofs.put_signed.Tie as tie
 abbrev said : ℕ → Bool → List ℕ
 said size minus = field (value-text (signed-value minus size))
 
-slice-aggregate-put : tie.Need-slice-aggregate-put
-slice-aggregate-put c = search needs
+push-requires : tie.Need-push-requires
+push-requires c κs = search needs
 
-put-requires : tie.Need-put-requires
-put-requires c κs = search needs
+push-requires-2 : tie.Need-push-requires-2
+push-requires-2 c κs = search needs
 
 put-decimal-requires : tie.Need-put-decimal-requires
 put-decimal-requires c κs = search needs
@@ -28,26 +28,37 @@ put-decimal-requires c κs = search needs
 returns : tie.Need-returns
 unfolding value-text signed-value
 returns c =
-    let size = c .before .before .before .before .before .before .args .size in
+    let sign = c .before .before in
+    let test = sign .before .before in
+    let comma = test .before in
+    let size = comma .before .before .args .size in
     let small : size < 18446744073709551616 = search needs in
-    put-as _ _ _ _ _ _ (ap (said size) (c .before .before .before .before .before .if1 .taken)) (omega (arith, decimal-length 19 size (omega arith)))
-    (then-put _ _ _ _ _ 2 20 (spelled _ _ _ _ 2 refl (c .before .before .put .ensures) tt)
-    (record { is = c .put-decimal .ensures; short = decimal-length 19 size (omega arith) }))
+    put-as _ _ _ _ _ _ (ap (said size) (test .if1 .taken)) (omega (arith, decimal-length 19 size (omega arith)))
+    (then-put _ _ _ _ _ 1 21 (spelled _ _ _ _ 1 refl (comma .push .ensures) tt)
+    (then-put _ _ _ _ _ 1 20 (spelled _ _ _ _ 1 refl (sign .push2 .ensures) tt)
+    (record { is = c .put-decimal .ensures; short = decimal-length 19 size (omega arith) })))
 
-put-number-requires : tie.Need-put-number-requires
-put-number-requires c κs = search needs
+put-decimal-requires-2 : tie.Need-put-decimal-requires-2
+put-decimal-requires-2 c κs = search needs
 
 returns-2 : tie.Need-returns-2
 unfolding value-text signed-value
-returns-2 c = put-as _ _ _ _ _ _ (ap (said _) (c .before .before .if1 .left)) (omega (arith, c .put-number .ensures .1)) (c .put-number .ensures .0)
+returns-2 c =
+    let test = c .before .before in
+    let comma = test .before in
+    let size = comma .before .before .args .size in
+    let small : size < 18446744073709551616 = search needs in
+    put-as _ _ _ _ _ _ (ap (said size) (test .if1 .left)) (omega (arith, decimal-length 19 size (omega arith)))
+    (then-put _ _ _ _ _ 1 20 (spelled _ _ _ _ 1 refl (comma .push .ensures) tt)
+    (record { is = c .put-decimal2 .ensures; short = decimal-length 19 size (omega arith) }))
 
 pub put-signed-spec : {M : Type 1} → statement M
 put-signed-spec =
     tie.close
     (tie.spec
-    slice-aggregate-put
-    put-requires
+    push-requires
+    push-requires-2
     put-decimal-requires
     returns
-    put-number-requires
+    put-decimal-requires-2
     returns-2)

@@ -4,7 +4,7 @@ use mathlib.Core.Path.{subst}
 use Prim.Native.Nat.{ℕ, _≤_, _<_}
 use borrow.Author.Tests.{not-true, not-false}
 use Rattle.decides.specs.Decides.{decided, refuted}
-use Rattle.earth.specs.Table2.{table2-fill}
+use Rattle.table2.specs.Table2.{table2-fill}
 use Rattle.loads.specs.Taken.{refused, given, told, toldBy, Says, out-of-range, blank, too-many, loaded, Beside}
 use Rattle.loads.proofs.loads_of.Statement.{statement}
 use Rattle.loads.proofs.loads_of.Tie as tie

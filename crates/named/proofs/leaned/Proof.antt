@@ -3,8 +3,8 @@ use native.Mathlib.Omega.{arith}
 use borrow.Author.Tests.{not-true, not-false}
 use native.Mathlib.Nat.{mul-le-mul, le-trans}
 use lib.Dec.{lit≤}
-use Rattle.checks.proofs.Ranking.{lean-above}
-use Rattle.named.proofs.Weights.{better-low, offered-old, offers-on, offers-off}
+use Rattle.ranks.proofs.Ranks.{lean-above}
+use Rattle.marks.proofs.Weights.{better-low, offered-old, offers-on, offers-off}
 use Rattle.named.proofs.leaned.Statement.{statement}
 use Rattle.named.proofs.leaned.Tie as tie
 

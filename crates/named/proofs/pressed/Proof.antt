@@ -1,4 +1,4 @@
-use Rattle.named.proofs.Weights.{better-low}
+use Rattle.marks.proofs.Weights.{better-low}
 use Rattle.named.proofs.pressed.Statement.{statement}
 use Rattle.named.proofs.pressed.Tie as tie
 

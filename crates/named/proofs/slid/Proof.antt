@@ -4,8 +4,8 @@ use borrow.Author.Tests.{not-true, not-false}
 use native.Mathlib.Nat.{mul-le-mul, le-trans}
 use Prim.Native.Nat.{_+_, _*_, _^_, _≤_}
 use lib.Dec.{lit≤}
-use Rattle.checks.proofs.Ranking.{slide-above}
-use Rattle.named.proofs.Weights.{better-low, offered-old, offers-on, offers-off}
+use Rattle.ranks.proofs.Ranks.{slide-above}
+use Rattle.marks.proofs.Weights.{better-low, offered-old, offers-on, offers-off}
 use Rattle.named.proofs.slid.Statement.{statement}
 use Rattle.named.proofs.slid.Tie as tie
 

@@ -3,8 +3,8 @@ use native.Mathlib.Omega.{arith}
 use borrow.Author.Tests.{not-true, not-false}
 use native.Mathlib.Nat.{mul-le-mul}
 use Prim.Native.Nat.{_+_, _^_, _≤_}
-use Rattle.checks.proofs.Ranking.{tip-above}
-use Rattle.named.proofs.Weights.{better-low, offered-old, offers-on, offers-off}
+use Rattle.ranks.proofs.Ranks.{tip-above}
+use Rattle.marks.proofs.Weights.{better-low, offered-old, offers-on, offers-off}
 use Rattle.named.proofs.tipped.Statement.{statement}
 use Rattle.named.proofs.tipped.Tie as tie
 

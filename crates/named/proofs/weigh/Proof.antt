@@ -7,13 +7,15 @@ use Rattle.sets.specs.declared.Sums.{Sums}
 use Rattle.checks.specs.declared.Base.{Base}
 use Rattle.checks.specs.declared.Check.{Check}
 use Rattle.checks.specs.declared.Check.the-variants.{OP, OM, SL, PR, RK}
-use Rattle.checks.specs.Figures.{Slides, Presses, Leans, Judged, apart}
+use Rattle.pressure.specs.Pressure.{Presses}
+use Rattle.ranks.specs.Figures.{Slides, Leans}
+use Rattle.set_figures.specs.Figures.{Judged, apart}
 use Rattle.checks.specs.Order.{side, lowest, highest}
-use Rattle.checks.proofs.Showing.{slight}
+use Rattle.set_figures.proofs.Showing.{slight}
 use Rattle.named.specs.declared.Best.{Best}
-use Rattle.named.specs.Marks.{Offered, Offers}
+use Rattle.marks.specs.Marks.{Offered, Offers}
 use Rattle.named.specs.Weighs.{Low, markOf, Weighed, Weighs}
-use Rattle.named.proofs.Weights.{offers-on}
+use Rattle.marks.proofs.Weights.{offers-on}
 use Rattle.named.proofs.weigh.Statement.{statement}
 use Rattle.named.proofs.weigh.Tie as tie
 

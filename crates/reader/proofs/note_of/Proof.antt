@@ -2,7 +2,7 @@ use mathlib.Core.Path.{refl, subst}
 use Rattle.book.specs.Says.{CountIs}
 use Rattle.book.specs.Notes.{no-book}
 use Rattle.book.proofs.Answers.{read-exactly, refused-none}
-use Rattle.reader.proofs.Passing.{book-note}
+use Rattle.reader.proofs.Noted.{book-note}
 use borrow.Author.Needs.{needs}
 use Rattle.reader.proofs.note_of.Statement.{statement}
 use Rattle.reader.proofs.note_of.Tie as tie

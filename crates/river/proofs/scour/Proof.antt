@@ -3,7 +3,7 @@ use borrow.Author.Needs.{needs}
 use Rattle.decides.specs.Decides.{decided, refuted}
 use Rattle.ranges.specs.Range.{Ranged}
 use Rattle.kinds.specs.declared.Kind.the-variants.{S}
-use Rattle.river.specs.Scour.{out-of-range, in-range}
+use Rattle.river.specs.River.{out-of-range, in-range}
 use Rattle.river.proofs.scour.Statement.{statement}
 use Rattle.river.proofs.scour.Tie as tie
 

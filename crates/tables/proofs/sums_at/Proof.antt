@@ -10,7 +10,7 @@ use Rattle.sets.specs.Sums.{add, addIf, Room}
 use Rattle.sets.proofs.Bits.{bit-is, next-bits, bit-not-one}
 use Rattle.sets.proofs.Adding.{room-more, add-if-in, add-if-out}
 use Rattle.choices.specs.Stance.{chosen}
-use Rattle.tables.specs.Table.{rowsFrom}
+use Rattle.table_rows.specs.Table.{rowsFrom}
 use Rattle.choices.proofs.Choices.{chosen-none, chosen-more, chosen-room}
 use Rattle.tables.proofs.sums_at.Statement.{statement}
 use Rattle.tables.proofs.sums_at.Tie as tie

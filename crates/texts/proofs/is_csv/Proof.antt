@@ -4,7 +4,7 @@ use mathlib.Core.Logic.{_↔_, Iff·rfl}
 use mathlib.Core.List.{List}
 use borrow.Author.Needs.{needs}
 use lib.ListN.{length, drop}
-use Rattle.csv.specs.Rfc4180.{Readable}
+use Rattle.rfc4180.specs.Rfc4180.{Readable}
 use Rattle.csv.specs.Answer.{FieldAt}
 use Rattle.csv.specs.declared.Ended.{Ended}
 use Rattle.csv.specs.declared.Ended.the-variants.{Comma, Row}

@@ -16,14 +16,15 @@ use Rattle.sets.proofs.Adding.{room-more, room-all}
 use Rattle.checks.specs.declared.Check.{Check}
 use Rattle.checks.specs.declared.Check.the-variants.{OP, OM, SL, PR, RK}
 use Rattle.named.specs.declared.Best.{Best}
-use Rattle.named.specs.declared.Mark.{Mark}
+use Rattle.marks.specs.declared.Mark.{Mark}
 use Rattle.named.specs.Weighs.{markOf, Low}
-use Rattle.worst.specs.Search.{Filled}
+use Rattle.filling.specs.Filling.{Filled}
 use Rattle.choices.specs.Stance.{chosen}
 use Rattle.choices.proofs.Choices.{chosen-room}
-use Rattle.tables.specs.Table.{rowOf, rowsFrom}
+use Rattle.table_rows.specs.Table.{rowOf, rowsFrom}
 use Rattle.tables.proofs.Tables.{two-parts}
-use Rattle.worst.proofs.Walking.{fixed-room, filled-room, filled-few, So-far, choice-sums, set-number, set-low, one-choice, all-found, nothing-passed}
+use Rattle.filling.proofs.Filling.{fixed-room, filled-room, filled-few}
+use Rattle.worst.proofs.Walking.{So-far, choice-sums, set-number, set-low, one-choice, all-found, nothing-passed}
 use Rattle.worst.proofs.walk.Statement.{statement}
 use Rattle.worst.proofs.walk.Tie as tie
 

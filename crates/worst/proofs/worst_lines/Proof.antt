@@ -7,8 +7,8 @@ use Rattle.sets.specs.Sets.{Opens}
 use Rattle.checks.specs.declared.Base.{Base}
 use Rattle.checks.specs.declared.Check.{Check}
 use Rattle.checks.specs.declared.Check.the-variants.{OP, OM, SL, PR, RK}
-use Rattle.worst.specs.declared.Line.the-variants.{Missing}
-use Rattle.worst.specs.declared.Lines.{Lines}
+use Rattle.lines.specs.declared.Line.the-variants.{Missing}
+use Rattle.lines.specs.declared.Lines.{Lines}
 use Rattle.worst.specs.Lines.{Says, line}
 use Rattle.named.specs.Weighs.{markOf}
 use Rattle.worst.specs.Search.{Walked}

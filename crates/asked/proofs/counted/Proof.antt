@@ -1,0 +1,19 @@
+-- `asked::counted` meets its contract: one more exactly where the figure agrees.
+use borrow.Author.Needs.{needs}
+use mathlib.Core.Bool.{Bool}
+use mathlib.Core.Path.{ap, sym, _∙_}
+use Rattle.asked.specs.Asked.{with-one}
+use Rattle.asked.proofs.counted.Statement.{statement}
+use Rattle.asked.proofs.counted.Tie as tie
+
+wrapping-add-u64-requires : tie.Need-wrapping-add-u64-requires
+wrapping-add-u64-requires c κs = search needs
+
+returns : tie.Need-returns
+returns c = c .wrapping-add-u64 .ensures ∙ ap (λ (b : Bool). with-one b (c .before .before .args .agree)) (sym (c .before .if1 .taken))
+
+returns-2 : tie.Need-returns-2
+returns-2 c = search needs
+
+pub counted-spec : {M : Type 1} → statement M
+counted-spec = tie.close (tie.spec wrapping-add-u64-requires returns returns-2)

@@ -1,0 +1,2 @@
+-- The laws of sources. Other crates' proofs cite them.
+pub mod Sources

@@ -1,0 +1,2 @@
+-- The laws of the search for the least cube.
+pub mod Cubes

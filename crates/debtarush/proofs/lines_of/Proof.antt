@@ -1,0 +1,19 @@
+use mathlib.Core.Path.{refl}
+use Rattle.debtarush.proofs.Fitting.{numbered}
+use borrow.Author.Needs.{needs}
+use Rattle.debtarush.proofs.lines_of.Statement.{statement}
+use Rattle.debtarush.proofs.lines_of.Tie as tie
+
+answer-of-requires : tie.Need-answer-of-requires
+answer-of-requires c κs = search needs
+
+answer-text-requires : tie.Need-answer-text-requires
+answer-text-requires c κs = search needs
+
+returns : tie.Need-returns
+returns c =
+    let is = c .before .answer-of .ensures in
+    record { bytes = _; lines = record { answer = _; is = is; are = refl }; fits = c .answer-text .ensures .1 (numbered is); held = c .answer-text .ensures .0 }
+
+pub lines-of-spec : {M : Type 1} → statement M
+lines-of-spec = tie.close (tie.spec answer-of-requires answer-text-requires returns)

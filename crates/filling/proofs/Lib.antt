@@ -1,0 +1,2 @@
+-- The laws of the table. Other crates' proofs cite them.
+pub mod Filling

@@ -1,0 +1,2 @@
+-- Laws of what is found at a place. Other crates' proofs cite them.
+pub mod Answers

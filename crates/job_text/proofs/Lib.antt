@@ -1,3 +1,0 @@
--- Laws of a job's text. Other crates' proofs cite them.
-pub mod Fitting
-pub mod Answers

@@ -1,0 +1,32 @@
+-- Document 01, what a C row is told: the clearance there is and the clearance needed (CL), or a refusal of its job.
+use mathlib.Core.Path.{_≡_}
+use mathlib.Core.Bool.{Bool, true, false}
+use Prim.Native.Nat.{ℕ, _<_}
+use lib.IntN.{ℤ, pos, negℤ}
+use Rattle.levels.specs.declared.ClearanceAnswer.{ClearanceAnswer}
+use Rattle.levels.specs.declared.ClearanceAnswer.the-variants.{OutOfRange, OverObstructed, Given}
+
+-- an answer in the paper's numbers: refused with a number, or the clearance there is and the clearance needed
+pub data Told : Type 0 where
+  refused : ℕ → Told
+  given : ℤ → ℕ → Told
+
+abbrev pub signed : Bool → ℕ → ℤ
+signed true size = negℤ (pos size)
+signed false size = pos size
+
+abbrev pub told : ClearanceAnswer → Told
+told OutOfRange = refused 11
+told OverObstructed = refused 14
+told (Given minus size needed) = given (signed minus size) needed
+
+-- no answer holds a minus zero
+abbrev pub NoMinusZero : ClearanceAnswer → Type 0
+NoMinusZero OutOfRange = Unit {0}
+NoMinusZero OverObstructed = Unit {0}
+NoMinusZero (Given minus size needed) = minus ≡ true → 0 < size
+
+-- an answer for what is to be told
+pub record Answers (T : Told → Type 0) (r : ClearanceAnswer) : Type 0 where
+  pub says : T (told r)
+  pub plain : NoMinusZero r

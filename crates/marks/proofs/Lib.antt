@@ -1,0 +1,2 @@
+-- The laws of marks. Other crates' proofs cite them.
+pub mod Weights

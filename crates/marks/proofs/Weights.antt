@@ -1,0 +1,94 @@
+-- A rank and a set as one weight: which of two comes first, that the better of a mark and of a set is one, and how it is offered.
+use mathlib.Core.Path.{_≡_, refl, sym, _∙_, ap₂, subst}
+use mathlib.Core.Logic.{inl, inr, ⊎-elim}
+use mathlib.Core.Bool.{Bool, true, false, true≢false}
+use Prim.Native.Nat.{ℕ, zero, suc, _+_, _*_, _≤_, _<_}
+use native.Mathlib.Omega.{arith}
+use native.Mathlib.Nat.{le-antisymm, le-refl}
+use lib.Count.{ones, ones-le}
+use Rattle.checks.specs.declared.Figure.{Figure}
+use Rattle.checks.specs.Order.{Side, Ranks}
+use Rattle.checks.proofs.Ranking.{ranks-one}
+use Rattle.marks.specs.declared.Mark.{Mark}
+use Rattle.marks.specs.Marks.{place, weight, weightOf, Better, Offered, Offers}
+
+-- ---- the place of a set
+pub place-none : place 0 ≡ 17 * 65536
+unfolding place
+place-none = refl
+
+pub place-some : (s : ℕ) → 0 < s → place s ≡ ones s * 65536 + s
+unfolding place
+place-some zero h = absurd (omega arith)
+place-some (suc s) h = refl
+
+pub place-low : (s : ℕ) → s < 65536 → place s ≤ 17 * 65536
+unfolding place
+place-low zero h = le-refl _
+place-low (suc s) h = omega (arith, ones-le 16 (suc s) h)
+
+pub some-low : (s : ℕ) → 0 < s → s < 65536 → place s < 17 * 65536
+some-low s p h = omega (arith, place-some s p, ones-le 16 s h)
+
+-- ---- a rank that is less weighs less
+pub weight-rank : (m n s t : ℕ) → m < n → s < 65536 → t < 65536 → weight m s ≤ weight n t
+unfolding weight
+weight-rank m n s t h p q = omega (arith, place-low s p, place-low t q)
+
+pub weight-place : (m n s t : ℕ) → m ≡ n → place s ≤ place t → weight m s ≤ weight n t
+unfolding weight
+weight-place m n s t e h = omega arith
+
+-- ---- the better of two
+pub better-new : (b : Mark) (n s : ℕ) → weight n s ≤ weightOf b → Better b n s (record { rank = n; set = s })
+unfolding weightOf
+better-new b n s h = record { from = inr (refl, refl); kept = h; first = le-refl _ }
+
+pub better-old : (b : Mark) (n s : ℕ) → weightOf b ≤ weight n s → Better b n s b
+better-old b n s h = record { from = inl refl; kept = le-refl _; first = h }
+
+-- a set whose figure is plainly no worse
+pub offered-old : (s : Side) (P : Figure → Type 0) (b : Mark) (set n : ℕ) → Ranks s P n → b .rank < n → b .set < 65536 → set < 65536 → Offered s P b set b
+unfolding weightOf
+offered-old s P b set n r h p q = record { rank = n; ranks = r; better = better-old b n set (weight-rank (b .rank) n (b .set) set h p q) }
+
+pub better-low : {b r : Mark} {n s : ℕ} → b .set < 65536 → s < 65536 → Better b n s r → r .set < 65536
+better-low {b} {r} {n} {s} p q w =
+    ⊎-elim (λ e. subst (λ (m : Mark). m .set < 65536) (sym e) p) (λ e. subst (λ (k : ℕ). k < 65536) (sym (e .1)) q) (w .from)
+
+-- a check that is weighed, and one that is not
+module _ {on : Bool} {s : Side} {P : Figure → Type 0} {b : Mark} {set : ℕ} where
+  pub offers-on : {r : Mark} → on ≡ true → r .set < 65536 → Offered s P b set r → Offers on s P b set r
+  offers-on h l w = record { weighed = λ _. w; left = λ e. absurd (true≢false (sym h ∙ e)); low = l }
+
+  pub offers-off : on ≡ false → b .set < 65536 → Offers on s P b set b
+  offers-off h l = record { weighed = λ e. absurd (true≢false (sym e ∙ h)); left = λ _. refl; low = l }
+
+-- ---- a weight tells its rank and its set
+place-one : (s t : ℕ) → s < 65536 → t < 65536 → place s ≡ place t → s ≡ t
+place-one zero zero p q e = refl
+place-one zero (suc t) p q e = absurd (omega (arith, place-none, some-low (suc t) (omega arith) q, e))
+place-one (suc s) zero p q e = absurd (omega (arith, place-none, some-low (suc s) (omega arith) p, e))
+place-one (suc s) (suc t) p q e = omega (arith, place-some (suc s) (omega arith), place-some (suc t) (omega arith), p, q, e)
+
+weight-one : (a b : Mark) → a .set < 65536 → b .set < 65536 → weightOf a ≡ weightOf b → a ≡ b
+unfolding weightOf weight
+weight-one a b p q e = λ i. record { rank = ranks i; set = place-one (a .set) (b .set) p q (omega (arith, e, ranks)) i }
+  where
+    ranks : a .rank ≡ b .rank
+    ranks = omega (arith, e, place-low (a .set) p, place-low (b .set) q)
+
+module _ {b : Mark} {n s : ℕ} (p : b .set < 65536) (q : s < 65536) where
+  lightest : {r t : Mark} → Better b n s r → Better b n s t → weightOf r ≤ weightOf t
+  unfolding weightOf
+  lightest {r} {t} x y =
+      ⊎-elim (λ e. subst (λ (m : Mark). weightOf r ≤ weightOf m) (sym e) (x .kept)) (λ e. subst (λ (m : ℕ). weightOf r ≤ m) (sym (ap₂ weight (e .0) (e .1))) (x .first)) (y .from)
+
+  pub better-one : {r t : Mark} → Better b n s r → Better b n s t → r ≡ t
+  better-one {r} {t} x y = weight-one r t (better-low p q x) (better-low p q y) (le-antisymm (lightest x y) (lightest y x))
+
+-- The better of a mark and of a set is one where the set has one figure.
+pub offered-one : {from : Side} {P : Figure → Type 0} {b : Mark} {s : ℕ} {r t : Mark} → ((v w : Figure) → P v → P w → v ≡ w) → b .set < 65536 → s < 65536
+    → Offered from P b s r → Offered from P b s t → r ≡ t
+offered-one {from} {P} {b} {s} {r} {t} one p q x y =
+    better-one p q (subst (λ (n : ℕ). Better b n s r) (ranks-one one (x .ranks) (y .ranks)) (x .better)) (y .better)

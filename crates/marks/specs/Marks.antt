@@ -1,0 +1,39 @@
+-- A mark's place in the order of sets, as one number, and what it is to be the better of a mark and of one set more.
+use mathlib.Core.Path.{_≡_}
+use mathlib.Core.Logic.{_⊎_}
+use mathlib.Core.Bool.{Bool, true, false}
+use Prim.Native.Nat.{ℕ, zero, suc, _+_, _*_, _≤_, _<_}
+use lib.Count.{ones}
+use Rattle.checks.specs.declared.Figure.{Figure}
+use Rattle.checks.specs.Order.{Side, Ranks}
+use Rattle.marks.specs.declared.Mark.{Mark}
+
+-- The place of a set among those with one figure: the fewest rows first, then the smallest number. 0 stands for no set, and comes last.
+unfoldable pub place : ℕ → ℕ
+place zero = 17 * 65536
+place (suc s) = ones (suc s) * 65536 + suc s
+
+-- a rank and a set as one number: the worst figure first
+unfoldable pub weight : ℕ → ℕ → ℕ
+weight r s = r * (18 * 65536) + place s
+
+unfoldable pub weightOf : Mark → ℕ
+weightOf m = weight (m .rank) (m .set)
+
+-- r is the better of b and of the set s with the rank n
+pub record Better (b : Mark) (n s : ℕ) (r : Mark) : Type 0 where
+  pub from : (r ≡ b) ⊎ ((r .rank ≡ n) × (r .set ≡ s))
+  pub kept : weightOf r ≤ weightOf b
+  pub first : weightOf r ≤ weight n s
+
+-- r is the better of b and of the set s, of whose figure P says which it is
+pub record Offered (from : Side) (P : Figure → Type 0) (b : Mark) (s : ℕ) (r : Mark) : Type 0 where
+  pub rank : ℕ
+  pub ranks : Ranks from P rank
+  pub better : Better b rank s r
+
+-- the same of a check that is weighed; where it is not, r is b
+pub record Offers (on : Bool) (from : Side) (P : Figure → Type 0) (b : Mark) (s : ℕ) (r : Mark) : Type 0 where
+  pub weighed : on ≡ true → Offered from P b s r
+  pub left : on ≡ false → r ≡ b
+  pub low : r .set < 65536

@@ -1,0 +1,3 @@
+-- Laws of names. Other crates' proofs cite them.
+pub mod Names
+pub mod Answers

@@ -1,0 +1,2 @@
+-- The laws of a row in a set.
+pub mod Fitting

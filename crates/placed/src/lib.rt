@@ -1,0 +1,41 @@
+// The job at a place of a book, the first place being 1 (document 01, "Refusals of a book", refusal 10).
+//
+// A book is refused, 1 to 6, before a place of it is: only a book that is given has jobs to count. What is hard is that the jobs
+// come by value in 64 places, of which the book's jobs fill the first: a place up to their number holds the job there.
+use found::Found;
+use jobs::Job;
+ghost use mathlib.Core.Path.{_≡_};
+ghost use Rattle.placed.specs.JobAt.{nothing, JobAt};
+
+// What is found at a place, and the job; where there is none, the blank one.
+pub struct Placed {
+    pub found: Found,
+    pub job: Job,
+}
+
+// No job, and why.
+fn no_job(found: Found) -> Placed
+    ensures { λ r. ⌜ r ≡ nothing found ⌝ }
+{
+    let job = jobs::blank_job();
+    Placed { found, job }
+}
+
+// The job at a place of a book.
+pub fn job_at(book: &[u8], place: usize) -> Placed
+    ensures { λ r. ⌜ JobAt (now (book .entry)) place r ⌝ }
+{
+    let b = reader::read_book(book);
+    let count = b.count;
+    let jobs = b.jobs;
+    let found = found::found_at(count, place);
+    match found {
+        Found::There => {
+            let at = place - 1;
+            let job = jobs[at];
+            Placed { found, job }
+        }
+        Found::Book(_, _) => no_job(found),
+        Found::NoPlace => no_job(found),
+    }
+}

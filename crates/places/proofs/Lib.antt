@@ -1,0 +1,2 @@
+-- The fields passed on the way through a row.
+mod Notes

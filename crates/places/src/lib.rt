@@ -1,0 +1,77 @@
+// Where the cells of a row of an RFC 4180 text stand: the row that starts at a place.
+//
+// The text is known to be RFC 4180, so no field is bad. What is hard is that each place is tied to the one reading of
+// the text: the loop keeps the fields passed, and what stands behind them still has the rest of the rows.
+use cells::Cells;
+use csv::Ended;
+ghost use mathlib.Core.Path.{_≡_};
+ghost use Prim.Native.Nat.{_+_, _≤_, _<_};
+ghost use lib.ListN.{length, drop, set};
+ghost use Rattle.rfc4180.specs.Rfc4180.{Readable};
+ghost use Rattle.cells.specs.Cells.{RowAt};
+
+// The array with v at n, or as it is where it has no n.
+fn put(a: [usize; 10], n: usize, v: usize) -> [usize; 10]
+    ensures { λ r. ⌜ r ≡ set a n v ⌝ }
+{
+    let mut b = a;
+    if n < 10 {
+        b[n] = v;
+        return b;
+    }
+    b
+}
+
+// The row that starts at a place.
+pub fn row_at(s: &[u8], start: usize) -> Cells
+    requires { ⌜ start ≤ length (now s) ⌝ }
+    requires { ⌜ Readable (drop start (now s)) ⌝ }
+    ensures { λ r. ⌜ RowAt (now (s .entry)) start r ⌝ }
+{
+    let mut from = [0usize; 10];
+    let mut to = [0usize; 10];
+    let mut n: usize = 0;
+    let mut at = start;
+    loop {
+        let f = csv::field_end(s, at);
+        let a = put(from, n, at);
+        from = a;
+        match f {
+            Ended::Comma(e) => {
+                let b = put(to, n, e);
+                to = b;
+                n += 1;
+                at = e + 1;
+            }
+            Ended::Row(e) => {
+                let b = put(to, n, e);
+                to = b;
+                return Cells {
+                    count: n + 1,
+                    from,
+                    to,
+                    next: e + 2,
+                };
+            }
+            Ended::End => {
+                let e = s.len();
+                let b = put(to, n, e);
+                to = b;
+                return Cells {
+                    count: n + 1,
+                    from,
+                    to,
+                    next: e,
+                };
+            }
+            Ended::Bad => {
+                return Cells {
+                    count: 0,
+                    from,
+                    to,
+                    next: at,
+                };
+            }
+        }
+    }
+}

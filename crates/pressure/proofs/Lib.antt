@@ -1,0 +1,2 @@
+-- The laws of PR. Other crates' proofs cite them.
+pub mod Pressing

@@ -1,0 +1,4 @@
+pub mod Unique
+pub mod First
+pub mod Parts
+pub mod Sense

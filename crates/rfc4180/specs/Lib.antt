@@ -1,0 +1,2 @@
+pub mod Rfc4180
+pub mod Part

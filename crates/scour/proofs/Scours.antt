@@ -1,0 +1,59 @@
+-- The numbers of an S row give one thing: the refusals and the depth exclude each other. What is told determines the answer, since it can be taken back to it.
+use mathlib.Core.Path.{_≡_, refl, sym, ap, subst, _∙_}
+use mathlib.Core.Bool.{cond}
+use Prim.Native.Nat.{ℕ, _<_}
+use native.Mathlib.Omega.{arith}
+use lib.Dec.{eqb}
+use Rattle.rounding.proofs.Laws.{least-one}
+use Rattle.lacey.specs.Lacey.{Intensity, RegimeDepth, ConstrictedDepth, DepthNeeded}
+use Rattle.scour.specs.Scour.{Told, refused, needs, told, Constricted, LaceyDepth, regime, constricted, Scoured, large-catchment, too-intense, needed}
+use Rattle.scour.specs.declared.ScourAnswer.{ScourAnswer}
+use Rattle.scour.specs.declared.ScourAnswer.the-variants.{OutOfRange, LargeCatchment, TooIntense, Needed}
+use Rattle.discharge.proofs.Rules.{discharge-one, no-discharge}
+use Rattle.lacey.proofs.Rules.{depth-needed-one}
+
+module _ {Q Z W : ℕ} where
+  intensity-one : {p q : ℕ} → Constricted Q Z W p → Constricted Q Z W q → p ≡ q
+  intensity-one {q = q} u v = least-one (u .intensity) (subst (λ (Qf : ℕ). Intensity Qf W q) (discharge-one (v .flood) (u .flood)) (v .intensity))
+
+  module _ {f : ℕ} where
+    lacey-one : {D E : ℕ} → LaceyDepth Q Z f W D → LaceyDepth Q Z f W E → D ≡ E
+    lacey-one {E = E} (regime a h u) (regime b k v) = least-one u (subst (λ (Qf : ℕ). RegimeDepth Qf f E) (discharge-one b a) v)
+    lacey-one (regime a h u) (constricted b k v) = absurd (b .narrow h)
+    lacey-one (constricted a h u) (regime b k v) = absurd (a .narrow k)
+    lacey-one {E = E} (constricted a h u) (constricted b k v) = least-one u (subst (λ (q : ℕ). ConstrictedDepth q f E) (intensity-one b a) v)
+
+    -- a catchment above 25,000 has no depth, and neither has a q above 50,000
+    large : {D : ℕ} → 25000 < Z → LaceyDepth Q Z f W D → ⊥
+    large h (regime a k u) = no-discharge h a
+    large h (constricted a k u) = no-discharge h (a .flood)
+
+    intense : {q D : ℕ} → Constricted Q Z W q → 50000 < q → LaceyDepth Q Z f W D → ⊥
+    intense a h (regime b k u) = a .narrow k
+    intense a h (constricted b k u) = omega (arith, intensity-one a b)
+
+    pub scoured-one : {reach : ℕ} {t u : Told} → Scoured Q Z f W reach t → Scoured Q Z f W reach u → t ≡ u
+    scoured-one (large-catchment h) (large-catchment k) = refl
+    scoured-one (large-catchment h) (too-intense a k) = absurd (no-discharge h (a .flood))
+    scoured-one (large-catchment h) (needed l n) = absurd (large h l)
+    scoured-one (too-intense a h) (large-catchment k) = absurd (no-discharge k (a .flood))
+    scoured-one (too-intense a h) (too-intense b k) = refl
+    scoured-one (too-intense a h) (needed l n) = absurd (intense a h l)
+    scoured-one (needed l m) (large-catchment k) = absurd (large k l)
+    scoured-one (needed l m) (too-intense a k) = absurd (intense a k l)
+    scoured-one {reach} (needed l m) (needed {depth = d} k n) = ap needs (depth-needed-one m (subst (λ (D : ℕ). DepthNeeded D reach d) (lacey-one k l) n))
+
+back : Told → ScourAnswer
+back (refused n) = cond (eqb n 11) OutOfRange (cond (eqb n 12) LargeCatchment TooIntense)
+back (needs depth) = Needed depth
+
+back-told : (r : ScourAnswer) → back (told r) ≡ r
+unfolding back
+back-told OutOfRange = refl
+back-told LargeCatchment = refl
+back-told TooIntense = refl
+back-told (Needed depth) = refl
+
+-- answers that tell the same are one
+pub told-one : (r s : ScourAnswer) → told r ≡ told s → r ≡ s
+told-one r s e = sym (back-told r) ∙ ap back e ∙ back-told s

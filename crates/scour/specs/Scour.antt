@@ -1,0 +1,35 @@
+-- Document 01, what the numbers of an S row give: the depth needed (SC), or a refusal of its job.
+use Prim.Native.Nat.{ℕ, _≤_, _<_}
+use Rattle.discharge.specs.Discharge.{FoundationDischarge}
+use Rattle.lacey.specs.Lacey.{RegimeMet, RegimeDepth, Intensity, ConstrictedDepth, DepthNeeded}
+use Rattle.scour.specs.declared.ScourAnswer.{ScourAnswer}
+use Rattle.scour.specs.declared.ScourAnswer.the-variants.{OutOfRange, LargeCatchment, TooIntense, Needed}
+
+-- an answer in the paper's numbers: refused with a number, or the depth needed
+pub data Told : Type 0 where
+  refused : ℕ → Told
+  needs : ℕ → Told
+
+abbrev pub told : ScourAnswer → Told
+told OutOfRange = refused 11
+told LargeCatchment = refused 12
+told TooIntense = refused 13
+told (Needed depth) = needs depth
+
+-- the constricted rule applies, and gives q
+pub record Constricted (Q Z W q : ℕ) : Type 0 where
+  pub Qf : ℕ
+  pub flood : FoundationDischarge Q Z Qf
+  pub narrow : RegimeMet Q W → ⊥
+  pub intensity : Intensity Qf W q
+
+-- Lacey's depth, by the rule that applies
+pub data LaceyDepth (Q Z f W D : ℕ) : Type 0 where
+  regime : {Qf : ℕ} → FoundationDischarge Q Z Qf → RegimeMet Q W → RegimeDepth Qf f D → LaceyDepth Q Z f W D
+  constricted : {q : ℕ} → Constricted Q Z W q → q ≤ 50000 → ConstrictedDepth q f D → LaceyDepth Q Z f W D
+
+-- "12, catchment above 25,000; 13, the constricted rule applies and q is above 50,000"; else the depth needed
+pub data Scoured (Q Z f W reach : ℕ) : Told → Type 0 where
+  large-catchment : 25000 < Z → Scoured Q Z f W reach (refused 12)
+  too-intense : {q : ℕ} → Constricted Q Z W q → 50000 < q → Scoured Q Z f W reach (refused 13)
+  needed : {D depth : ℕ} → LaceyDepth Q Z f W D → DepthNeeded D reach depth → Scoured Q Z f W reach (needs depth)

@@ -1,0 +1,33 @@
+// Which checks a combination has (document 01, Load sets): OP, OM and SL in service, PR always, RK on rock.
+//
+// What is hard is nothing; whoever asks for a limit has asked here first.
+use checks::Base;
+use checks::Check;
+use sets::Combination;
+ghost use Rattle.decides.specs.Decides.{Decides};
+ghost use Rattle.service.specs.Service.{Service, HasCheck};
+
+// Whether a combination is one of service, I to III.
+pub fn serves(combination: Combination) -> bool
+    ensures { λ r. ⌜ Decides r (Service combination) ⌝ }
+{
+    match combination {
+        Combination::I => true,
+        Combination::II => true,
+        Combination::III => true,
+        Combination::IV => false,
+    }
+}
+
+// Whether a combination has a check.
+pub fn has_check(combination: Combination, check: Check, base: Base) -> bool
+    ensures { λ r. ⌜ Decides r (HasCheck combination check base) ⌝ }
+{
+    match check {
+        Check::OP => serves(combination),
+        Check::OM => serves(combination),
+        Check::SL => serves(combination),
+        Check::PR => true,
+        Check::RK => base.rock,
+    }
+}

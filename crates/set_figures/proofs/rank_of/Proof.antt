@@ -1,0 +1,124 @@
+-- Each check by its own rank, at the parts of N, H and M.
+use borrow.Author.Needs.{needs}
+use native.Mathlib.Nat.{le-trans}
+use lib.Dec.{lit≤}
+use mathlib.Core.Path.{subst⁻¹, subst₂}
+use Prim.Native.Nat.{ℕ}
+use Rattle.checks.specs.declared.Check.{Check}
+use Rattle.pressure.specs.Pressure.{Presses}
+use Rattle.ranks.specs.Figures.{Slides, Leans}
+use Rattle.set_figures.specs.Figures.{Judged, apart}
+use Rattle.checks.specs.Order.{side, lowest, highest, Ranks}
+use Rattle.set_figures.proofs.Showing.{slight}
+use Rattle.set_figures.proofs.rank_of.Statement.{statement}
+use Rattle.set_figures.proofs.rank_of.Tie as tie
+
+excess-requires : tie.Need-excess-requires
+excess-requires c κs = search needs
+
+distance-requires : tie.Need-distance-requires
+distance-requires c κs = search needs
+
+distance-requires-2 : tie.Need-distance-requires-2
+distance-requires-2 c κs = search needs
+
+enum-told : tie.Need-enum-told
+enum-told c = search needs
+
+tip-rank-requires : tie.Need-tip-rank-requires
+tip-rank-requires c κs = slight (c .before .before .before .before .before .before .before .pre .1) .plus
+
+enum-told-2 : tie.Need-enum-told-2
+enum-told-2 c = search needs
+
+tip-rank-requires-2 : tie.Need-tip-rank-requires-2
+tip-rank-requires-2 c κs = slight (c .before .before .before .before .before .before .before .pre .1) .minus
+
+enum-told-3 : tie.Need-enum-told-3
+enum-told-3 c = search needs
+
+slide-rank-requires : tie.Need-slide-rank-requires
+unfolding apart
+slide-rank-requires c κs =
+    let e = c .before .before .before .before .before .before .before in
+    let s = slight (e .pre .1) in
+    (e .pre .0 .friction, rw (c .before .before .before .before .before .before .excess .ensures) (s .n), rw (c .before .before .before .before .before .distance .ensures) (le-trans (s .h) (lit≤ tt)))
+
+enum-told-4 : tie.Need-enum-told-4
+enum-told-4 c = search needs
+
+press-rank-requires : tie.Need-press-rank-requires
+unfolding apart
+press-rank-requires c κs =
+    let e = c .before .before .before .before .before .before .before in
+    let s = slight (e .pre .1) in
+    ((e .pre .0 .wide, e .pre .0 .width, e .pre .0 .long, e .pre .0 .length), (rw (c .before .before .before .before .before .before .excess .ensures) (s .n), rw (c .before .before .before .before .distance2 .ensures) (s .m)))
+
+enum-told-5 : tie.Need-enum-told-5
+enum-told-5 c = search needs
+
+lean-rank-requires : tie.Need-lean-rank-requires
+unfolding apart
+lean-rank-requires c κs =
+    let e = c .before .before .before .before .before .before .before in
+    let s = slight (e .pre .1) in
+    ((e .pre .0 .wide, e .pre .0 .width), (rw (c .before .before .before .before .before .before .excess .ensures) (s .n), rw (c .before .before .before .before .distance2 .ensures) (s .m)))
+
+returns : tie.Need-returns
+unfolding side Judged apart
+returns c =
+    let e = c .before .before .before .before .before .before .before .before in
+    subst⁻¹ (λ (k : Check). Ranks (side k) (Judged k (e .args .base) (e .args .sums)) (c .tip-rank .result)) (c .before .enum-told .given .1) (c .tip-rank .ensures)
+
+returns-2 : tie.Need-returns-2
+unfolding side Judged apart
+returns-2 c =
+    let e = c .before .before .before .before .before .before .before .before in
+    subst⁻¹ (λ (k : Check). Ranks (side k) (Judged k (e .args .base) (e .args .sums)) (c .tip-rank2 .result)) (c .before .enum-told2 .given .1) (c .tip-rank2 .ensures)
+
+returns-3 : tie.Need-returns-3
+unfolding side Judged apart
+returns-3 c =
+    let e = c .before .before .before .before .before .before .before .before in
+    let n = c .before .before .before .before .before .before .before .excess .ensures in
+    let h = c .before .before .before .before .before .before .distance .ensures in
+    subst⁻¹ (λ (k : Check). Ranks (side k) (Judged k (e .args .base) (e .args .sums)) (c .slide-rank .result)) (c .before .enum-told3 .given .1) (subst₂ (λ (a b : ℕ). Ranks lowest (Slides (e .args .base .friction) a b) (c .slide-rank .result)) n h (c .slide-rank .ensures))
+
+returns-4 : tie.Need-returns-4
+unfolding side Judged apart
+returns-4 c =
+    let e = c .before .before .before .before .before .before .before .before in
+    let n = c .before .before .before .before .before .before .before .excess .ensures in
+    let m = c .before .before .before .before .before .distance2 .ensures in
+    subst⁻¹ (λ (k : Check). Ranks (side k) (Judged k (e .args .base) (e .args .sums)) (c .press-rank .result)) (c .before .enum-told4 .given .1) (subst₂ (λ (a b : ℕ). Ranks highest (Presses (e .args .base .width) (e .args .base .length) a b) (c .press-rank .result)) n m (c .press-rank .ensures))
+
+returns-5 : tie.Need-returns-5
+unfolding side Judged apart
+returns-5 c =
+    let e = c .before .before .before .before .before .before .before .before in
+    let n = c .before .before .before .before .before .before .before .excess .ensures in
+    let m = c .before .before .before .before .before .distance2 .ensures in
+    subst⁻¹ (λ (k : Check). Ranks (side k) (Judged k (e .args .base) (e .args .sums)) (c .lean-rank .result)) (c .before .enum-told5 .given .1) (subst₂ (λ (a b : ℕ). Ranks highest (Leans (e .args .base .width) a b) (c .lean-rank .result)) n m (c .lean-rank .ensures))
+
+pub rank-of-spec : {M : Type 1} → statement M
+rank-of-spec =
+    tie.close
+    (tie.spec
+    excess-requires
+    distance-requires
+    distance-requires-2
+    enum-told
+    tip-rank-requires
+    enum-told-2
+    tip-rank-requires-2
+    enum-told-3
+    slide-rank-requires
+    enum-told-4
+    press-rank-requires
+    enum-told-5
+    lean-rank-requires
+    returns
+    returns-2
+    returns-3
+    returns-4
+    returns-5)

@@ -1,0 +1,44 @@
+// The figure that a check shows of a set of load rows (document 01, Load sets).
+//
+// What is hard is that the definition speaks of the whole numbers N, H and M, and the program of what each is above and below zero.
+use checks::Base;
+use checks::Check;
+use checks::Figure;
+use sets::Loads;
+use sets::Sums;
+ghost use Rattle.sets.specs.Sets.{Bounded};
+ghost use Rattle.sets.specs.Sums.{Room};
+ghost use Rattle.checks.specs.Order.{side, Ranks};
+ghost use Rattle.checks.specs.Sized.{Sized};
+ghost use Rattle.set_figures.specs.Figures.{Shows, Judged};
+
+// The rank of a check, of the sums of a set.
+pub fn rank_of(check: Check, base: Base, sums: Sums) -> u64
+    requires { ⌜ Sized base ⌝ }
+    requires { ⌜ Room 16 sums ⌝ }
+    ensures { λ r. ⌜ Ranks (side check) (Judged check base sums) r ⌝ }
+{
+    let n = signed::excess(sums.v.above, sums.v.below);
+    let h = signed::distance(sums.h.above, sums.h.below);
+    let m = signed::distance(sums.m.above, sums.m.below);
+    let plus = sums.plus;
+    let minus = sums.minus;
+    match check {
+        Check::OP => ranks::tip_rank(plus.resisting, plus.overturning),
+        Check::OM => ranks::tip_rank(minus.resisting, minus.overturning),
+        Check::SL => ranks::slide_rank(base.friction, n, h),
+        Check::PR => pressure::press_rank(base.width, base.length, n, m),
+        Check::RK => ranks::lean_rank(base.width, n, m),
+    }
+}
+
+// The figure that a check shows of a set.
+pub fn figure_of(check: Check, base: Base, loads: Loads, set: u64) -> Figure
+    requires { ⌜ Sized base ⌝ }
+    requires { ⌜ Bounded loads ⌝ }
+    ensures { λ v. ⌜ Shows check base loads set v ⌝ }
+{
+    let sums = set_sums::sums_of(base.width, loads, set);
+    let r = rank_of(check, base, sums);
+    checks::figure_at(check, r)
+}

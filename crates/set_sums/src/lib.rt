@@ -1,0 +1,67 @@
+// The sums over the rows of a set, and its totals as document 01 names them (Load sets).
+//
+// What is hard is that the rows are gone through one by one, while the definition sums whole numbers.
+use sets::Loads;
+use sets::Sums;
+use sets::Totals;
+ghost use mathlib.Core.Path.{_≡_};
+ghost use Prim.Native.Nat.{_<_, _≤_};
+ghost use Rattle.sets.specs.Sets.{Bounded};
+ghost use Rattle.sets.specs.Totals.{totalsOf};
+ghost use Rattle.sets.specs.Sums.{addIf, sumsOf, Room};
+
+// The sums with one row more, if its bit is 1.
+fn add_if(held: u64, a: Sums, b: Sums) -> Sums
+    requires { ⌜ held < 2 ⌝ }
+    requires { ⌜ Room 64 a ⌝ }
+    requires { ⌜ Room 64 b ⌝ }
+    ensures { λ r. ⌜ r ≡ addIf held a b ⌝ }
+{
+    if held == 1 {
+        return sets::add_sums(a, b);
+    }
+    a
+}
+
+// The sums over the rows of a set.
+pub fn sums_of(width: u64, loads: Loads, set: u64) -> Sums
+    requires { ⌜ width ≤ 30000 ⌝ }
+    requires { ⌜ Bounded loads ⌝ }
+    ensures { λ r. ⌜ r ≡ sumsOf width loads set ⌝ }
+{
+    let count = loads.count;
+    let mut sums = sets::no_sums();
+    let mut rest = set;
+    let mut place: u64 = 1;
+    let mut i: usize = 0;
+    while i < count {
+        let load = loads.loads[i];
+        let terms = row_terms::terms_of(width, load, place);
+        sums = add_if(rest % 2, sums, terms);
+        rest = rest / 2;
+        place = 2 * place;
+        i = i + 1;
+    }
+    sums
+}
+
+// N, the sum of H, M and the balance at each edge.
+pub fn totals_of(width: u64, loads: Loads, set: u64) -> Totals
+    requires { ⌜ width ≤ 30000 ⌝ }
+    requires { ⌜ Bounded loads ⌝ }
+    ensures { λ r. ⌜ r ≡ totalsOf width loads set ⌝ }
+{
+    let sums = sums_of(width, loads, set);
+    let plus = sums.plus;
+    let minus = sums.minus;
+    let n = signed::difference(sums.v.above, sums.v.below);
+    let h = signed::difference(sums.h.above, sums.h.below);
+    let m = signed::difference(sums.m.above, sums.m.below);
+    Totals {
+        n,
+        h,
+        m,
+        plus,
+        minus,
+    }
+}

@@ -1,0 +1,2 @@
+-- The laws of Table 2. Other crates' proofs cite them.
+pub mod Marks

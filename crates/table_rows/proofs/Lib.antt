@@ -1,0 +1,2 @@
+-- The laws of a table's rows. Other crates' proofs cite them.
+pub mod Rows

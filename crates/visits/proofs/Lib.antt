@@ -1,0 +1,2 @@
+-- The laws of a visit. Other crates' proofs cite them.
+pub mod Visiting
