@@ -13,7 +13,7 @@ use Rattle.lines.specs.declared.Lines.{Lines}
 use Rattle.worst.specs.Lines.{line}
 use Rattle.worst.proofs.Naming.{says-one}
 use Rattle.loads.specs.Taken.{rowsOf}
-use Rattle.load_rows.proofs.Loaded.{loads-one}
+use Rattle.loads.proofs.Loaded.{loads-one}
 use Rattle.lines.specs.declared.Answer.{Answer}
 use Rattle.verdicts.proofs.Answers.{Alike, alike-one}
 use Rattle.waters.proofs.Answers.{depth-one, clear-one}

@@ -11,7 +11,7 @@ use Rattle.jobs.specs.declared.Job.{Job}
 use Rattle.table2.specs.declared.Coefficient.{Coefficient}
 use Rattle.sets.specs.declared.Loads.{Loads}
 use Rattle.checks.specs.Sized.{Sized}
-use Rattle.load_rows.specs.LoadRows.{AllRanged, NoneBlank, optionals, AreLoads}
+use Rattle.loads.specs.LoadRows.{AllRanged, NoneBlank, optionals, AreLoads}
 use Rattle.loads.specs.Taken.{rowsOf, Told, refused, given, told, toldBy, Says, out-of-range, blank, too-many, loaded, Answers}
 use Rattle.loads.specs.declared.Answer as answering
 use Rattle.loads.specs.declared.Answer.the-variants as taking

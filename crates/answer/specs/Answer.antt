@@ -13,7 +13,7 @@ use Rattle.checks.specs.declared.Check.{Check}
 use Rattle.lines.specs.declared.Line.the-variants as line
 use Rattle.lines.specs.declared.Lines.{Lines}
 use Rattle.worst.specs.Lines as worst
-use Rattle.load_rows.specs.LoadRows.{AreLoads}
+use Rattle.loads.specs.LoadRows.{AreLoads}
 use Rattle.loads.specs.Taken.{rowsOf}
 use Rattle.loads.specs.declared.Answer as loads
 use Rattle.loads.specs.declared.Answer.the-variants as taking

@@ -3,7 +3,7 @@ use Prim.Native.Nat.{ℕ, _<_}
 use Rattle.rounding.specs.Least.{Least}
 use Rattle.jobs.specs.declared.Job.{Job}
 use Rattle.table2.specs.declared.Coefficient.{Coefficient}
-use Rattle.load_rows.specs.LoadRows.{AllRanged, NoneBlank, optionals}
+use Rattle.loads.specs.LoadRows.{AllRanged, NoneBlank, optionals}
 use Rattle.loads.specs.Taken.{rowsOf}
 use Rattle.job_ranges.specs.Rows.{RowsRanged}
 use Rattle.waters.specs.Waters.{LargeCatchment, TooIntense, OverObstructed}

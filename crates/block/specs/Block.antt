@@ -5,8 +5,7 @@ use mathlib.Core.Bool.{cond}
 use mathlib.Core.List.{List, [], _∷_, _++_}
 use lib.Dec.{ltb}
 use lib.ListN.{length, take, set, replicate}
-use Rattle.rfc4180.specs.Rfc4180.{CR, LF}
-use Rattle.rfc4180.specs.Rfc4180.{COMMA}
+use Rattle.rfc4180.specs.Rfc4180.{CR, LF, COMMA}
 use Rattle.block.specs.declared.Block.{Block}
 
 -- bytes, the first so many of which are the text

@@ -6,12 +6,14 @@
 // is that the first bad row is the first with which no job book begins, wherever one might cut the jobs.
 use jobs::Job;
 use keys::Beginning;
+use keys::Key;
 use refusals::Refusal;
 use steps::Way;
 ghost use mathlib.Core.Path.{_≡_};
 ghost use Prim.Native.Nat.{_+_, _≤_, _<_};
-ghost use lib.ListN.{length};
+ghost use lib.ListN.{length, replicate};
 ghost use Rattle.rfc4180.specs.Rfc4180.{Readable};
+ghost use Rattle.keys.specs.Keyed.{no-row};
 ghost use Rattle.book.specs.Values.{places};
 ghost use Rattle.book.specs.Says.{BookIs, EndedIs};
 ghost use mathlib.Core.List.{[]};
@@ -32,10 +34,10 @@ pub struct Book {
 pub fn refused(why: Refusal, row: usize) -> Book
     ensures { λ r. ⌜ (r .count ≡ Count.Refused why row) × (r .jobs ≡ places []) ⌝ }
 {
-    let jobs = jobs::no_jobs();
+    let none = jobs::blank_job();
     Book {
         count: Count::Refused(why, row),
-        jobs,
+        jobs: [none; 64],
     }
 }
 
@@ -53,6 +55,15 @@ fn ended(jobs: [Job; 64], n: usize, loads: usize, row: usize) -> Book
     }
 }
 
+// The keys of a book with no job: 64 places, all blank.
+fn no_keys() -> [Key; 64]
+    ensures { λ r. ⌜ r ≡ replicate 64 (no-row .key) ⌝ }
+{
+    let none = keys::blank_row();
+    let key = none.key;
+    [key; 64]
+}
+
 // The rows of an RFC 4180 text, one by one, into the jobs that they are.
 pub fn read_rows(s: &[u8]) -> Book
     requires { ⌜ length (now s) ≤ 65536 ⌝ }
@@ -61,7 +72,7 @@ pub fn read_rows(s: &[u8]) -> Book
 {
     let mut job = jobs::blank_job();
     let mut jobs = [job; 64];
-    let mut keys = keys::no_keys();
+    let mut keys = no_keys();
     let mut n: usize = 0;
     let mut row: usize = 1;
     let mut at: usize = 0;

@@ -5,8 +5,7 @@ use Prim.Native.Nat.{ℕ, zero, suc, _+_, _*_, _-_, _/_, _%_, _^_, _≤_, _<_}
 use native.Mathlib.Omega.{arith}
 use native.Mathlib.Nat.{pow-suc, lt-of-lt-of-le, suc-mul, le-refl, add-zero, add-suc}
 use native.Mathlib.Numerals.{add-one}
-use lib.Pow.{shr-shr}
-use lib.Pow.{split as parts-of}
+use lib.Pow.{shr-shr, split as parts-of}
 use native.Mathlib.Decide.{decLt}
 use lib.Dec.{lit<}
 use Rattle.sets.specs.declared.Loads.{Loads}

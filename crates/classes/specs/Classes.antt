@@ -4,7 +4,6 @@ use Rattle.kinds.specs.declared.Kind.{Kind}
 use Rattle.kinds.specs.declared.Kind.the-variants.{B, S, C, E, DL, EP, LL, LF, CF, WC, BU, TM, EX, WL, SF}
 use Rattle.sets.specs.declared.Class.{Class}
 use Rattle.sets.specs.declared.Class.the-variants.{Permanent, Free, Wind, Earthquake}
-use Rattle.classes.specs.declared.Nature.{Nature}
 use Rattle.classes.specs.declared.Source.{Source}
 use Rattle.classes.specs.declared.Source.the-variants.{Absent, Earth, Written}
 
@@ -43,11 +42,6 @@ source TM = Written
 source EX = Written
 source WL = Written
 source SF = Written
-
--- both
-unfoldable pub nature : Kind → Nature
-unfolding classOf source
-nature kind = record { class = classOf kind; source = source kind }
 
 -- how many optional rows a row of a class is
 unfoldable pub optional : Class → ℕ

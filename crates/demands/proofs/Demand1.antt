@@ -14,8 +14,7 @@ use Rattle.lines.specs.declared.Verdict.the-variants.{Refused}
 use Rattle.lines.specs.Lines.{verdict-line, unless-refused, lines-of}
 use Rattle.answer.specs.Rules.{Refuses}
 use Rattle.answer.specs.Answer as answer
-use Rattle.line_text.specs.Text.{line-text, texts}
-use Rattle.printing.specs.Text.{text}
+use Rattle.printing.specs.Text.{line-text, texts, text}
 use Rattle.debtarush.specs.Lines.{TextOf}
 use Rattle.calls.specs.Told.{written, refused}
 use Rattle.debtarush.specs.Called.{Called, no-book, no-place, too-short, lines}

@@ -15,16 +15,15 @@ use Rattle.sets.specs.declared.Loads.{Loads}
 use Rattle.sets.specs.Sets.{Permitted}
 use Rattle.checks.specs.declared.Check.{Check}
 use Rattle.service.specs.Service.{HasCheck}
-use Rattle.load_rows.specs.LoadRows.{AreLoads}
+use Rattle.loads.specs.LoadRows.{AreLoads}
 use Rattle.loads.specs.Taken.{rowsOf}
 use Rattle.lines.specs.declared.Verdict.{Verdict}
 use Rattle.lines.specs.declared.Verdict.the-variants.{Accepted, NotAccepted, Refused}
 use Rattle.lines.specs.Lines.{PrintedLine, check, accepted, not-accepted, number, verdict-value, verdict-line, unless-refused, later-lines, lines-of}
 use Rattle.answer.specs.Rules.{Unrefused}
 use Rattle.answer.specs.Answer.{base-of}
-use Rattle.line_text.specs.Text.{line-text, texts}
-use Rattle.line_text.proofs.Injective.{line-injective, texts-injective}
-use Rattle.printing.specs.Text.{text}
+use Rattle.printing.specs.Text.{line-text, texts, text}
+use Rattle.printing.proofs.Injective.{line-injective, texts-injective}
 use Rattle.calls.specs.Told.{written}
 use Rattle.debtarush.specs.Called.{Called}
 use Rattle.demands.specs.Words.{Begins, Tells, LinesOf, Sound, Named}

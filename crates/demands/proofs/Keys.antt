@@ -8,7 +8,7 @@ use Rattle.rows.specs.Form.{BookRow, Form, content}
 use Rattle.jobs.specs.declared.Job.{Job}
 use Rattle.book.specs.JobBook.{Written, job, Jobs, none, _and_, job-rows, rows-of, GoodJob, Forms, no-form, form, Whole, no-whole, one-whole, JobBook}
 use Rattle.book.specs.Values.{value, values}
-use Rattle.line_text.specs.Keys.{IsKey}
+use Rattle.printing.specs.Keys.{IsKey}
 use Rattle.notes.specs.Notes.{RowIn}
 use Rattle.demands.specs.Words.{listed}
 use Rattle.demands.proofs.All as all

@@ -16,9 +16,9 @@ use Rattle.lines.specs.declared.Line.the-variants.{Missing, Shown}
 use Rattle.lines.specs.declared.Lines.{Lines}
 use Rattle.service.specs.Service.{HasCheck}
 use Rattle.worst.specs.Lines as worst
-use Rattle.load_rows.specs.LoadRows.{AreLoads}
+use Rattle.loads.specs.LoadRows.{AreLoads}
 use Rattle.loads.specs.Taken.{rowsOf}
-use Rattle.load_rows.proofs.Loaded.{loads-one}
+use Rattle.loads.proofs.Loaded.{loads-one}
 use Rattle.lines.specs.declared.Verdict.{Verdict}
 use Rattle.lines.specs.declared.Verdict.the-variants.{Accepted, NotAccepted, Refused}
 use Rattle.lines.specs.declared.DepthLine.{DepthLine}

@@ -27,7 +27,7 @@ use Rattle.limits.proofs.Limiting.{limit-one}
 use Rattle.worst.specs.Lines as worst
 use Rattle.worst.proofs.Naming.{worst-decides}
 use Rattle.loads.specs.Taken.{rowsOf}
-use Rattle.load_rows.proofs.Loaded.{loads-one}
+use Rattle.loads.proofs.Loaded.{loads-one}
 use Rattle.lines.specs.declared.Verdict.{Verdict}
 use Rattle.lines.specs.declared.Verdict.the-variants.{Accepted, NotAccepted, Refused}
 use Rattle.lines.specs.declared.DepthLine.{DepthLine}

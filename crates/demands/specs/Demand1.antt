@@ -14,7 +14,7 @@ use Rattle.notes.specs.Notes.{RowIn}
 use Rattle.lines.specs.declared.Verdict.the-variants.{Refused}
 use Rattle.lines.specs.Lines.{verdict-line}
 use Rattle.answer.specs.Rules.{Refuses}
-use Rattle.line_text.specs.Text.{line-text}
+use Rattle.printing.specs.Text.{line-text}
 use Rattle.debtarush.specs.Lines.{TextOf}
 use Rattle.calls.specs.Told.{Told, written, refused}
 use Rattle.debtarush.specs.Called.{Called}

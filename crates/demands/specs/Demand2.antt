@@ -14,13 +14,13 @@ use Rattle.sets.specs.declared.Loads.{Loads}
 use Rattle.sets.specs.Sets.{Permitted}
 use Rattle.checks.specs.declared.Check.{Check}
 use Rattle.service.specs.Service.{HasCheck}
-use Rattle.load_rows.specs.LoadRows.{AreLoads}
+use Rattle.loads.specs.LoadRows.{AreLoads}
 use Rattle.loads.specs.Taken.{rowsOf}
 use Rattle.lines.specs.declared.Verdict.the-variants.{Accepted}
 use Rattle.lines.specs.Lines.{PrintedLine, check, verdict-line}
 use Rattle.answer.specs.Rules.{Unrefused}
 use Rattle.answer.specs.Answer.{base-of}
-use Rattle.line_text.specs.Text.{line-text}
+use Rattle.printing.specs.Text.{line-text}
 use Rattle.calls.specs.Told.{written}
 use Rattle.debtarush.specs.Called.{Called}
 use Rattle.demands.specs.Words.{Begins, Tells, LinesOf, Sound, Named}

@@ -22,7 +22,7 @@ use Rattle.checks.specs.Order.{side}
 use Rattle.limits.specs.Limits.{Limit}
 use Rattle.passing.specs.Passing.{Passes}
 use Rattle.worst.specs.Lines.{Printed}
-use Rattle.load_rows.specs.LoadRows.{AreLoads}
+use Rattle.loads.specs.LoadRows.{AreLoads}
 use Rattle.loads.specs.Taken.{rowsOf}
 use Rattle.lines.specs.declared.Answer.{Answer}
 use Rattle.lines.specs.Lines.{PrintedLine, check, holds, value-of, mark-of, lines-of}
@@ -31,8 +31,8 @@ use Rattle.river_marks.specs.Marks.{AtLeast}
 use Rattle.waters.specs.Waters.{Founded}
 use Rattle.answer.specs.Rules.{Unrefused}
 use Rattle.answer.specs.Answer.{base-of, AnswerIs}
-use Rattle.line_text.specs.Keys.{IsKey}
-use Rattle.line_text.specs.Text.{texts}
+use Rattle.printing.specs.Keys.{IsKey}
+use Rattle.printing.specs.Text.{texts}
 
 -- ---- what bytes say
 

@@ -8,7 +8,7 @@ ghost use Rattle.decides.specs.Decides.{Decides};
 ghost use Rattle.sets.specs.Sets.{Erected, Opens};
 
 // Whether some row is of phase 1.
-pub fn erected(loads: Loads) -> bool
+fn erected(loads: Loads) -> bool
     requires { ⌜ loads .count ≤ 16 ⌝ }
     ensures { λ r. ⌜ Decides r (Erected loads) ⌝ }
 {

@@ -20,8 +20,8 @@ use Rattle.ranks.specs.Figures.{Tips}
 use Rattle.set_figures.specs.Figures.{Shows}
 use Rattle.classes.specs.Classes.{classOf, source}
 use Rattle.forces.specs.Exerts.{Forces, Exerts}
-use Rattle.load_rows.specs.LoadRows.{rowAt, AreLoads}
-use Rattle.load_rows.proofs.Laying.{all-no-load}
+use Rattle.loads.specs.LoadRows.{rowAt, AreLoads}
+use Rattle.loads.proofs.Laying.{all-no-load}
 use Rattle.figures.specs.Figures.{dead-load, Overturns}
 
 module _ (v x h y : ℕ) where

@@ -18,7 +18,7 @@ use Rattle.checks.specs.declared.Check.the-variants.{OP}
 use Rattle.checks.specs.declared.Figure.the-variants.{Number}
 use Rattle.pressure.specs.Pressure.{PressesWhole, PressesPart, Presses}
 use Rattle.set_figures.specs.Figures.{Shows}
-use Rattle.load_rows.specs.LoadRows.{AreLoads}
+use Rattle.loads.specs.LoadRows.{AreLoads}
 
 -- a DL row as it is written: V, x, H, y, in service
 abbrev pub dead-load : (v x h y : ℕ) → Row

@@ -21,8 +21,7 @@ use Rattle.earth.proofs.Bounds.{pressed-modest}
 use Rattle.signed.specs.declared.Amount.{Amount}
 use Rattle.signed.specs.Whole.{amount}
 use Rattle.sets.specs.declared.Load.{Load}
-use Rattle.sets.specs.declared.Class.the-variants.{Permanent}
-use Rattle.sets.specs.Sets.{BoundedLoad, noLoad}
+use Rattle.sets.specs.Sets.{BoundedLoad}
 use Rattle.classes.specs.declared.Source.{Source}
 use Rattle.classes.specs.declared.Source.the-variants.{Absent, Earth, Written}
 use Rattle.classes.specs.Classes.{source}
@@ -118,10 +117,6 @@ exerts-bounded fill small row load r e = go (source (row .kind)) refl (e .forces
     go Earth d f = let m = pressed-modest small (f .pressed) in earth-bounded (m .thrust) (m .moment) (f .exerts)
     go Written d f = own-bounded (written-columns (row .kind) (row .numbers) d r) f
 
--- ---- no load
+-- loads are the same if their parts are
 pub same-load : {a b : Load} → a .class ≡ b .class → a .phase ≡ b .phase → a .v ≡ b .v → a .x ≡ b .x → a .h ≡ b .h → a .twist ≡ b .twist → a ≡ b
 same-load p q r s t u = λ i. record { class = p i; phase = q i; v = r i; x = s i; h = t i; twist = u i }
-
-pub is-no-load : {load : Load} → load .class ≡ Permanent → load .phase ≡ 0 → EarthLoad 0 0 load → load ≡ noLoad
-unfolding amount
-is-no-load p q f = same-load p q (f .v) (f .x) (f .h) (f .twist)

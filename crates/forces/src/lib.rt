@@ -15,7 +15,6 @@ ghost use Prim.Native.Nat.{_*_, _≤_};
 ghost use Rattle.ranges.specs.Range.{Ranged};
 ghost use Rattle.table2.specs.Table2.{table2-fill};
 ghost use Rattle.signed.specs.Whole.{signed, amount};
-ghost use Rattle.sets.specs.Sets.{noLoad};
 ghost use Rattle.blanks.specs.Blank.{BlankThere};
 ghost use Rattle.forces.specs.Exerts.{OwnForces, EarthLoad, Exerts};
 
@@ -48,13 +47,6 @@ fn earth_load(class: Class, phase: u32, thrust: u64, arm: u64) -> Load
         h,
         twist,
     }
-}
-
-// A row that exerts nothing.
-pub fn no_load() -> Load
-    ensures { λ r. ⌜ r ≡ noLoad ⌝ }
-{
-    earth_load(Class::Permanent, 0, 0, 0)
 }
 
 fn wide(n: u32) -> u64
@@ -95,7 +87,7 @@ pub fn exert(row: Row) -> Load
     let kind = row.kind;
     let numbers = row.numbers;
     let class = classes::class_of(kind);
-    let phase = kinds::phase_of(kind, numbers);
+    let phase = numbers.n5.size;
     match classes::source_of(kind) {
         Source::Absent => earth_load(class, phase, 0, 0),
         Source::Earth => match earth::pressure(numbers) {

@@ -1,15 +1,40 @@
 // Runs the figures of earth, OP and PR of document 01's "Figures on each side" through the public functions; those of the
-// river are in figures_run. One line a figure: the row asked (a DL row alone on B 4,000 and L 8,000), what came and what 01
-// says; and a last line with how many were asked and how many agree, of this program's alone.
+// river are in figures_run. One line a figure, in 01's order: what was asked, what came and what 01 says; and a last line with
+// how many of them agree.
+//
+// "By either rule" is one line: the program takes one of PR's two rules there, and that both give 57 is a starred figure.
 use checks::Base;
 use checks::Check;
 use checks::Figure;
 use earth::EarthAnswer;
+use fields::Entry;
 use kinds::Kind;
 use kinds::Numbers;
 use kinds::Row;
+use libc::STDOUT_FILENO;
 use loads::Answer;
+ghost use Prim.Native.Nat.{_≤_};
 ghost use Rattle.checks.specs.Sized.{Sized};
+
+fn filled(size: u32) -> Entry {
+    Entry {
+        filled: true,
+        minus: false,
+        size,
+    }
+}
+
+// A row of four numbers, in service.
+fn row(a: u32, b: u32, c: u32, d: u32) -> Numbers {
+    Numbers {
+        n1: filled(a),
+        n2: filled(b),
+        n3: filled(c),
+        n4: filled(d),
+        n5: filled(0),
+        n6: fields::blank_entry(),
+    }
+}
 
 // The thrust of an E row, or its height; 0 where it is refused.
 fn push_of(answer: EarthAnswer, high: bool) -> u64 {
@@ -18,6 +43,15 @@ fn push_of(answer: EarthAnswer, high: bool) -> u64 {
         EarthAnswer::NoCoefficient => 0,
         EarthAnswer::Push { thrust, arm } => { if high { arm } else { thrust } }
     }
+}
+
+// The thrust and the height of a fill of soil a, level.
+fn pushed() -> u64 {
+    let answer = earth::pressure(row(1, 1, 6000, 8000));
+    let thrust = push_of(answer, false);
+    let arm = push_of(answer, true);
+    let agree = asked::figure(0, b"H of soil a, level, 6000 by ", 8000, thrust, 664);
+    asked::figure(agree, b"y of the same, 6000 by ", 8000, arm, 2000)
 }
 
 // A figure that is a number, and 0 for "none" and "off".
@@ -60,38 +94,37 @@ fn figure_of_row(check: Check, numbers: Numbers) -> u64 {
     }
 }
 
-// The thrust or the height of a fill of soil a, level, 6,000 by 8,000.
-fn fill(agree: u64, kind: &[u8], high: bool, says: u32) -> u64 {
-    let row = asked::row(kind, 1, 1, 6000, 8000, 0, fields::blank_entry());
-    let came = push_of(earth::pressure(row), high);
-    asked::counted(agree, asked::agrees(came, says))
+fn overturning(agree: u64, y: u32, says: u64) -> u64 {
+    let came = figure_of_row(Check::OP, row(1000, 0, 100, y));
+    asked::figure(
+        agree,
+        b"OP on B 4000 of V 1000, x 0, H 100, y ",
+        y as u64,
+        came,
+        says,
+    )
 }
 
-// OP of a DL row of V 1,000 and H 100, alone.
-fn overturning(agree: u64, y: u32, says: u32) -> u64 {
-    let row = asked::row(b"OP of DL", 1000, 0, 100, y, 0, fields::blank_entry());
-    let came = figure_of_row(Check::OP, row);
-    asked::counted(agree, asked::agrees(came, says))
-}
-
-// PR of a DL row, alone.
-fn pressed(agree: u64, v: u32, x: u32, h: u32, y: u32, says: u32) -> u64 {
-    let row = asked::row(b"PR of DL", v, x, h, y, 0, fields::blank_entry());
-    let came = figure_of_row(Check::PR, row);
-    asked::counted(agree, asked::agrees(came, says))
-}
-
-fn loaded(agree: u64) -> u64 {
-    let a = overturning(agree, 10000, 200);
-    let b = overturning(a, 10001, 199);
-    // past the middle third, N 1,000 and M 2,000,000
-    let c = pressed(b, 1000, 1000, 0, 0, 84);
-    // by either rule, N 900: the first at M 1,200,000, the second at 1,200,002, the next M that rows give
-    let d = pressed(c, 900, 0, 100, 6000, 57);
-    pressed(d, 900, 666, 1, 601, 57)
+// PR on that base.
+fn pressed(n: u64, m: u64) -> u64
+    requires { ⌜ (n ≤ 1000) × (m ≤ 2000000) ⌝ }
+{
+    let rank = pressure::press_rank(4000, 8000, n, m);
+    number_of(checks::figure_at(Check::PR, rank))
 }
 
 fn main() {
-    let thrust = fill(0, b"H of E", false, 664);
-    asked::all_agree(7, loaded(fill(thrust, b"y of E", true, 2000)));
+    let a = overturning(overturning(pushed(), 10_000, 200), 10_001, 199);
+    let past = pressed(1000, 2_000_000);
+    let b = asked::figure(
+        a,
+        b"PR on B 4000, L 8000 of N 1000, M ",
+        2_000_000,
+        past,
+        84,
+    );
+    let either = pressed(900, 1_200_000);
+    let c = asked::figure(b, b"PR on the same of N 900, M ", 1_200_000, either, 57);
+    io::print_decimal(STDOUT_FILENO, c);
+    io::write_all(STDOUT_FILENO, b" of 6 figures agree\n");
 }

@@ -6,13 +6,14 @@
 // stood. What is hard is to keep the copies of a job few: it is decided first, from what placing needs.
 use keys::Key;
 use keys::Keyed;
+use kinds::Kind;
 use kinds::Numbers;
 use kinds::Role;
 use kinds::Row;
 use placing::Stage;
 ghost use mathlib.Core.Path.{_≡_};
 ghost use Prim.Native.Nat.{_+_, _<_};
-ghost use lib.ListN.{replicate};
+ghost use Rattle.kinds.specs.Table.{role};
 ghost use Rattle.kinds.specs.declared.Role.the-variants.{Base, Scour, Clearance, Load};
 ghost use Rattle.jobs.specs.Place.{no-job, with-row};
 ghost use Rattle.jobs.specs.Taking.{answer-to, TakenIs};
@@ -46,7 +47,7 @@ pub fn blank_job() -> Job
     let none = keys::blank_row();
     let key = none.key;
     let row = none.row;
-    let numbers = kinds::no_numbers();
+    let numbers = row.numbers;
     Job {
         stage: Stage::Unbegun,
         key,
@@ -56,14 +57,6 @@ pub fn blank_job() -> Job
         count: 0,
         loads: [row; 16],
     }
-}
-
-// The jobs of a book with none: 64 places, all blank.
-pub fn no_jobs() -> [Job; 64]
-    ensures { λ r. ⌜ r ≡ replicate 64 no-job ⌝ }
-{
-    let none = blank_job();
-    [none; 64]
 }
 
 // A job of one row, its B row.
@@ -149,6 +142,29 @@ fn with_row(role: Role, job: Job, row: Keyed) -> Job
     }
 }
 
+// What a row of a kind is to its job.
+fn role_of(kind: Kind) -> Role
+    ensures { λ r. ⌜ r ≡ role kind ⌝ }
+{
+    match kind {
+        Kind::B => Role::Base,
+        Kind::S => Role::Scour,
+        Kind::C => Role::Clearance,
+        Kind::E
+        | Kind::DL
+        | Kind::EP
+        | Kind::LL
+        | Kind::LF
+        | Kind::CF
+        | Kind::WC
+        | Kind::BU
+        | Kind::TM
+        | Kind::EX
+        | Kind::WL
+        | Kind::SF => Role::Load,
+    }
+}
+
 // A B row starts a job, and any other joins one.
 fn answer_to(role: Role) -> Took
     ensures { λ r. ⌜ r ≡ answer-to role ⌝ }
@@ -168,7 +184,7 @@ impl Job {
     {
         let load = row.row;
         let kind = load.kind;
-        let role = kinds::role_of(kind);
+        let role = role_of(kind);
         let stage = self.stage;
         let key = self.key;
         let other = row.key;

@@ -4,13 +4,14 @@
 // Keys are compared by their bytes, and the promise is about the keys themselves. What is hard is that names of one
 // length are one exactly if all their twelve bytes agree, so that the bytes behind a name must stand in the promise too.
 use kinds::Kind;
+use kinds::Numbers;
 use kinds::Row;
 use names::Name;
 use refusals::Refusal;
 ghost use mathlib.Core.Path.{_≡_};
 ghost use Prim.Native.Nat.{_≤_};
-ghost use lib.ListN.{replicate};
 ghost use Rattle.decides.specs.Decides.{Decides};
+ghost use Rattle.kinds.specs.Table.{blank-numbers};
 ghost use Rattle.keys.specs.Keyed.{no-row};
 ghost use Rattle.keys.specs.Among.{Among};
 ghost use Rattle.keys.specs.Begins.{BeginsIs};
@@ -33,12 +34,27 @@ pub enum Beginning {
     Barred(Refusal),
 }
 
+// No numbers: what stands where there is no row.
+fn no_numbers() -> Numbers
+    ensures { λ r. ⌜ r ≡ blank-numbers ⌝ }
+{
+    let none = fields::blank_entry();
+    Numbers {
+        n1: none,
+        n2: none,
+        n3: none,
+        n4: none,
+        n5: none,
+        n6: none,
+    }
+}
+
 // No row: what stands where there is none.
 pub fn blank_row() -> Keyed
     ensures { λ r. ⌜ r ≡ no-row ⌝ }
 {
     let name = names::blank_name();
-    let numbers = kinds::no_numbers();
+    let numbers = no_numbers();
     let row = Row {
         kind: Kind::B,
         numbers,
@@ -48,15 +64,6 @@ pub fn blank_row() -> Keyed
         job: name,
     };
     Keyed { key, row }
-}
-
-// The keys of a book with no job: 64 places, all blank.
-pub fn no_keys() -> [Key; 64]
-    ensures { λ r. ⌜ r ≡ replicate 64 (no-row .key) ⌝ }
-{
-    let none = blank_row();
-    let key = none.key;
-    [key; 64]
 }
 
 fn same_bytes(a: [u8; 12], b: [u8; 12]) -> bool

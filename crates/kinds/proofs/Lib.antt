@@ -1,3 +1,3 @@
 -- Laws of the table of kinds. Other crates' proofs cite them.
-mod Loads
+pub mod Arms
 pub mod Answers

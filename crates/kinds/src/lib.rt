@@ -1,13 +1,10 @@
 // Document 01's table of kinds, as data: the form (refusal 3) and the ranges (refusal 11) of a row's numbers.
 //
-// Everything that a kind decides is read from this one table: which columns are filled, in what range, and what a row
-// of the kind is to its job. What is hard is only that the code's copy of the table is the definition's.
-use fields::Entered;
+// What the kinds decide is stated in one table (`specs/Table.antt`): which columns are filled and in what range, what a row of the kind is
+// to its job, and where its phase stands. What is hard is only that the code's copy of the columns is the definition's.
 use fields::Entry;
 ghost use mathlib.Core.Path.{_≡_};
-ghost use Rattle.fields.specs.Numbers.{EntryAt};
-ghost use Rattle.kinds.specs.Table.{columns, role, phase, load-columns, blank-numbers};
-ghost use Rattle.kinds.specs.Form.{Means};
+ghost use Rattle.kinds.specs.Table.{columns, load-columns};
 
 pub enum Kind {
     B,
@@ -65,28 +62,6 @@ pub struct Numbers {
 pub struct Row {
     pub kind: Kind,
     pub numbers: Numbers,
-}
-
-pub fn role_of(kind: Kind) -> Role
-    ensures { λ r. ⌜ r ≡ role kind ⌝ }
-{
-    match kind {
-        Kind::B => Role::Base,
-        Kind::S => Role::Scour,
-        Kind::C => Role::Clearance,
-        Kind::E
-        | Kind::DL
-        | Kind::EP
-        | Kind::LL
-        | Kind::LF
-        | Kind::CF
-        | Kind::WC
-        | Kind::BU
-        | Kind::TM
-        | Kind::EX
-        | Kind::WL
-        | Kind::SF => Role::Load,
-    }
 }
 
 fn base_columns() -> Columns
@@ -173,38 +148,5 @@ pub fn columns_of(kind: Kind) -> Columns
         | Kind::EX
         | Kind::WL
         | Kind::SF => force_columns(),
-    }
-}
-
-// The phase of a load row.
-pub fn phase_of(kind: Kind, numbers: Numbers) -> u32
-    ensures { λ r. ⌜ r ≡ phase kind numbers ⌝ }
-{
-    numbers.n5.size
-}
-
-// No numbers: what stands where there is no row.
-pub fn no_numbers() -> Numbers
-    ensures { λ r. ⌜ r ≡ blank-numbers ⌝ }
-{
-    let none = fields::blank_entry();
-    Numbers {
-        n1: none,
-        n2: none,
-        n3: none,
-        n4: none,
-        n5: none,
-        n6: none,
-    }
-}
-
-// What a field holds in a column.
-pub fn entry_at(column: Column, raw: &[u8]) -> Entered
-    ensures { λ r. ⌜ EntryAt (Means column) (now (raw .entry)) r ⌝ }
-{
-    match column {
-        Column::Empty => fields::empty_at(raw),
-        Column::Filled(_, _) => fields::number_at(raw),
-        Column::Signed(_, _) => fields::number_at(raw),
     }
 }

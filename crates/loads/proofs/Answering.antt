@@ -12,8 +12,8 @@ use Rattle.table2.specs.Table2.{Small}
 use Rattle.sets.specs.declared.Loads.{Loads}
 use Rattle.sets.specs.Sets.{Bounded}
 use Rattle.forces.proofs.Exerting.{exerts-bounded}
-use Rattle.load_rows.specs.LoadRows.{rowAt, AllRanged, AreLoads}
-use Rattle.load_rows.proofs.Loaded.{loads-one}
+use Rattle.loads.specs.LoadRows.{rowAt, AllRanged, AreLoads}
+use Rattle.loads.proofs.Loaded.{loads-one}
 use Rattle.loads.specs.declared.Answer.{Answer}
 use Rattle.loads.specs.declared.Answer.the-variants.{OutOfRange, NoCoefficient, TooMany, Given}
 use Rattle.loads.specs.declared.Taken.{Taken}

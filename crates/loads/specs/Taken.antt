@@ -9,7 +9,7 @@ use Rattle.kinds.specs.declared.Row.{Row}
 use Rattle.table2.specs.declared.Coefficient.{Coefficient}
 use Rattle.sets.specs.declared.Loads.{Loads}
 use Rattle.sets.specs.Sets.{noLoad}
-use Rattle.load_rows.specs.LoadRows.{AllRanged, NoneBlank, optionals, AreLoads}
+use Rattle.loads.specs.LoadRows.{AllRanged, NoneBlank, optionals, AreLoads}
 use Rattle.loads.specs.declared.Answer.{Answer}
 use Rattle.loads.specs.declared.Answer.the-variants.{OutOfRange, NoCoefficient, TooMany, Given}
 use Rattle.loads.specs.declared.Taken.{Taken}

@@ -1,12 +1,14 @@
 // The loads of a job's load rows, or their refusal (document 01, refusals 11, 15 and 16 of a job).
 //
-// Everything above sees loads and no rows. What is hard is the order of the refusals, which is over all the rows and by
-// number.
+// Everything above sees loads and no rows. Each question is over the first n rows, and so is a loop. What is hard is that past the rows of
+// the job there stands no load, and the order of the refusals, which is over all the rows and by number.
 use kinds::Row;
 use sets::Loads;
 ghost use mathlib.Core.Path.{_≡_};
 ghost use Prim.Native.Nat.{_≤_};
+ghost use Rattle.decides.specs.Decides.{Decides};
 ghost use Rattle.table2.specs.Table2.{table2-fill};
+ghost use Rattle.loads.specs.LoadRows.{AllRanged, NoneBlank, optionals, AreLoads};
 ghost use Rattle.loads.specs.Taken.{noLoads, rowsOf, Answers};
 
 pub enum Answer {
@@ -23,10 +25,10 @@ pub struct Taken {
 }
 
 // No loads.
-pub fn no_loads() -> Loads
+fn no_loads() -> Loads
     ensures { λ r. ⌜ r ≡ noLoads ⌝ }
 {
-    let none = forces::no_load();
+    let none = sets::no_load();
     let loads = [none; 16];
     Loads { count: 0, loads }
 }
@@ -41,31 +43,100 @@ fn rows_of(count: usize) -> usize
     count
 }
 
+// Whether every number of the first n rows is in its range.
+fn all_ranged(rows: [Row; 16], n: usize) -> bool
+    requires { ⌜ n ≤ 16 ⌝ }
+    ensures { λ r. ⌜ Decides r (AllRanged rows n) ⌝ }
+{
+    let mut i: usize = 0;
+    while i < n {
+        let row = rows[i];
+        let kind = row.kind;
+        let numbers = row.numbers;
+        if !ranges::is_ranged(kind, numbers) {
+            return false;
+        }
+        i = i + 1;
+    }
+    true
+}
+
+// Whether Table 2 is blank for none of the first n rows.
+fn none_blank(rows: [Row; 16], n: usize) -> bool
+    requires { ⌜ n ≤ 16 ⌝ }
+    ensures { λ r. ⌜ Decides r (NoneBlank table2-fill rows n) ⌝ }
+{
+    let mut i: usize = 0;
+    while i < n {
+        let row = rows[i];
+        if blanks::is_blank(row) {
+            return false;
+        }
+        i = i + 1;
+    }
+    true
+}
+
+// How many of the first n rows are optional.
+fn optional_rows(rows: [Row; 16], n: usize) -> u64
+    requires { ⌜ n ≤ 16 ⌝ }
+    ensures { λ r. ⌜ r ≡ optionals rows n ⌝ }
+{
+    let mut many: u64 = 0;
+    let mut i: usize = 0;
+    while i < n {
+        let row = rows[i];
+        let kind = row.kind;
+        many = many + classes::is_optional(classes::class_of(kind));
+        i = i + 1;
+    }
+    many
+}
+
+// The loads of the first n rows.
+fn exert_all(rows: [Row; 16], n: usize) -> Loads
+    requires { ⌜ n ≤ 16 ⌝ }
+    requires { ⌜ AllRanged rows n ⌝ }
+    requires { ⌜ NoneBlank table2-fill rows n ⌝ }
+    ensures { λ r. ⌜ AreLoads table2-fill rows n r ⌝ }
+{
+    let none = sets::no_load();
+    let mut loads = [none; 16];
+    let mut i: usize = 0;
+    while i < n {
+        let row = rows[i];
+        let load = forces::exert(row);
+        loads[i] = load;
+        i = i + 1;
+    }
+    Loads { count: n, loads }
+}
+
 // The loads of a job's load rows, which are the first `count` of `rows`, at most 16; or refusal 11, 15 or 16.
 pub fn loads_of(rows: [Row; 16], count: usize) -> Taken
     ensures { λ r. ⌜ Answers table2-fill rows count r ⌝ }
 {
     let n = rows_of(count);
     let none = no_loads();
-    if !load_rows::all_ranged(rows, n) {
+    if !all_ranged(rows, n) {
         return Taken {
             answer: Answer::OutOfRange,
             loads: none,
         };
     }
-    if !load_rows::none_blank(rows, n) {
+    if !none_blank(rows, n) {
         return Taken {
             answer: Answer::NoCoefficient,
             loads: none,
         };
     }
-    if 12 < load_rows::optional_rows(rows, n) {
+    if 12 < optional_rows(rows, n) {
         return Taken {
             answer: Answer::TooMany,
             loads: none,
         };
     }
-    let loads = load_rows::exert_all(rows, n);
+    let loads = exert_all(rows, n);
     Taken {
         answer: Answer::Given,
         loads,

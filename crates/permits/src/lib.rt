@@ -13,41 +13,9 @@ pub fn admits(combination: Combination, winds: u64, quakes: u64, set: u64) -> bo
         return false;
     }
     match combination {
-        Combination::I => {
-            if winds > 0 {
-                return false;
-            }
-            if quakes > 0 {
-                return false;
-            }
-            true
-        }
-        Combination::II => {
-            if winds == 0 {
-                return false;
-            }
-            if quakes > 0 {
-                return false;
-            }
-            true
-        }
-        Combination::III => {
-            if winds > 0 {
-                return false;
-            }
-            if quakes == 0 {
-                return false;
-            }
-            true
-        }
-        Combination::IV => {
-            if winds == 0 {
-                return true;
-            }
-            if quakes == 0 {
-                return true;
-            }
-            false
-        }
+        Combination::I => winds == 0 && quakes == 0,
+        Combination::II => winds > 0 && quakes == 0,
+        Combination::III => winds == 0 && quakes > 0,
+        Combination::IV => winds == 0 || quakes == 0,
     }
 }

@@ -15,6 +15,7 @@ use Rattle.csv.specs.declared.Ended.the-variants.{Comma, Row, End}
 use Rattle.rfc4180.proofs.Parts.{part-rest, past}
 use Rattle.rfc4180.proofs.First.{cell, comma-rows, row-rows, end-rows}
 use Rattle.csv.proofs.Steps.{step-comma, step-row}
+use Rattle.cells.specs.declared.Cells.{Cells}
 use Rattle.cells.specs.Cells.{Stretch, no-cell, offset, RowIs, RowAt}
 
 pub offset-none : (fs : List Cell) → offset fs 0 ≡ 0
@@ -191,8 +192,8 @@ pub record RowInv (s : List ℕ) (start n at : ℕ) (from to : List ℕ) : Type 
   pub readable : Readable (drop at s)
   pub passed : (fs : List Cell) (rs : List (List Cell)) → File (drop start s) (fs ∷ rs) → Seen s start fs rs n at from to
 
-module _ {s : List ℕ} {start n at : ℕ} {from to a b : List ℕ} (i : RowInv s start n at from to) (p : a ≡ set from n at) where
-  pub inv-comma : (e : ℕ) → b ≡ set to n e → FieldAt s at (Comma e) → RowInv s start (n + 1) (e + 1) a b
+module _ {s : List ℕ} {start n at : ℕ} {from to a : List ℕ} (i : RowInv s start n at from to) (p : a ≡ set from n at) where
+  pub inv-comma : {b : List ℕ} (e : ℕ) → b ≡ set to n e → FieldAt s at (Comma e) → RowInv s start (n + 1) (e + 1) a b
   inv-comma e q h =
       let st = step-comma s at e h in
       let f = h .0 .from in
@@ -206,8 +207,8 @@ module _ {s : List ℕ} {start n at : ℕ} {from to a b : List ℕ} (i : RowInv 
         passed = λ fs rs k. rw (p, q) (seen-more (i .from-ten) (i .to-ten) (i .passed fs rs k) e h);
       }
 
-  pub inv-row : (e : ℕ) → b ≡ set to n e → FieldAt s at (Row e) → RowAt s start (record { count = n + 1; from = a; to = b; next = e + 2 })
-  inv-row e q h fs rs k = rw (p, q) (seen-row (i .from-ten) (i .to-ten) (i .passed fs rs k) e (i .started) h)
+  pub inv-row : (e : ℕ) (r : Cells) → r ≡ record { count = n + 1; from = a; to = set to n e; next = e + 2 } → FieldAt s at (Row e) → RowAt s start r
+  inv-row e r q h fs rs k = rw (q, p) (seen-row (i .from-ten) (i .to-ten) (i .passed fs rs k) e (i .started) h)
 
-  pub inv-end : b ≡ set to n (length s) → FieldAt s at End → RowAt s start (record { count = n + 1; from = a; to = b; next = length s })
-  inv-end q h fs rs k = rw (p, q) (seen-end (i .from-ten) (i .to-ten) (i .passed fs rs k) (i .started) h)
+  pub inv-end : (r : Cells) → r ≡ record { count = n + 1; from = a; to = set to n (length s); next = length s } → FieldAt s at End → RowAt s start r
+  inv-end r q h fs rs k = rw (q, p) (seen-end (i .from-ten) (i .to-ten) (i .passed fs rs k) (i .started) h)

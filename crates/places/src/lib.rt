@@ -5,7 +5,7 @@
 use cells::Cells;
 use csv::Ended;
 ghost use mathlib.Core.Path.{_≡_};
-ghost use Prim.Native.Nat.{_+_, _≤_, _<_};
+ghost use Prim.Native.Nat.{_+_, _≤_, _<_, _^_};
 ghost use lib.ListN.{length, drop, set};
 ghost use Rattle.rfc4180.specs.Rfc4180.{Readable};
 ghost use Rattle.cells.specs.Cells.{RowAt};
@@ -20,6 +20,20 @@ fn put(a: [usize; 10], n: usize, v: usize) -> [usize; 10]
         return b;
     }
     b
+}
+
+// The row whose last field is n, which ends at a place; and where the next row starts.
+fn closed(from: [usize; 10], to: [usize; 10], n: usize, end: usize, next: usize) -> Cells
+    requires { ⌜ n < 2 ^ 63 ⌝ }
+    ensures { λ r. ⌜ r ≡ record { count = n + 1; from = from; to = set to n end; next = next } ⌝ }
+{
+    let ends = put(to, n, end);
+    Cells {
+        count: n + 1,
+        from,
+        to: ends,
+        next,
+    }
 }
 
 // The row that starts at a place.
@@ -43,27 +57,8 @@ pub fn row_at(s: &[u8], start: usize) -> Cells
                 n += 1;
                 at = e + 1;
             }
-            Ended::Row(e) => {
-                let b = put(to, n, e);
-                to = b;
-                return Cells {
-                    count: n + 1,
-                    from,
-                    to,
-                    next: e + 2,
-                };
-            }
-            Ended::End => {
-                let e = s.len();
-                let b = put(to, n, e);
-                to = b;
-                return Cells {
-                    count: n + 1,
-                    from,
-                    to,
-                    next: e,
-                };
-            }
+            Ended::Row(e) => return closed(from, to, n, e, e + 2),
+            Ended::End => return closed(from, to, n, s.len(), s.len()),
             Ended::Bad => {
                 return Cells {
                     count: 0,

@@ -1,14 +1,123 @@
-use mathlib.Core.Path.{_≡_}
--- Two answers' texts that are equal are those of the same key and the same lines.
+-- Two texts that are equal are those of the same key and the same lines: their fields are equal one by one, and each says the same.
+use Prim.Native.Nat.{ℕ}
+use mathlib.Core.Path.{_≡_, refl, sym, _∙_}
+use mathlib.Core.List.{List, [], _∷_, _++_, append-assoc}
+use native.Mathlib.Omega.{arith}
+use lib.Seq.{take-append-seam}
+use Rattle.rfc4180.specs.Rfc4180.{COMMA, CR, LF}
+use Rattle.names.specs.Names.{NameIn, name}
 use Rattle.keys.specs.declared.Key.{Key}
+use Rattle.lines.specs.Lines.{PrintedLine, lines-of}
+use Rattle.line_key.specs.Text.{name-bytes, key-text}
+use Rattle.line_fields.specs.Text.{name-text, value-text, cell-text, mark-text}
+use Rattle.printing.specs.Keys.{IsKey}
+use Rattle.printing.specs.Text.{line-text, texts, text}
+use Rattle.printing.proofs.Fields.{Without, until-first, name-without, line-name-without, value-without, cell-without, mark-without, read-back, read-name, name-read, read-value, value-read, read-cell, cell-read, read-mark, mark-read}
 use Rattle.lines.specs.declared.Answer.{Answer}
-use Rattle.lines.specs.Lines.{lines-of}
-use Rattle.line_text.specs.Keys.{IsKey}
-use Rattle.line_text.specs.Text.{texts}
-use Rattle.printing.specs.Text.{text}
-use Rattle.line_text.proofs.Injective.{line-injective, texts-injective}
 
--- The text of a job's lines says its key and its lines.
+-- ---- a line, and what follows it
+
+line-laid : (key : Key) (l : PrintedLine) (later : List ℕ) → line-text key l ++ later
+    ≡ name-bytes (key .member) ++ (COMMA ∷ (name-bytes (key .job) ++ (COMMA ∷ (name-text (l .name) ++ (COMMA ∷ (value-text (l .value)
+    ++ (COMMA ∷ (cell-text (l .limit) ++ (COMMA ∷ (cell-text (l .set) ++ (COMMA ∷ (mark-text (l .mark) ++ (CR ∷ (LF ∷ later))))))))))))))
+unfolding line-text key-text
+line-laid key l later = simp append-assoc
+
+-- keys whose names hold no comma, two lines, and what follows each
+module _ (k k′ : Key) (l l′ : PrintedLine) (later later′ : List ℕ)
+    (member : Without COMMA (name-bytes (k .member))) (member′ : Without COMMA (name-bytes (k′ .member)))
+    (job : Without COMMA (name-bytes (k .job))) (job′ : Without COMMA (name-bytes (k′ .job))) where
+  record SameLine : Type 0 where
+    members : name-bytes (k .member) ≡ name-bytes (k′ .member)
+    jobs : name-bytes (k .job) ≡ name-bytes (k′ .job)
+    lines : l ≡ l′
+    rest : later ≡ later′
+
+  line-same : line-text k l ++ later ≡ line-text k′ l′ ++ later′ → SameLine
+  line-same e =
+      let a = until-first COMMA _ _ _ _ member member′ (sym (line-laid k l later) ∙ e ∙ line-laid k′ l′ later′) in
+      let b = until-first COMMA _ _ _ _ job job′ (a .1) in
+      let c = until-first COMMA _ _ _ _ (line-name-without (l .name)) (line-name-without (l′ .name)) (b .1) in
+      let d = until-first COMMA _ _ _ _ (value-without (l .value)) (value-without (l′ .value)) (c .1) in
+      let f = until-first COMMA _ _ _ _ (cell-without (l .limit)) (cell-without (l′ .limit)) (d .1) in
+      let g = until-first COMMA _ _ _ _ (cell-without (l .set)) (cell-without (l′ .set)) (f .1) in
+      let h = until-first CR _ _ _ _ (mark-without (l .mark)) (mark-without (l′ .mark)) (g .1) in
+      let names = read-back name-text read-name name-read _ _ (c .0) in
+      let values = read-back value-text read-value value-read _ _ (d .0) in
+      let limits = read-back cell-text read-cell cell-read _ _ (f .0) in
+      let sets = read-back cell-text read-cell cell-read _ _ (g .0) in
+      let marks = read-back mark-text read-mark mark-read _ _ (h .0) in
+      record {
+        members = a .0;
+        jobs = b .0;
+        lines = λ i. record { name = names i; value = values i; limit = limits i; set = sets i; mark = marks i };
+        rest = cc (h .1);
+      }
+
+-- ---- lines
+
+not-empty : (s : List ℕ) (x : ℕ) (t : List ℕ) → [] ≡ s ++ (x ∷ t) → ⊥
+not-empty [] x t e = let z : _≡_ {A = ℕ} 0 1 = cc in omega arith
+not-empty (y ∷ s) x t e = let z : _≡_ {A = ℕ} 0 1 = cc in omega arith
+
+line-some : (key : Key) (l : PrintedLine) (later : List ℕ) → [] ≡ line-text key l ++ later → ⊥
+line-some key l later e = not-empty (name-bytes (key .member)) COMMA _ (e ∙ line-laid key l later)
+
+module _ (k k′ : Key) (member : Without COMMA (name-bytes (k .member))) (member′ : Without COMMA (name-bytes (k′ .member)))
+    (job : Without COMMA (name-bytes (k .job))) (job′ : Without COMMA (name-bytes (k′ .job))) where
+  texts-same : (ls ms : List PrintedLine) → texts k ls ≡ texts k′ ms → ls ≡ ms
+  unfolding texts
+  texts-same [] [] e = refl
+  texts-same [] (m ∷ ms) e = absurd (line-some k′ m (texts k′ ms) e)
+  texts-same (l ∷ ls) [] e = absurd (line-some k l (texts k ls) (sym e))
+  texts-same (l ∷ ls) (m ∷ ms) e =
+      let same = line-same k k′ l m (texts k ls) (texts k′ ms) member member′ job job′ e in
+      let later = texts-same ls ms (same .rest) in
+      cc (same .lines)
+
+-- ---- a key's names
+
+named-bytes : (c : List ℕ) → name-bytes (name c) ≡ c
+unfolding name-bytes
+named-bytes c = take-append-seam c _
+
+member-bytes : {key : Key} (h : IsKey key) → name-bytes (key .member) ≡ h .member
+member-bytes h = rw (h .held) (named-bytes (h .member))
+
+job-bytes : {key : Key} (h : IsKey key) → name-bytes (key .job) ≡ h .job
+job-bytes h = rw (h .held) (named-bytes (h .job))
+
+member-without : {key : Key} → IsKey key → Without COMMA (name-bytes (key .member))
+member-without h = rw (member-bytes h) (name-without (h .member) (h .member-named))
+
+job-without : {key : Key} → IsKey key → Without COMMA (name-bytes (key .job))
+job-without h = rw (job-bytes h) (name-without (h .job) (h .job-named))
+
+-- two fields that are names make a key
+pub key-read : {raw raw′ : List ℕ} (key : Key) → NameIn raw (key .member) → NameIn raw′ (key .job) → IsKey key
+key-read key p q =
+    record {
+      member = p .content;
+      job = q .content;
+      member-named = p .is;
+      job-named = q .is;
+      held = λ i. record { member = p .held i; job = q .held i };
+    }
+
+-- A line and what follows it say the key, the line, and what follows; lines say themselves.
+module _ {k k′ : Key} (h : IsKey k) (h′ : IsKey k′) where
+  pub line-injective : (l l′ : PrintedLine) (later later′ : List ℕ) → line-text k l ++ later ≡ line-text k′ l′ ++ later′ → (k ≡ k′) × (l ≡ l′)
+  line-injective l l′ later later′ e =
+      let same = line-same k k′ l l′ later later′ (member-without h) (member-without h′) (job-without h) (job-without h′) e in
+      let member : h .member ≡ h′ .member = sym (member-bytes h) ∙ same .members ∙ member-bytes h′ in
+      let job : h .job ≡ h′ .job = sym (job-bytes h) ∙ same .jobs ∙ job-bytes h′ in
+      (h .held ∙ (λ i. record { member = name (member i); job = name (job i) }) ∙ sym (h′ .held), same .lines)
+
+  pub texts-injective : (ls ms : List PrintedLine) → texts k ls ≡ texts k′ ms → ls ≡ ms
+  texts-injective = texts-same k k′ (member-without h) (member-without h′) (job-without h) (job-without h′)
+
+-- ---- the text of a job's lines says its key and its lines
+
 pub text-injective : {k k′ : Key} (a a′ : Answer) → IsKey k → IsKey k′ → text k a ≡ text k′ a′ → (k ≡ k′) × (lines-of a ≡ lines-of a′)
 unfolding text texts lines-of
 text-injective a a′ h h′ e = (line-injective h h′ _ _ _ _ e .0, texts-injective h h′ (lines-of a) (lines-of a′) e)

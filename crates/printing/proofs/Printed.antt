@@ -1,18 +1,115 @@
--- VERDICT, and the lines put behind it, are the answer.
-use Prim.Native.Nat.{ℕ, _+_}
-use mathlib.Core.Path.{_≡_}
+-- The fields of a line, put one behind the other, are the line; VERDICT, and the lines put behind it, are the answer.
+use Prim.Native.Nat.{ℕ, _+_, _≤_}
+use mathlib.Core.Path.{_≡_, refl, sym, ap, _∙_}
 use mathlib.Core.Bool.{Bool, true, false}
-use mathlib.Core.List.{List, []}
+use mathlib.Core.List.{List, [], _∷_, _++_, append-assoc, append-nil}
 use native.Mathlib.Omega.{arith}
+use lib.ListN.{length}
 use Rattle.keys.specs.declared.Key.{Key}
+use Rattle.sets.specs.declared.Combination.{Combination}
+use Rattle.checks.specs.declared.Check.{Check}
+use Rattle.checks.specs.declared.Figure.{Figure}
+use Rattle.lines.specs.declared.Line.{Line}
+use Rattle.lines.specs.declared.Line.the-variants as line
+use Rattle.lines.specs.declared.DepthLine.{DepthLine}
+use Rattle.lines.specs.declared.DepthLine.the-variants as depth
+use Rattle.lines.specs.declared.ClearLine.{ClearLine}
+use Rattle.lines.specs.declared.ClearLine.the-variants as clear
+use Rattle.lines.specs.Lines.{SC, CL, PrintedLine, value-of, signed-value, check-line, depth-line, clear-line, verdict-line, later-lines, unless-refused, Alone, lines-of}
+use Rattle.block.specs.declared.Block.{Block}
+use Rattle.block.specs.Decimal.{decimal}
+use Rattle.block.specs.Block.{field, puts, Put}
+use Rattle.line_key.specs.Text.{key-text}
+use Rattle.line_fields.specs.Text.{HYPHEN, combination-text, check-text, name-text, value-text, cell-text, ending}
+use Rattle.printing.specs.Text.{line-text, texts, text}
+use Rattle.printing.specs.Room.{line-room}
+use Rattle.block.proofs.Pages.{spelled, then-put, put-as, put-nothing}
 use Rattle.lines.specs.declared.Verdict.{Verdict}
 use Rattle.lines.specs.declared.Answer.{Answer}
-use Rattle.lines.specs.Lines.{PrintedLine, verdict-line, later-lines, unless-refused, Alone, lines-of}
-use Rattle.block.specs.declared.Block.{Block}
-use Rattle.block.specs.Block.{Put}
-use Rattle.line_text.specs.Text.{line-text, texts}
-use Rattle.printing.specs.Text.{text}
-use Rattle.block.proofs.Pages.{then-put}
+
+-- ---- lists of lines
+
+texts-append : (key : Key) (xs ys : List PrintedLine) → texts key (xs ++ ys) ≡ texts key xs ++ texts key ys
+unfolding texts
+texts-append key [] ys = refl
+texts-append key (x ∷ xs) ys =
+    ap (λ (t : List ℕ). line-text key x ++ t) (texts-append key xs ys)
+    ∙ sym (append-assoc (line-text key x) (texts key xs) (texts key ys))
+
+texts-one : (key : Key) (l : PrintedLine) → texts key (l ∷ []) ≡ line-text key l
+unfolding texts
+texts-one key l = append-nil (line-text key l)
+
+-- lines behind lines
+pub then-lines : (b m r : Block) (key : Key) (xs ys : List PrintedLine) (i j : ℕ) → Put b (texts key xs) i m → Put m (texts key ys) j r
+    → Put b (texts key (xs ++ ys)) (i + j) r
+then-lines b m r key xs ys i j p q = put-as b r _ _ _ _ (texts-append key xs ys) (omega arith) (then-put b m r _ _ i j p q)
+
+-- no line
+pub no-line : (b : Block) (key : Key) (ls : List PrintedLine) (n : ℕ) → ls ≡ [] → Put b (texts key ls) n b
+unfolding texts
+no-line b key ls n e = rw e (put-nothing b n)
+
+-- ---- one line
+
+module _ (key : Key) (b₀ b₁ b₂ b₃ b₄ b₅ : Block) where
+  pub check-printed : (b₆ b₇ : Block) (of : Combination) (by : Check) (l : Line) (figure : Figure) (limit set : ℕ) (passes : Bool)
+      → l ≡ line.Shown figure limit set passes
+      → Put b₀ (key-text key) 26 b₁
+      → Put b₁ (combination-text of) 3 b₂
+      → Put b₂ (HYPHEN ∷ check-text by) 3 b₃
+      → Put b₃ (field (value-text (value-of figure))) 21 b₄
+      → Put b₄ (field (decimal limit)) (1 + length (decimal limit)) b₅ × (length (decimal limit) ≤ 20)
+      → Put b₅ (field (decimal set)) (1 + length (decimal set)) b₆ × (length (decimal set) ≤ 20)
+      → Put b₆ (ending passes) 4 b₇
+      → Put b₀ (texts key (check-line of by l)) (line-room l) b₇
+  unfolding check-line line-room line-text name-text cell-text
+  check-printed b₆ b₇ of by l figure limit set passes e p₁ p₂ p₃ p₄ p₅ p₆ p₇ =
+      rw e
+      (put-as b₀ b₇ _ _ _ _ (texts-one key _) (omega (arith, p₅ .1))
+      (then-put b₀ b₁ b₇ _ _ _ _ p₁
+      (then-put b₁ b₃ b₇ _ _ _ _ (then-put b₁ b₂ b₃ _ _ _ _ p₂ p₃)
+      (then-put b₃ b₄ b₇ _ _ _ _ p₄
+      (then-put b₄ b₅ b₇ _ _ _ _ (p₅ .0)
+      (then-put b₅ b₆ b₇ _ _ _ _ (p₆ .0) p₇))))))
+
+  pub depth-printed : (b₆ : Block) (l : DepthLine) (needed found : ℕ) (passes : Bool)
+      → l ≡ depth.Shown needed found passes
+      → Put b₀ (key-text key) 26 b₁
+      → b₂ ≡ puts b₁ (name-text SC)
+      → Put b₂ (field (decimal needed)) (1 + length (decimal needed)) b₃ × (length (decimal needed) ≤ 20)
+      → Put b₃ (field (decimal found)) (1 + length (decimal found)) b₄ × (length (decimal found) ≤ 20)
+      → b₅ ≡ puts b₄ (field [])
+      → Put b₅ (ending passes) 4 b₆
+      → Put b₀ (texts key (depth-line l)) 75 b₆
+  unfolding depth-line line-text name-text value-text cell-text
+  depth-printed b₆ l needed found passes e p₁ p₂ p₃ p₄ p₅ p₆ =
+      rw e
+      (put-as b₀ b₆ _ _ _ _ (texts-one key _) (omega (arith, p₃ .1, p₄ .1))
+      (then-put b₀ b₁ b₆ _ _ _ _ p₁
+      (then-put b₁ b₂ b₆ _ _ 2 _ (spelled _ _ _ _ _ refl p₂ tt)
+      (then-put b₂ b₃ b₆ _ _ _ _ (p₃ .0)
+      (then-put b₃ b₄ b₆ _ _ _ _ (p₄ .0)
+      (then-put b₄ b₅ b₆ _ _ 1 _ (spelled _ _ _ _ _ refl p₅ tt) p₆))))))
+
+  pub clear-printed : (b₆ : Block) (l : ClearLine) (below : Bool) (size needed : ℕ) (passes : Bool)
+      → l ≡ clear.Shown below size needed passes
+      → Put b₀ (key-text key) 26 b₁
+      → b₂ ≡ puts b₁ (name-text CL)
+      → Put b₂ (field (value-text (signed-value below size))) 22 b₃
+      → Put b₃ (field (decimal needed)) (1 + length (decimal needed)) b₄ × (length (decimal needed) ≤ 20)
+      → b₅ ≡ puts b₄ (field [])
+      → Put b₅ (ending passes) 4 b₆
+      → Put b₀ (texts key (clear-line l)) 76 b₆
+  unfolding clear-line line-text name-text cell-text
+  clear-printed b₆ l below size needed passes e p₁ p₂ p₃ p₄ p₅ p₆ =
+      rw e
+      (put-as b₀ b₆ _ _ _ _ (texts-one key _) (omega (arith, p₄ .1))
+      (then-put b₀ b₁ b₆ _ _ _ _ p₁
+      (then-put b₁ b₂ b₆ _ _ 2 _ (spelled _ _ _ _ _ refl p₂ tt)
+      (then-put b₂ b₃ b₆ _ _ _ _ p₃
+      (then-put b₃ b₄ b₆ _ _ _ _ (p₄ .0)
+      (then-put b₄ b₅ b₆ _ _ 1 _ (spelled _ _ _ _ _ refl p₅ tt) p₆))))))
 
 pub alone-holds : (verdict : Verdict) (r : Bool) → r ≡ true → Alone r verdict → (later : List PrintedLine) → unless-refused verdict later ≡ []
 alone-holds verdict true e h = h

@@ -6,8 +6,7 @@ use Rattle.lines.specs.declared.Line.the-variants.{Missing, Shown}
 use Rattle.lines.specs.declared.Lines.{Lines}
 use Rattle.lines.specs.declared.Answer.{Answer}
 use Rattle.lines.specs.Lines.{SetFits, SetsFit, Numbered}
-use Rattle.line_text.specs.Room.{line-room}
-use Rattle.printing.specs.Room.{lines-room, answer-room}
+use Rattle.printing.specs.Room.{line-room, lines-room, answer-room}
 use Rattle.block.proofs.Numbers.{decimal-length}
 
 line-fits : (l : Line) → SetFits l → line-room l ≤ 84

@@ -1,15 +1,25 @@
--- How many bytes lines take at most: those of the checks' lines, SC 75 and CL 76. VERDICT, which is not counted here, takes 42.
+-- How many bytes lines take at most. VERDICT, which is not counted here, takes 42.
 use Prim.Native.Nat.{ℕ, _+_}
+use lib.ListN.{length}
+use Rattle.lines.specs.declared.Line.{Line}
+use Rattle.lines.specs.declared.Line.the-variants.{Missing, Shown}
+use Rattle.block.specs.Decimal.{decimal}
 use Rattle.lines.specs.declared.Lines.{Lines}
 use Rattle.lines.specs.declared.Answer.{Answer}
-use Rattle.line_text.specs.Room.{line-room}
 
+-- the line of a check: 20 digits each for its value and its limit, those of its set, and 39 for the rest
+unfoldable pub line-room : Line → ℕ
+line-room Missing = 0
+line-room (Shown figure limit set passes) = 79 + length (decimal set)
+
+-- of a combination
 unfoldable pub lines-room : Lines → ℕ
 lines-room lines = line-room (lines .op) + (line-room (lines .om) + (line-room (lines .sl) + (line-room (lines .pr) + line-room (lines .rk))))
 
--- of the lines from combination III on
+-- from combination III on, with SC, 75, and CL, 76
 unfoldable pub from-third-room : Lines → Lines → ℕ
 from-third-room three four = lines-room three + (lines-room four + (75 + 76))
 
+-- of all lines behind VERDICT
 unfoldable pub answer-room : Answer → ℕ
 answer-room answer = lines-room (answer .one) + (lines-room (answer .two) + (lines-room (answer .three) + (lines-room (answer .four) + (75 + 76))))

@@ -15,6 +15,7 @@ use Rattle.fields.specs.Numbers.{EntryAt}
 use Rattle.names.specs.declared.Name.{Name}
 use Rattle.names.specs.declared.NameRead.{NameRead}
 use Rattle.fields.specs.declared.Entry.{Entry}
+use Rattle.fields.specs.declared.Entered.{Entered}
 use Rattle.fields.specs.declared.Entered.the-variants.{Is, Wrong}
 use Rattle.kinds.specs.Table.{columns, letters}
 use Rattle.kinds.specs.Form.{Means}
@@ -27,7 +28,9 @@ use Rattle.kinds.specs.declared.Numbers.{Numbers}
 use Rattle.letters.proofs.Letters.{letters-one}
 use Rattle.rows.specs.Form.{BookRow, raw, content, Six, Form}
 use Rattle.keys.specs.Keyed.{no-row}
-use Rattle.rows.specs.Answer.{TenAt, formed, FormedAt, RowSeen}
+use Rattle.rows.specs.Answer.{TenAt, three-are, formed, FormedAt, RowSeen}
+use Rattle.rows.specs.declared.ThreeRead.{ThreeRead}
+use Rattle.rows.specs.declared.ThreeRead.the-variants.{All, NotAll}
 use Rattle.rows.specs.declared.Formed.{Formed}
 use Rattle.keys.specs.declared.Keyed.{Keyed}
 
@@ -60,15 +63,38 @@ module _ {s : List ℕ} {c : Cells} {cs : List Cell} (t : TenAt s c cs) where
     pub cell-no-kind : KindAt r Unknown → (kind : Kind) → content cs k ≡ letters kind → ⊥
     cell-no-kind p kind e = p kind (subst (λ (l : List ℕ). Field r l) e cell-field)
 
-    module _ {cols wanted : Columns} (e : cols ≡ wanted) (column : Columns → Column) where
-      pub cell-entry : (x : Entry) → EntryAt (Means (column cols)) r (Is x) → Means (column wanted) (content cs k) x
-      cell-entry x p =
-          subst (λ (d : Columns). Means (column d) (content cs k) x) e
-          (subst (λ (l : List ℕ). Means (column cols) l x) (content-unique (p .field) cell-field) (p .is))
+    module _ (column : Column) {q : Entered} where
+      pub cell-entry : {x : Entry} → q ≡ Is x → EntryAt (Means column) r q → Means column (content cs k) x
+      cell-entry {x} e p =
+          let w = subst (EntryAt (Means column) r) e p in
+          subst (λ (l : List ℕ). Means column l x) (content-unique (w .field) cell-field) (w .is)
 
-      pub cell-no-entry : EntryAt (Means (column cols)) r Wrong → (x : Entry) → Means (column wanted) (content cs k) x → ⊥
-      cell-no-entry p x m =
-          p x (record { content = content cs k; field = cell-field; is = subst (λ (d : Columns). Means (column d) (content cs k) x) (sym e) m })
+      pub cell-no-entry : q ≡ Wrong → EntryAt (Means column) r q → (x : Entry) → Means column (content cs k) x → ⊥
+      cell-no-entry e p x m = subst (EntryAt (Means column) r) e p x (record { content = content cs k; field = cell-field; is = m })
+
+-- six numbers are three and three
+module _ {found wanted : Columns} (e : found ≡ wanted) (cs : List Cell) (n : Numbers) where
+  abbrev Left : ThreeRead → Type 0
+  Left r = three-are r 3 (found .n1) (found .n2) (found .n3) cs
+
+  abbrev Right : ThreeRead → Type 0
+  Right r = three-are r 6 (found .n4) (found .n5) (found .n6) cs
+
+  pub six-of : {l r : ThreeRead} → l ≡ All (n .n1) (n .n2) (n .n3) → r ≡ All (n .n4) (n .n5) (n .n6) → Left l → Right r → Six wanted cs n
+  six-of p q v w =
+      let a = subst Left p v in
+      let b = subst Right q w in
+      subst (λ (d : Columns). Six d cs n) e (record { n1 = a .first; n2 = a .second; n3 = a .third; n4 = b .first; n5 = b .second; n6 = b .third })
+
+  module _ (h : Six wanted cs n) where
+    abbrev six : Six found cs n
+    six = subst (λ (d : Columns). Six d cs n) (sym e) h
+
+    pub no-left : {l : ThreeRead} → l ≡ NotAll → Left l → ⊥
+    no-left p v = subst Left p v (n .n1) (n .n2) (n .n3) (record { first = six .n1; second = six .n2; third = six .n3 })
+
+    pub no-right : {r : ThreeRead} → r ≡ NotAll → Right r → ⊥
+    no-right p v = subst Right p v (n .n4) (n .n5) (n .n6) (record { first = six .n4; second = six .n5; third = six .n6 })
 
 -- no row
 pub unformed-is : (cs : List Cell) (r : Formed) → (r .good ≡ false) × (r .row ≡ no-row) → ((q : BookRow) → Form cs q → ⊥) → formed (r .good) cs (r .row)

@@ -4,19 +4,28 @@
 // reading has, and not of whatever the code looks at: each promise here speaks of every reading of the text.
 use cells::Cells;
 use fields::Entered;
+use fields::Entry;
 use keys::Key;
 use keys::Keyed;
+use kinds::Column;
 use kinds::Kind;
 use kinds::Numbers;
 use kinds::Row;
 use letters::KindRead;
 ghost use mathlib.Core.Path.{_≡_};
 ghost use mathlib.Core.Bool.{false};
-ghost use Prim.Native.Nat.{_≤_};
+ghost use Prim.Native.Nat.{_≤_, _<_};
 ghost use lib.ListN.{length, drop};
 ghost use Rattle.rfc4180.specs.Rfc4180.{Readable};
+ghost use Rattle.fields.specs.Numbers.{EntryAt};
+ghost use Rattle.kinds.specs.Form.{Means};
 ghost use Rattle.keys.specs.Keyed.{no-row};
-ghost use Rattle.rows.specs.Answer.{NumbersAre, FormedAt, SeenAt};
+ghost use Rattle.rows.specs.Answer.{ThreeAre, NumbersAre, FormedAt, SeenAt};
+
+enum ThreeRead {
+    All(Entry, Entry, Entry),
+    NotAll,
+}
 
 enum NumbersRead {
     Are(Numbers),
@@ -36,6 +45,37 @@ pub struct RowRead {
     pub next: usize,
 }
 
+// What a field holds in a column.
+fn entry_at(column: Column, raw: &[u8]) -> Entered
+    ensures { λ r. ⌜ EntryAt (Means column) (now (raw .entry)) r ⌝ }
+{
+    match column {
+        Column::Empty => fields::empty_at(raw),
+        Column::Filled(_, _) => fields::number_at(raw),
+        Column::Signed(_, _) => fields::number_at(raw),
+    }
+}
+
+// The numbers of three fields side by side, each by its column.
+fn three_of(s: &[u8], places: Cells, first: usize, a: Column, b: Column, c: Column) -> ThreeRead
+    requires { ⌜ first < 8 ⌝ }
+    ensures { λ r. ⌜ ThreeAre (now (s .entry)) places first a b c r ⌝ }
+{
+    let x = entry_at(a, cells::cell(s, places, first));
+    let Entered::Is(one) = x else {
+        return ThreeRead::NotAll;
+    };
+    let y = entry_at(b, cells::cell(s, places, first + 1));
+    let Entered::Is(two) = y else {
+        return ThreeRead::NotAll;
+    };
+    let z = entry_at(c, cells::cell(s, places, first + 2));
+    let Entered::Is(three) = z else {
+        return ThreeRead::NotAll;
+    };
+    ThreeRead::All(one, two, three)
+}
+
 // The six numbers of a row of a kind.
 fn numbers_of(s: &[u8], places: Cells, kind: Kind) -> NumbersRead
     ensures { λ r. ⌜ NumbersAre (now (s .entry)) places kind r ⌝ }
@@ -44,31 +84,15 @@ fn numbers_of(s: &[u8], places: Cells, kind: Kind) -> NumbersRead
     let c1 = columns.n1;
     let c2 = columns.n2;
     let c3 = columns.n3;
+    let left = three_of(s, places, 3, c1, c2, c3);
+    let ThreeRead::All(n1, n2, n3) = left else {
+        return NumbersRead::Wrong;
+    };
     let c4 = columns.n4;
     let c5 = columns.n5;
     let c6 = columns.n6;
-    let e1 = kinds::entry_at(c1, cells::cell(s, places, 3));
-    let Entered::Is(n1) = e1 else {
-        return NumbersRead::Wrong;
-    };
-    let e2 = kinds::entry_at(c2, cells::cell(s, places, 4));
-    let Entered::Is(n2) = e2 else {
-        return NumbersRead::Wrong;
-    };
-    let e3 = kinds::entry_at(c3, cells::cell(s, places, 5));
-    let Entered::Is(n3) = e3 else {
-        return NumbersRead::Wrong;
-    };
-    let e4 = kinds::entry_at(c4, cells::cell(s, places, 6));
-    let Entered::Is(n4) = e4 else {
-        return NumbersRead::Wrong;
-    };
-    let e5 = kinds::entry_at(c5, cells::cell(s, places, 7));
-    let Entered::Is(n5) = e5 else {
-        return NumbersRead::Wrong;
-    };
-    let e6 = kinds::entry_at(c6, cells::cell(s, places, 8));
-    let Entered::Is(n6) = e6 else {
+    let right = three_of(s, places, 6, c4, c5, c6);
+    let ThreeRead::All(n4, n5, n6) = right else {
         return NumbersRead::Wrong;
     };
     NumbersRead::Are(Numbers {

@@ -13,7 +13,7 @@ ghost use Rattle.checks.specs.Sized.{Sized};
 ghost use Rattle.set_figures.specs.Figures.{Shows, Judged};
 
 // The rank of a check, of the sums of a set.
-pub fn rank_of(check: Check, base: Base, sums: Sums) -> u64
+fn rank_of(check: Check, base: Base, sums: Sums) -> u64
     requires { ⌜ Sized base ⌝ }
     requires { ⌜ Room 16 sums ⌝ }
     ensures { λ r. ⌜ Ranks (side check) (Judged check base sums) r ⌝ }

@@ -1,4 +1,5 @@
 -- Adding sums, row by row: sums are added in any order, their fields are the natural sums of the definitions, these make the whole numbers N, H and M, and all of it fits.
+use borrow.Author.Needs.{needs}
 use mathlib.Core.Path.{_≡_, refl, sym, _∙_, ap, ap₂, subst}
 use Prim.Native.Nat.{ℕ, zero, suc, _+_, _*_, _^_, _≤_}
 use native.Mathlib.Omega.{arith}
@@ -236,59 +237,14 @@ low-place n h = let k : n ≤ 34 = omega arith in pow-mono k
 -- ---- sizes: what a row gives, and sums of rows
 pub room-none : (n : ℕ) → Room n noSums
 unfolding noSums
-room-none n =
-    record {
-      down = omega arith;
-      up = omega arith;
-      ahead = omega arith;
-      back = omega arith;
-      turning = omega arith;
-      returning = omega arith;
-      resisting-plus = omega arith;
-      overturning-plus = omega arith;
-      resisting-minus = omega arith;
-      overturning-minus = omega arith;
-      winds = omega arith;
-      quakes = omega arith;
-      set = omega arith;
-    }
+room-none n = search needs
 
 pub room-add : {m n : ℕ} {a b : Sums} → Room m a → Room n b → Room (m + n) (add a b)
 unfolding add addParts addBalance
-room-add p q =
-    record {
-      down = omega arith;
-      up = omega arith;
-      ahead = omega arith;
-      back = omega arith;
-      turning = omega arith;
-      returning = omega arith;
-      resisting-plus = omega arith;
-      overturning-plus = omega arith;
-      resisting-minus = omega arith;
-      overturning-minus = omega arith;
-      winds = omega arith;
-      quakes = omega arith;
-      set = omega arith;
-    }
+room-add p q = search needs
 
 pub room-more : {m n : ℕ} {a : Sums} → m ≤ n → Room m a → Room n a
-room-more h p =
-    record {
-      down = omega arith;
-      up = omega arith;
-      ahead = omega arith;
-      back = omega arith;
-      turning = omega arith;
-      returning = omega arith;
-      resisting-plus = omega arith;
-      overturning-plus = omega arith;
-      resisting-minus = omega arith;
-      overturning-minus = omega arith;
-      winds = omega arith;
-      quakes = omega arith;
-      set = omega arith;
-    }
+room-more h p = search needs
 
 pub room-if : {n : ℕ} (held : ℕ) {a b : Sums} → Room n a → Room 1 b → Room (n + 1) (addIf held a b)
 unfolding addIf

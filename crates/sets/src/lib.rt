@@ -5,6 +5,7 @@
 use signed::Amount;
 use signed::Parts;
 ghost use mathlib.Core.Path.{_≡_};
+ghost use Rattle.sets.specs.Sets.{noLoad};
 ghost use Rattle.sets.specs.Sums.{noSums, addParts, addBalance, add, LowParts, LowBalance, Room};
 
 // What a row is to a combination: DL, EP and E are permanent, WL is wind, SF is earthquake, every other row is free.
@@ -65,6 +66,24 @@ pub struct Totals {
     pub m: Amount,
     pub plus: Balance,
     pub minus: Balance,
+}
+
+// A row that exerts nothing.
+pub fn no_load() -> Load
+    ensures { λ r. ⌜ r ≡ noLoad ⌝ }
+{
+    let none = Amount {
+        minus: false,
+        size: 0,
+    };
+    Load {
+        class: Class::Permanent,
+        phase: 0,
+        v: none,
+        x: none,
+        h: none,
+        twist: none,
+    }
 }
 
 pub fn no_sums() -> Sums

@@ -51,13 +51,13 @@ pub fn distance(a: u64, b: u64) -> u64
 }
 
 // How far a number is past another, and 0 where it is not.
-pub fn excess(a: u64, b: u64) -> u64
-    ensures { λ r. ⌜ r ≡ a - b ⌝ }
+pub fn excess(a: u64, other: u64) -> u64
+    ensures { λ r. ⌜ r ≡ a - other ⌝ }
 {
-    if a < b {
+    if a < other {
         return 0;
     }
-    a - b
+    a - other
 }
 
 // The difference of two numbers, as an amount.

@@ -1,13 +1,15 @@
-use mathlib.Core.Path.{refl}
+use mathlib.Core.Path.{refl, ap}
+use lib.ListN.{replicate}
+use Rattle.jobs.specs.declared.Job.{Job}
 use borrow.Author.Needs.{needs}
 use Rattle.book.proofs.refused.Statement.{statement}
 use Rattle.book.proofs.refused.Tie as tie
 
-no-jobs-requires : tie.Need-no-jobs-requires
-no-jobs-requires c κs = search needs
+blank-job-requires : tie.Need-blank-job-requires
+blank-job-requires c κs = search needs
 
 returns : tie.Need-returns
-returns c = (refl, c .no-jobs .ensures)
+returns c = (refl, ap (λ (j : Job). replicate 64 j) (c .blank-job .ensures))
 
 pub refused-spec : {M : Type 1} → statement M
-refused-spec = tie.close (tie.spec no-jobs-requires returns)
+refused-spec = tie.close (tie.spec blank-job-requires returns)

@@ -1,16 +1,34 @@
 use borrow.Author.Needs.{needs}
-use mathlib.Core.Path.{ap}
-use Rattle.classes.specs.declared.Nature.{Nature}
-use Rattle.classes.specs.Classes.{nature}
+use mathlib.Core.Path.{refl}
+use mathlib.Core.List.{[], _∷_}
+use Rattle.kinds.specs.declared.Kind.the-variants.{B, S, C, E, DL, EP, LL, LF, CF, WC, BU, TM, EX}
+use Rattle.sets.specs.declared.Class.the-variants.{Permanent, Free}
+use Rattle.classes.specs.Classes.{classOf}
+use Rattle.kinds.proofs.Arms.{arm}
 use Rattle.classes.proofs.class_of.Statement.{statement}
 use Rattle.classes.proofs.class_of.Tie as tie
 
-nature-of-requires : tie.Need-nature-of-requires
-nature-of-requires c κs = search needs
+enum-told : tie.Need-enum-told
+enum-told c = search needs
+
+enum-told-2 : tie.Need-enum-told-2
+enum-told-2 c = search needs
 
 returns : tie.Need-returns
-unfolding nature
-returns c = ap (λ (n : Nature). n .class) (c .nature-of .ensures)
+unfolding classOf
+returns c = arm classOf Permanent (B ∷ S ∷ C ∷ E ∷ DL ∷ EP ∷ []) (c .before .args .kind) refl (c .match .keys1)
+
+returns-2 : tie.Need-returns-2
+unfolding classOf
+returns-2 c = arm classOf Free (LL ∷ LF ∷ CF ∷ WC ∷ BU ∷ TM ∷ EX ∷ []) (c .before .args .kind) refl (c .match .keys2)
+
+returns-3 : tie.Need-returns-3
+unfolding classOf
+returns-3 c = search needs
+
+returns-4 : tie.Need-returns-4
+unfolding classOf
+returns-4 c = search needs
 
 pub class-of-spec : {M : Type 1} → statement M
-class-of-spec = tie.close (tie.spec nature-of-requires returns)
+class-of-spec = tie.close (tie.spec enum-told enum-told-2 returns returns-2 returns-3 returns-4)

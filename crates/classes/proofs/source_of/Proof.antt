@@ -1,16 +1,27 @@
 use borrow.Author.Needs.{needs}
-use mathlib.Core.Path.{ap}
-use Rattle.classes.specs.declared.Nature.{Nature}
-use Rattle.classes.specs.Classes.{nature}
+use mathlib.Core.Path.{refl}
+use mathlib.Core.List.{[], _∷_}
+use Rattle.kinds.specs.declared.Kind.the-variants.{B, S, C, DL, EP, LL, LF, CF, WC, BU, TM, EX, WL, SF}
+use Rattle.classes.specs.declared.Source.the-variants.{Absent, Written}
+use Rattle.classes.specs.Classes.{source}
+use Rattle.kinds.proofs.Arms.{arm}
 use Rattle.classes.proofs.source_of.Statement.{statement}
 use Rattle.classes.proofs.source_of.Tie as tie
 
-nature-of-requires : tie.Need-nature-of-requires
-nature-of-requires c κs = search needs
+enum-told : tie.Need-enum-told
+enum-told c = search needs
 
 returns : tie.Need-returns
-unfolding nature
-returns c = ap (λ (n : Nature). n .source) (c .nature-of .ensures)
+unfolding source
+returns c = arm source Absent (B ∷ S ∷ C ∷ []) (c .before .args .kind) refl (c .match .keys1)
+
+returns-2 : tie.Need-returns-2
+unfolding source
+returns-2 c = search needs
+
+returns-3 : tie.Need-returns-3
+unfolding source
+returns-3 c = arm source Written (DL ∷ EP ∷ LL ∷ LF ∷ CF ∷ WC ∷ BU ∷ TM ∷ EX ∷ WL ∷ SF ∷ []) (c .before .args .kind) refl (c .match .keys3)
 
 pub source-of-spec : {M : Type 1} → statement M
-source-of-spec = tie.close (tie.spec nature-of-requires returns)
+source-of-spec = tie.close (tie.spec enum-told returns returns-2 returns-3)

@@ -17,9 +17,6 @@ use Rattle.forces.proofs.exert.Tie as tie
 class-of-requires : tie.Need-class-of-requires
 class-of-requires c κs = search needs
 
-phase-of-requires : tie.Need-phase-of-requires
-phase-of-requires c κs = search needs
-
 source-of-requires : tie.Need-source-of-requires
 source-of-requires c κs = search needs
 
@@ -52,49 +49,48 @@ enum-known-thrust c = search needs
 
 earth-load-requires-4 : tie.Need-earth-load-requires-4
 earth-load-requires-4 c κs =
-    let m = pressed-modest table2-small (subst (λ (a : EarthAnswer). Pressed table2-fill (c .before .before .before .before .before .before .before .before .before .before .args .row .numbers) (told a)) (c .before .thrust .given .1) (c .before .before .before .pressure .ensures)) in (m .thrust, m .arm)
+    let m = pressed-modest table2-small (subst (λ (a : EarthAnswer). Pressed table2-fill (c .before .before .before .before .before .before .before .before .before .args .row .numbers) (told a)) (c .before .thrust .given .1) (c .before .before .before .pressure .ensures)) in (m .thrust, m .arm)
 
 enum-told-5 : tie.Need-enum-told-5
 enum-told-5 c = search needs
 
 own-load-requires : tie.Need-own-load-requires
 own-load-requires c κs =
-    let r = written-columns _ _ (sym (c .before .before .source-of .ensures) ∙ c .enum-told5 .given .1) (c .before .before .before .before .before .before .pre .0) in (around-size 50000 _ (r .n3), r .n4 .to, r .n4 .plain)
+    let r = written-columns _ _ (sym (c .before .before .source-of .ensures) ∙ c .enum-told5 .given .1) (c .before .before .before .before .before .pre .0) in (around-size 50000 _ (r .n3), r .n4 .to, r .n4 .plain)
 
 returns : tie.Need-returns
 unfolding Forces
 returns c =
-    record { class = c .earth-load .ensures .0 ∙ c .before .before .before .before .before .class-of .ensures; phase = c .earth-load .ensures .1 ∙ c .before .before .before .before .phase-of .ensures; forces = subst⁻¹ (λ (s : Source). Forces table2-fill s (c .before .before .before .before .before .before .before .args .row .numbers) (c .earth-load .result)) (sym (c .before .before .before .source-of .ensures) ∙ c .before .enum-told .given .1) (c .earth-load .ensures .2) }
+    record { class = c .earth-load .ensures .0 ∙ c .before .before .before .before .class-of .ensures; phase = c .earth-load .ensures .1; forces = subst⁻¹ (λ (s : Source). Forces table2-fill s (c .before .before .before .before .before .before .args .row .numbers) (c .earth-load .result)) (sym (c .before .before .before .source-of .ensures) ∙ c .before .enum-told .given .1) (c .earth-load .ensures .2) }
 
 returns-2 : tie.Need-returns-2
 returns-2 c =
-    absurd (in-range-not (subst (λ (a : EarthAnswer). Pressed table2-fill (c .before .before .before .before .before .before .before .before .before .before .args .row .numbers) (told a)) (c .before .enum-told3 .given .1) (c .before .before .before .pressure .ensures)) (earth-columns _ _ (sym (c .before .before .before .before .before .before .source-of .ensures) ∙ c .before .before .before .before .enum-told2 .given .1) (c .before .before .before .before .before .before .before .before .before .before .pre .0)))
+    absurd (in-range-not (subst (λ (a : EarthAnswer). Pressed table2-fill (c .before .before .before .before .before .before .before .before .before .args .row .numbers) (told a)) (c .before .enum-told3 .given .1) (c .before .before .before .pressure .ensures)) (earth-columns _ _ (sym (c .before .before .before .before .before .before .source-of .ensures) ∙ c .before .before .before .before .enum-told2 .given .1) (c .before .before .before .before .before .before .before .before .before .pre .0)))
 
 returns-3 : tie.Need-returns-3
 unfolding BlankThere
 returns-3 c =
-    absurd (c .before .before .before .before .before .before .before .before .before .before .pre .1 ((sym (c .before .before .before .before .before .before .source-of .ensures) ∙ c .before .before .before .before .enum-told2 .given .1), subst (λ (a : EarthAnswer). Pressed table2-fill (c .before .before .before .before .before .before .before .before .before .before .args .row .numbers) (told a)) (c .before .enum-told4 .given .1) (c .before .before .before .pressure .ensures)))
+    absurd (c .before .before .before .before .before .before .before .before .before .pre .1 ((sym (c .before .before .before .before .before .before .source-of .ensures) ∙ c .before .before .before .before .enum-told2 .given .1), subst (λ (a : EarthAnswer). Pressed table2-fill (c .before .before .before .before .before .before .before .before .before .args .row .numbers) (told a)) (c .before .enum-told4 .given .1) (c .before .before .before .pressure .ensures)))
 
 returns-4 : tie.Need-returns-4
 unfolding Forces
 returns-4 c =
     record {
-      class = c .earth-load4 .ensures .0 ∙ c .before .before .before .before .before .before .before .before .before .class-of .ensures;
-      phase = c .earth-load4 .ensures .1 ∙ c .before .before .before .before .before .before .before .before .phase-of .ensures;
-      forces = subst⁻¹ (λ (s : Source). Forces table2-fill s (c .before .before .before .before .before .before .before .before .before .before .before .args .row .numbers) (c .earth-load4 .result)) (sym (c .before .before .before .before .before .before .before .source-of .ensures) ∙ c .before .before .before .before .before .enum-told2 .given .1) (record { H = _; y = _; pressed = subst (λ (a : EarthAnswer). Pressed table2-fill (c .before .before .before .before .before .before .before .before .before .before .before .args .row .numbers) (told a)) (c .before .before .thrust .given .1) (c .before .before .before .before .pressure .ensures); exerts = c .earth-load4 .ensures .2 });
+      class = c .earth-load4 .ensures .0 ∙ c .before .before .before .before .before .before .before .before .class-of .ensures;
+      phase = c .earth-load4 .ensures .1;
+      forces = subst⁻¹ (λ (s : Source). Forces table2-fill s (c .before .before .before .before .before .before .before .before .before .before .args .row .numbers) (c .earth-load4 .result)) (sym (c .before .before .before .before .before .before .before .source-of .ensures) ∙ c .before .before .before .before .before .enum-told2 .given .1) (record { H = _; y = _; pressed = subst (λ (a : EarthAnswer). Pressed table2-fill (c .before .before .before .before .before .before .before .before .before .before .args .row .numbers) (told a)) (c .before .before .thrust .given .1) (c .before .before .before .before .pressure .ensures); exerts = c .earth-load4 .ensures .2 });
     }
 
 returns-5 : tie.Need-returns-5
 unfolding Forces
 returns-5 c =
-    record { class = c .own-load .ensures .0 ∙ c .before .before .before .before .before .class-of .ensures; phase = c .own-load .ensures .1 ∙ c .before .before .before .before .phase-of .ensures; forces = subst⁻¹ (λ (s : Source). Forces table2-fill s (c .before .before .before .before .before .before .before .args .row .numbers) (c .own-load .result)) (sym (c .before .before .before .source-of .ensures) ∙ c .before .enum-told5 .given .1) (c .own-load .ensures .2) }
+    record { class = c .own-load .ensures .0 ∙ c .before .before .before .before .class-of .ensures; phase = c .own-load .ensures .1; forces = subst⁻¹ (λ (s : Source). Forces table2-fill s (c .before .before .before .before .before .before .args .row .numbers) (c .own-load .result)) (sym (c .before .before .before .source-of .ensures) ∙ c .before .enum-told5 .given .1) (c .own-load .ensures .2) }
 
 pub exert-spec : {M : Type 1} → statement M
 exert-spec =
     tie.close
     (tie.spec
     class-of-requires
-    phase-of-requires
     source-of-requires
     enum-told
     earth-load-requires

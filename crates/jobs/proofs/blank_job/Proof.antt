@@ -7,22 +7,18 @@ use Rattle.jobs.proofs.blank_job.Tie as tie
 blank-row-requires : tie.Need-blank-row-requires
 blank-row-requires c κs = search needs
 
-no-numbers-requires : tie.Need-no-numbers-requires
-no-numbers-requires c κs = search needs
-
 returns : tie.Need-returns
 returns c =
     let r = c .before .before .before .blank-row .ensures in
-    let n = c .no-numbers .ensures in
     λ i. record {
       stage = Unbegun;
       key = r i .key;
-      base = n i;
-      scour = n i;
-      clearance = n i;
+      base = r i .row .numbers;
+      scour = r i .row .numbers;
+      clearance = r i .row .numbers;
       count = 0;
       loads = replicate 16 (r i .row);
     }
 
 pub blank-job-spec : {M : Type 1} → statement M
-blank-job-spec = tie.close (tie.spec blank-row-requires no-numbers-requires returns)
+blank-job-spec = tie.close (tie.spec blank-row-requires returns)

@@ -1,6 +1,9 @@
-use mathlib.Core.Path.{_∙_}
-use Rattle.kinds.proofs.Loads.{from, force-columns}
+use mathlib.Core.Path.{refl, _∙_}
+use mathlib.Core.List.{[], _∷_}
 use borrow.Author.Needs.{needs}
+use Rattle.kinds.specs.Table.{columns, load-columns}
+use Rattle.kinds.specs.declared.Kind.the-variants.{DL, EP, LL, LF, CF, WC, BU, TM, EX, WL, SF}
+use Rattle.kinds.proofs.Arms.{arm}
 use Rattle.kinds.proofs.columns_of.Statement.{statement}
 use Rattle.kinds.proofs.columns_of.Tie as tie
 
@@ -44,7 +47,7 @@ returns-4 : tie.Need-returns-4
 returns-4 c = search needs
 
 returns-5 : tie.Need-returns-5
-returns-5 c = c .force-columns .ensures ∙ force-columns (c .before .before .args .kind) (from 11 4 _ (c .before .match .keys5))
+returns-5 c = c .force-columns .ensures ∙ arm columns load-columns (DL ∷ EP ∷ LL ∷ LF ∷ CF ∷ WC ∷ BU ∷ TM ∷ EX ∷ WL ∷ SF ∷ []) (c .before .before .args .kind) refl (c .before .match .keys5)
 
 pub columns-of-spec : {M : Type 1} → statement M
 columns-of-spec =

@@ -1,5 +1,6 @@
-use Prim.Native.Nat.{ℕ, _-_, _+_}
+use Prim.Native.Nat.{ℕ, _-_, _+_, _≤_}
 use mathlib.Core.Path.{_≡_, refl, subst}
+use mathlib.Core.List.{List}
 use borrow.Author.Needs.{needs}
 use lib.ListN.{length}
 use Rattle.csv.specs.Answer.{FieldAt}
@@ -30,17 +31,24 @@ loop-holds c =
 
 -- the field that the loop stands at, by its end
 module _ (c : tie.After-field-end Inv-loop μ-loop) where
-  ends : (e : Ended) → c .field-end .result ≡ e → FieldAt (c .before .before .before .args .s .now) (c .before .loop .at) e
-  ends e q = subst (FieldAt (c .before .before .before .args .s .now) (c .before .loop .at)) q (c .field-end .ensures)
+  abbrev text : List ℕ
+  text = c .before .before .before .args .s .now
 
-  past-comma : (e : ℕ) → c .field-end .result ≡ Comma e → Step (c .before .before .before .args .s .now) (c .before .loop .at) (e + 1)
-  past-comma e q = step-comma (c .before .before .before .args .s .now) (c .before .loop .at) e (ends (Comma e) q)
-
-  past-row : (e : ℕ) → c .field-end .result ≡ Row e → Step (c .before .before .before .args .s .now) (c .before .loop .at) (e + 2)
-  past-row e q = step-row (c .before .before .before .args .s .now) (c .before .loop .at) e (ends (Row e) q)
+  ends : (e : Ended) → c .field-end .result ≡ e → FieldAt text (c .before .loop .at) e
+  ends e q = subst (FieldAt text (c .before .loop .at)) q (c .field-end .ensures)
 
   not-bad : c .field-end .result ≡ Bad → ⊥
-  not-bad q = step-bad (c .before .before .before .args .s .now) (c .before .loop .at) (ends Bad q) (c .before .loop .inv .readable)
+  not-bad q = step-bad text (c .before .loop .at) (ends Bad q) (c .before .loop .inv .readable)
+
+-- one field further on: no more fields are passed than bytes
+abbrev further : (c : tie.After-field-end Inv-loop μ-loop) → ℕ → Type 0
+further c next = (c .before .loop .n ≤ c .before .loop .at) × Step (text c) (c .before .loop .at) next
+
+after-comma : (c : tie.After-f Inv-loop μ-loop) → further (c .before .before .before) (c .f .given .0 .0 + 1)
+after-comma c = let at-field = c .before .before .before in (at-field .before .loop .inv .few, step-comma _ _ _ (ends at-field (Comma _) (c .f .given .1)))
+
+after-row : (c : tie.After-f2 Inv-loop μ-loop) → further (c .before .before .before) (c .f2 .given .0 .0 + 2)
+after-row c = let at-field = c .before .before .before in (at-field .before .loop .inv .few, step-row _ _ _ (ends at-field (Row _) (c .f2 .given .1)))
 
 field-end-requires : tie.Need-field-end-requires Inv-loop μ-loop
 field-end-requires c κs = search needs
@@ -55,25 +63,13 @@ put-requires-2 : tie.Need-put-requires-2 Inv-loop μ-loop
 put-requires-2 c κs = search needs
 
 add-n : tie.Need-add-n Inv-loop μ-loop
-add-n c =
-    let inv = c .before .before .before .before .before .before .loop .inv in
-    let at-f = c .before .before in
-    let st = past-comma (at-f .before .before .before) _ (at-f .f .given .1) in
-    search needs
+add-n c = let w = after-comma (c .before .before) in search needs
 
 add-at : tie.Need-add-at Inv-loop μ-loop
-add-at c =
-    let inv = c .before .before .before .before .before .before .loop .inv in
-    let at-f = c .before .before in
-    let st = past-comma (at-f .before .before .before) _ (at-f .f .given .1) in
-    search needs
+add-at c = let w = after-comma (c .before .before) in search needs
 
 loop-less : tie.Need-loop-less Inv-loop μ-loop
-loop-less c =
-    let inv = c .before .before .before .before .before .before .loop .inv in
-    let at-f = c .before .before in
-    let st = past-comma (at-f .before .before .before) _ (at-f .f .given .1) in
-    search needs
+loop-less c = let w = after-comma (c .before .before) in search needs
 
 loop-again : tie.Need-loop-again Inv-loop μ-loop
 loop-again c =
@@ -84,43 +80,29 @@ loop-again c =
 enum-known-f-2 : tie.Need-enum-known-f-2 Inv-loop μ-loop
 enum-known-f-2 c = search needs
 
-put-requires-3 : tie.Need-put-requires-3 Inv-loop μ-loop
-put-requires-3 c κs = search needs
+add-closed : tie.Need-add-closed Inv-loop μ-loop
+add-closed c = let w = after-row (c .before) in search needs
 
-add-t15 : tie.Need-add-t15 Inv-loop μ-loop
-add-t15 c =
-    let inv = c .before .before .before .before .before .before .loop .inv in
-    let at-f = c .before .before in
-    let st = past-row (at-f .before .before .before) _ (at-f .f2 .given .1) in
-    search needs
-
-add-t16 : tie.Need-add-t16 Inv-loop μ-loop
-add-t16 c =
-    let inv = c .before .before .before .before .before .before .loop .inv in
-    let at-f = c .before .before in
-    let st = past-row (at-f .before .before .before) _ (at-f .f2 .given .1) in
-    search needs
+closed-requires : tie.Need-closed-requires Inv-loop μ-loop
+closed-requires c κs = let w = after-row (c .before) in search needs
 
 returns : tie.Need-returns Inv-loop μ-loop
 returns c =
     let at-f = c .before .before in
     let at-put = at-f .before .before in
-    inv-row (at-put .before .before .loop .inv) (at-put .put .ensures) (at-f .f2 .given .0 .0) (c .put3 .ensures) (ends (at-put .before) (Row _) (at-f .f2 .given .1))
+    inv-row (at-put .before .before .loop .inv) (at-put .put .ensures) (at-f .f2 .given .0 .0) _ (c .closed .ensures) (ends (at-put .before) (Row _) (at-f .f2 .given .1))
 
 enum-told : tie.Need-enum-told Inv-loop μ-loop
 enum-told c = search needs
 
-put-requires-4 : tie.Need-put-requires-4 Inv-loop μ-loop
-put-requires-4 c κs = search needs
-
-add-t17 : tie.Need-add-t17 Inv-loop μ-loop
-add-t17 c = search needs
+closed-requires-2 : tie.Need-closed-requires-2 Inv-loop μ-loop
+closed-requires-2 c κs = let i = c .before .before .before .before .loop .inv in search needs
 
 returns-2 : tie.Need-returns-2 Inv-loop μ-loop
 returns-2 c =
     let at-told = c .before in
     let at-put = at-told .before .before in
-    inv-end (at-put .before .before .loop .inv) (at-put .put .ensures) (c .put4 .ensures) (ends (at-put .before) End (at-told .enum-told .given .1))
+    inv-end (at-put .before .before .loop .inv) (at-put .put .ensures) _ (c .closed2 .ensures) (ends (at-put .before) End (at-told .enum-told .given .1))
 
 enum-told-2 : tie.Need-enum-told-2 Inv-loop μ-loop
 enum-told-2 c = search needs
@@ -144,13 +126,11 @@ row-at-spec =
     loop-less
     loop-again
     enum-known-f-2
-    put-requires-3
-    add-t15
-    add-t16
+    add-closed
+    closed-requires
     returns
     enum-told
-    put-requires-4
-    add-t17
+    closed-requires-2
     returns-2
     enum-told-2
     returns-3)

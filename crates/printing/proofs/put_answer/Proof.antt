@@ -2,8 +2,7 @@
 use Rattle.lines.specs.Lines.{later-lines}
 use mathlib.Core.Path.{refl}
 use mathlib.Core.List.{[]}
-use Rattle.line_text.proofs.Printed.{no-line}
-use Rattle.printing.proofs.Printed.{alone-holds, alone-fails, answer-printed}
+use Rattle.printing.proofs.Printed.{no-line, alone-holds, alone-fails, answer-printed}
 use borrow.Author.Needs.{needs}
 use Rattle.printing.proofs.put_answer.Statement.{statement}
 use Rattle.printing.proofs.put_answer.Tie as tie

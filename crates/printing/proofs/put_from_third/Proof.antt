@@ -1,5 +1,5 @@
 -- The lines of two combinations, then SC, then CL.
-use Rattle.line_text.proofs.Printed.{then-lines}
+use Rattle.printing.proofs.Printed.{then-lines}
 use Rattle.printing.specs.Text.{from-third}
 use Rattle.printing.specs.Room.{from-third-room}
 use borrow.Author.Needs.{needs}

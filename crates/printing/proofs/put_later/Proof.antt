@@ -1,6 +1,6 @@
 -- The lines of two combinations, then those from the third on.
 use Rattle.lines.specs.Lines.{later-lines}
-use Rattle.line_text.proofs.Printed.{then-lines}
+use Rattle.printing.proofs.Printed.{then-lines}
 use Rattle.printing.specs.Text.{from-third}
 use Rattle.printing.specs.Room.{from-third-room, answer-room}
 use borrow.Author.Needs.{needs}

@@ -1,7 +1,7 @@
 -- The five lines of a combination, one behind the other.
 use Rattle.lines.specs.Lines.{combination-lines}
 use Rattle.printing.specs.Room.{lines-room}
-use Rattle.line_text.proofs.Printed.{then-lines}
+use Rattle.printing.proofs.Printed.{then-lines}
 use borrow.Author.Needs.{needs}
 use Rattle.printing.proofs.put_lines.Statement.{statement}
 use Rattle.printing.proofs.put_lines.Tie as tie

@@ -36,25 +36,17 @@ loop-less c = search needs
 
 loop-again : tie.Need-loop-again Inv-loop μ-loop
 loop-again c =
-    let at-loop = c .before .before .before .before .before in
+    let inv = c .before .before .before .before .before .loop .inv in
     let k = c .before .before .before .before .loop-test .taken in
-    let s = at-loop .before .before .args .s .now in
-    let at = at-loop .before .before .args .at in
-    let i = at-loop .loop .i in
-    let inv = at-loop .loop .inv in
     let two = decided (c .before .byte-is .result) (c .if2 .taken) (c .before .byte-is .ensures) in
-    let k′ = begins-lt s (i + 1) DQUOTE (two .behind) (two .begins) in
-    (search needs, omega arith, escape-quotes s at i (inv .0) k (c .before .before .if1 .taken) two (inv .2))
+    let k′ = begins-lt _ (c .before .before .before .before .before .loop .i + 1) DQUOTE (two .behind) (two .begins) in
+    (search needs, omega arith, escape-quotes _ _ _ (inv .0) k (c .before .before .if1 .taken) two (inv .2))
 
 returns : tie.Need-returns Inv-loop μ-loop
 returns c =
-    let at-loop = c .before .before .before .before .before in
+    let inv = c .before .before .before .before .before .loop .inv in
     let k = c .before .before .before .before .loop-test .taken in
-    let s = at-loop .before .before .args .s .now in
-    let at = at-loop .before .before .args .at in
-    let i = at-loop .loop .i in
-    let inv = at-loop .loop .inv in
-    escape-closes s at i (inv .0) k (c .before .before .if1 .taken) (refuted (c .before .byte-is .result) (c .if2 .left) (c .before .byte-is .ensures)) (inv .2)
+    escape-closes _ _ _ (inv .0) k (c .before .before .if1 .taken) (refuted (c .before .byte-is .result) (c .if2 .left) (c .before .byte-is .ensures)) (inv .2)
 
 is-inside-requires : tie.Need-is-inside-requires Inv-loop μ-loop
 is-inside-requires c κs = search needs
@@ -67,26 +59,19 @@ loop-less-2 c = search needs
 
 loop-again-2 : tie.Need-loop-again-2 Inv-loop μ-loop
 loop-again-2 c =
-    let at-loop = c .before .before .before .before .before in
+    let inv = c .before .before .before .before .before .loop .inv in
     let k = c .before .before .before .before .loop-test .taken in
-    let s = at-loop .before .before .args .s .now in
-    let at = at-loop .before .before .args .at in
-    let i = at-loop .loop .i in
-    let inv = at-loop .loop .inv in
-    (search needs, search needs, escape-more s at i (inv .0) k (decided (c .before .is-inside .result) (c .if3 .taken) (c .before .is-inside .ensures)) (inv .2))
+    (search needs, search needs, escape-more _ _ _ (inv .0) k (decided (c .before .is-inside .result) (c .if3 .taken) (c .before .is-inside .ensures)) (inv .2))
 
 returns-2 : tie.Need-returns-2 Inv-loop μ-loop
 returns-2 c =
     let at-loop = c .before .before .before .before .before in
-    let k = c .before .before .before .before .loop-test .taken in
     let s = at-loop .before .before .args .s .now in
-    let at = at-loop .before .before .args .at in
     let i = at-loop .loop .i in
-    let inv = at-loop .loop .inv in
-    never-closes s at i (inv .0)
+    never-closes _ _ _ (at-loop .loop .inv .0)
     (λ b h g. refuted (c .before .is-inside .result) (c .if3 .left) (c .before .is-inside .ensures) (subst Inside (sym (begins-is s i b (g .behind) (g .begins))) h))
     (λ g. c .before .before .if1 .left (begins-is s i _ (g .behind) (g .begins)))
-    (inv .2)
+    (at-loop .loop .inv .2)
 
 returns-3 : tie.Need-returns-3 Inv-loop μ-loop
 returns-3 c =

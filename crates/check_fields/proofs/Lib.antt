@@ -1,2 +1,0 @@
--- Laws of the text of a line's fields. Other crates' proofs cite them.
-pub mod Injective

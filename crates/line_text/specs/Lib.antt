@@ -1,3 +1,0 @@
-pub mod Keys
-pub mod Text
-pub mod Room

@@ -1,0 +1,41 @@
+-- The loads of a job, one row more at a time; past its rows there is no load.
+use mathlib.Core.Path.{_≡_, refl, _∙_, ap, subst⁻¹}
+use mathlib.Core.List.{List}
+use borrow.Author.Count.{below-more}
+use lib.ListN.{getD, length, set, replicate, length-replicate, length-set}
+use lib.Seq.{getD-set-same, getD-set-other}
+use Prim.Native.Nat.{ℕ, zero, suc, _+_, _≤_, _<_}
+use native.Mathlib.Omega.{arith}
+use Rattle.kinds.specs.declared.Row.{Row}
+use Rattle.table2.specs.declared.Coefficient.{Coefficient}
+use Rattle.sets.specs.declared.Load.{Load}
+use Rattle.sets.specs.Sets.{noLoad, row}
+use Rattle.forces.specs.Exerts.{Exerts}
+use Rattle.loads.specs.LoadRows.{rowAt, AreLoads}
+
+pub all-no-load : (n j : ℕ) → getD (replicate n noLoad) j noLoad ≡ noLoad
+all-no-load zero j = refl
+all-no-load (suc n) zero = refl
+all-no-load (suc n) (suc j) = all-no-load n j
+
+module _ (fill : ℕ → ℕ → Coefficient) (rows : List Row) where
+  unfoldable pub Laid : ℕ → List Load → Type 0
+  Laid n loads = (length loads ≡ 16) × ((j : ℕ) → j < n → Exerts fill (rowAt rows j) (getD loads j noLoad)) × ((j : ℕ) → n ≤ j → getD loads j noLoad ≡ noLoad)
+
+  pub laid-none : {x : Load} → x ≡ noLoad → Laid 0 (replicate 16 x)
+  unfolding Laid
+  laid-none {x} e =
+      (length-replicate 16 x, (λ j h. absurd (omega arith)), λ j h. ap (λ (y : Load). getD (replicate 16 y) j noLoad) e ∙ all-no-load 16 j)
+
+  pub laid-more : (n : ℕ) (loads : List Load) {load : Load} → n < 16 → Laid n loads → Exerts fill (rowAt rows n) load → Laid (n + 1) (set loads n load)
+  unfolding Laid
+  laid-more n loads {load} h l e = (
+    length-set loads n load ∙ l .0,
+    below-more _ n (λ j k. subst⁻¹ (Exerts fill (rowAt rows j)) (getD-set-other loads n j load noLoad (λ d. omega arith)) (l .1 j k))
+        (subst⁻¹ (Exerts fill (rowAt rows n)) (getD-set-same loads n load noLoad (omega (arith, l .0))) e),
+    λ j k. getD-set-other loads n j load noLoad (λ d. omega arith) ∙ l .2 j (omega arith),
+  )
+
+  pub laid-all : (n : ℕ) (loads : List Load) → Laid n loads → AreLoads fill rows n (record { count = n; loads = loads })
+  unfolding Laid row
+  laid-all n loads l = record { count = refl; whole = l .0; each = l .1; rest = l .2 }

@@ -1,0 +1,55 @@
+-- A row exerts one load, and the rows of a job one table of loads.
+use mathlib.Core.Path.{_≡_, sym, _∙_, ap₂, subst₂}
+use mathlib.Core.List.{List}
+use Prim.Native.Nat.{ℕ, _<_}
+use native.Mathlib.Omega.{arith}
+use native.Mathlib.Decide.{decLt}
+use lib.ListN.{getD}
+use lib.Seq.{ext-getD}
+use Rattle.kinds.specs.declared.Row.{Row}
+use Rattle.table2.specs.declared.Coefficient.{Coefficient}
+use Rattle.earth.specs.Earth as earth
+use Rattle.earth.proofs.Pressures.{pressed-one}
+use Rattle.sets.specs.declared.Load.{Load}
+use Rattle.sets.specs.declared.Loads.{Loads}
+use Rattle.sets.specs.Sets.{noLoad, row}
+use Rattle.classes.specs.declared.Source.{Source}
+use Rattle.classes.specs.declared.Source.the-variants.{Absent, Earth, Written}
+use Rattle.classes.specs.Classes.{source}
+use Rattle.forces.specs.Exerts.{EarthLoad, Forces, Exerts}
+use Rattle.forces.proofs.Exerting.{same-load}
+use Rattle.loads.specs.LoadRows.{rowAt, AreLoads}
+
+-- ---- a row exerts one load
+same-push : {H y G z : ℕ} → earth.push H y ≡ earth.push G z → (H ≡ G) × (y ≡ z)
+same-push e = (cc, cc)
+
+pub exerts-one : (fill : ℕ → ℕ → Coefficient) (r : Row) (a b : Load) → Exerts fill r a → Exerts fill r b → a ≡ b
+unfolding Forces
+exerts-one fill r a b p q = go (source (r .kind)) (p .forces) (q .forces)
+  where
+    class : a .class ≡ b .class
+    class = p .class ∙ sym (q .class)
+
+    phase : a .phase ≡ b .phase
+    phase = p .phase ∙ sym (q .phase)
+
+    go : (s : Source) → Forces fill s (r .numbers) a → Forces fill s (r .numbers) b → a ≡ b
+    go Absent f g = same-load class phase (f .v ∙ sym (g .v)) (f .x ∙ sym (g .x)) (f .h ∙ sym (g .h)) (f .twist ∙ sym (g .twist))
+    go Earth f g =
+        let e = same-push (pressed-one (f .pressed) (g .pressed)) in
+        let k = subst₂ (λ (H y : ℕ). EarthLoad H y a) (e .0) (e .1) (f .exerts) in
+        same-load class phase (k .v ∙ sym (g .exerts .v)) (k .x ∙ sym (g .exerts .x)) (k .h ∙ sym (g .exerts .h)) (k .twist ∙ sym (g .exerts .twist))
+    go Written f g = same-load class phase (f .v ∙ sym (g .v)) (f .x ∙ sym (g .x)) (f .h ∙ sym (g .h)) (f .twist ∙ sym (g .twist))
+
+-- ---- and the rows of a job one table of loads
+module _ (fill : ℕ → ℕ → Coefficient) (rows : List Row) (n : ℕ) where
+  pub loads-one : (a b : Loads) → AreLoads fill rows n a → AreLoads fill rows n b → a ≡ b
+  unfolding row
+  loads-one a b p q =
+      ap₂ (λ (m : ℕ) (l : List Load). record { count = m; loads = l }) (p .count ∙ sym (q .count))
+      (ext-getD noLoad (a .loads) (b .loads) (p .whole ∙ sym (q .whole)) (λ i h. go i (decLt i n)))
+    where
+      go : (i : ℕ) → Dec (i < n) → getD (a .loads) i noLoad ≡ getD (b .loads) i noLoad
+      go i (yes h) = exerts-one fill (rowAt rows i) _ _ (p .each i h) (q .each i h)
+      go i (no h) = p .rest i (omega arith) ∙ sym (q .rest i (omega arith))

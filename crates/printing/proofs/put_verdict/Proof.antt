@@ -1,0 +1,49 @@
+-- Key, VERDICT, value and three empty fields, one behind the other.
+use mathlib.Core.Path.{refl}
+use Rattle.lines.specs.Lines.{verdict-line}
+use Rattle.line_fields.specs.Text.{name-text, cell-text, mark-text}
+use Rattle.printing.specs.Text.{line-text}
+use Rattle.block.proofs.Pages.{spelled, then-put}
+use borrow.Author.Needs.{needs}
+use Rattle.printing.proofs.put_verdict.Statement.{statement}
+use Rattle.printing.proofs.put_verdict.Tie as tie
+
+put-key-requires : tie.Need-put-key-requires
+put-key-requires c κs = search needs
+
+slice-aggregate-put : tie.Need-slice-aggregate-put
+slice-aggregate-put c = search needs
+
+put-requires : tie.Need-put-requires
+put-requires c κs = search needs
+
+put-verdict-value-requires : tie.Need-put-verdict-value-requires
+put-verdict-value-requires c κs = search needs
+
+slice-aggregate-put-2 : tie.Need-slice-aggregate-put-2
+slice-aggregate-put-2 c = search needs
+
+put-requires-2 : tie.Need-put-requires-2
+put-requires-2 c κs = search needs
+
+returns : tie.Need-returns
+unfolding line-text verdict-line name-text cell-text mark-text
+returns c =
+    let third = c .before .before .before in
+    let second = third .before .before in
+    let first = second .before .before .before in
+    then-put _ _ _ _ _ 26 16 (first .put-key .ensures)
+    (then-put _ _ _ _ _ 7 9 (spelled _ _ _ _ 7 refl (second .put .ensures) tt)
+    (then-put _ _ _ _ _ 4 5 (third .put-verdict-value .ensures) (spelled _ _ _ _ 5 refl (c .put2 .ensures) tt)))
+
+pub put-verdict-spec : {M : Type 1} → statement M
+put-verdict-spec =
+    tie.close
+    (tie.spec
+    put-key-requires
+    slice-aggregate-put
+    put-requires
+    put-verdict-value-requires
+    slice-aggregate-put-2
+    put-requires-2
+    returns)
