@@ -5,7 +5,7 @@ use native.Mathlib.Omega.{arith}
 use Rattle.afflux.specs.Rules.{Afflux}
 
 pub afflux-most : (v A a h : ℕ) → v ≤ 10000 → A ≤ 100000 → 1 ≤ a → Afflux v A a h → h ≤ 60000000000000
-afflux-most v A a h slow clear some u =
+afflux-most v A a h slow whole some u =
     u .least 60000000000000
-    (le-trans (mul-le-mul {n₂ = 1002724912} {m₂ = 10000000000} (omega (arith, pow-le-pow-left slow 2)) (le-trans (sub-le (A ^ 2) (a ^ 2)) (pow-le-pow-left clear 2)))
+    (le-trans (mul-le-mul {n₂ = 1002724912} {m₂ = 10000000000} (omega (arith, pow-le-pow-left slow 2)) (le-trans (sub-le (A ^ 2) (a ^ 2)) (pow-le-pow-left whole 2)))
     (omega (arith, pow-le-pow-left some 2)))

@@ -5,28 +5,36 @@ ghost use Prim.Native.Nat.{_*_, _≤_};
 ghost use Rattle.rounding.specs.Least.{RoundedUp};
 ghost use Rattle.afflux.specs.Rules.{Afflux, ClearanceNeeded};
 
-// 4.7.1: what stands over 178,800 a² in Molesworth's formula, divided by it.
-fn over_taken(head: u64, taken: u64) -> u64
-    requires { ⌜ (1 ≤ taken) × (taken ≤ 10000000000) ⌝ }
-    ensures { λ r. ⌜ RoundedUp head (178800 * taken) r ⌝ }
+// 4.7.1: Molesworth divides the square of the velocity in m/s by 17.88; of one in mm/s, for an afflux in mm, ten times the
+// square is divided by 178,800.
+const MOLESWORTH: u64 = 178_800;
+// 4.7.1: Molesworth adds 0.01524 m: 15.24 mm, which is 2,724,912 over 178,800.
+const ADDED: u64 = 2_724_912;
+
+// 4.7.1: what stands over 178,800 a² in Molesworth's formula, divided by it; a², given here, is that of the area left at the
+// obstruction.
+fn over_left(head: u64, squared: u64) -> u64
+    requires { ⌜ (1 ≤ squared) × (squared ≤ 10000000000) ⌝ }
+    ensures { λ r. ⌜ RoundedUp head (178800 * squared) r ⌝ }
 {
-    rounding::up(head, 178800 * taken)
+    rounding::up(head, MOLESWORTH * squared)
 }
 
-// 4.7.1: Molesworth's afflux.
+// 4.7.1: Molesworth's afflux, from the whole area A and the area a left at the obstruction.
 pub fn afflux(velocity: u64, area: u64, obstructed: u64) -> u64
     requires { ⌜ (velocity ≤ 10000) × (area ≤ 100000) × (1 ≤ obstructed) × (obstructed ≤ area) ⌝ }
     ensures { λ r. ⌜ Afflux velocity area obstructed r ⌝ }
 {
-    let clear = area * area;
-    let taken = obstructed * obstructed;
-    over_taken(
-        (10 * (velocity * velocity) + 2724912) * (clear - taken),
-        taken,
+    let whole_squared = area * area;
+    let left_squared = obstructed * obstructed;
+    over_left(
+        (10 * (velocity * velocity) + ADDED) * (whole_squared - left_squared),
+        left_squared,
     )
 }
 
-// 4.8.1: the clearance needed.
+// 4.8.1: the clearance needed: 600 mm to a discharge of 30,000 l/s, from there evenly to 1,200 at 300,000, then 1,500 to 3,000,000,
+// and 1,800 above.
 pub fn clearance_needed(q: u64) -> u64
     ensures { λ r. ⌜ ClearanceNeeded q r ⌝ }
 {

@@ -1,8 +1,9 @@
 -- The refusals of a job in their order, from what its load rows and its river rows are told.
-use Prim.Native.Nat.{ℕ, _≤_, _<_}
+use Prim.Native.Nat.{ℕ, _+_, _≤_, _<_}
 use native.Mathlib.Omega.{arith}
 use mathlib.Core.Path.{_≡_, refl, sym, ap, subst}
 use mathlib.Core.List.{List}
+use lib.Dec.{lit≤}
 use Rattle.ranges.specs.Range.{Ranged}
 use Rattle.kinds.specs.declared.Kind.the-variants.{B}
 use Rattle.kinds.specs.declared.Numbers.{Numbers}
@@ -54,84 +55,49 @@ module _ {fill : ℕ → ℕ → Coefficient} {rows : List Row} {n : ℕ} where
   told-loads (too-many a b c) e = let z : _≡_ {A = ℕ} 0 1 = cc in absurd (omega arith)
   told-loads (loaded a b c d) e = (a, b, c, subst (AreLoads fill rows n) (cc) d)
 
+-- what is asked only of the numbers before n is not asked of n or of a later one
+late : {A : Type 0} {k n : ℕ} → n ≤ k → k < n → A
+late h l = absurd (omega arith)
+
 -- a number whose condition holds, and that of no lower one
 module _ (fill : ℕ → ℕ → Coefficient) (job : Job) where
+  -- no number before n has its condition, if the conditions before n's own are known not to hold
+  module _ (n : ℕ) (ranged : 11 < n → AllInRange job) (catchment : 12 < n → LargeCatchment job → ⊥) (intensity : 13 < n → TooIntense job → ⊥)
+      (obstruction : 14 < n → OverObstructed job → ⊥) (filled : 15 < n → Filled fill job) (few : 16 < n → optionals (job .loads) (rowsOf (job .count)) ≤ 12) where
+    not-before : {m : ℕ} → (m < n → ⊥) → n ≤ m
+    not-before h = omega (arith, h)
+
+    least : (m : ℕ) → When fill job m → n ≤ m
+    least m (rules.out-of-range x) = not-before (λ h. x (ranged h))
+    least m (rules.large-catchment x) = not-before (λ h. catchment h x)
+    least m (rules.too-intense x) = not-before (λ h. intensity h x)
+    least m (rules.over-obstructed x) = not-before (λ h. obstruction h x)
+    least m (rules.blank x) = not-before (λ h. x (filled h))
+    least m (rules.too-many x) = not-before (λ h. let k = few h in omega arith)
+
   pub refuses-11 : (AllInRange job → ⊥) → Refuses fill job 11
-  refuses-11 h = record { holds = rules.out-of-range h; least = λ m w. at-least w }
-    where
-      at-least : {m : ℕ} → When fill job m → 11 ≤ m
-      at-least (rules.out-of-range x) = omega arith
-      at-least (rules.large-catchment x) = omega arith
-      at-least (rules.too-intense x) = omega arith
-      at-least (rules.over-obstructed x) = omega arith
-      at-least (rules.blank x) = omega arith
-      at-least (rules.too-many x) = omega arith
+  refuses-11 h = record { holds = rules.out-of-range h; least = least 11 (late (lit≤ tt)) (late (lit≤ tt)) (late (lit≤ tt)) (late (lit≤ tt)) (late (lit≤ tt)) (late (lit≤ tt)) }
 
   module _ (a : AllInRange job) where
     refuses-12 : LargeCatchment job → Refuses fill job 12
-    refuses-12 h = record { holds = rules.large-catchment h; least = λ m w. at-least w }
-      where
-        at-least : {m : ℕ} → When fill job m → 12 ≤ m
-        at-least (rules.out-of-range x) = absurd (x a)
-        at-least (rules.large-catchment x) = omega arith
-        at-least (rules.too-intense x) = omega arith
-        at-least (rules.over-obstructed x) = omega arith
-        at-least (rules.blank x) = omega arith
-        at-least (rules.too-many x) = omega arith
+    refuses-12 h = record { holds = rules.large-catchment h; least = least 12 (λ _. a) (late (lit≤ tt)) (late (lit≤ tt)) (late (lit≤ tt)) (late (lit≤ tt)) (late (lit≤ tt)) }
 
     refuses-13 : (LargeCatchment job → ⊥) → TooIntense job → Refuses fill job 13
-    refuses-13 l h = record { holds = rules.too-intense h; least = λ m w. at-least w }
-      where
-        at-least : {m : ℕ} → When fill job m → 13 ≤ m
-        at-least (rules.out-of-range x) = absurd (x a)
-        at-least (rules.large-catchment x) = absurd (l x)
-        at-least (rules.too-intense x) = omega arith
-        at-least (rules.over-obstructed x) = omega arith
-        at-least (rules.blank x) = omega arith
-        at-least (rules.too-many x) = omega arith
+    refuses-13 l h = record { holds = rules.too-intense h; least = least 13 (λ _. a) (λ _. l) (late (lit≤ tt)) (late (lit≤ tt)) (late (lit≤ tt)) (late (lit≤ tt)) }
 
     module _ (p : Passed job) where
       refuses-14 : OverObstructed job → Refuses fill job 14
-      refuses-14 h = record { holds = rules.over-obstructed h; least = λ m w. at-least w }
-        where
-          at-least : {m : ℕ} → When fill job m → 14 ≤ m
-          at-least (rules.out-of-range x) = absurd (x a)
-          at-least (rules.large-catchment x) = absurd (p .catchment x)
-          at-least (rules.too-intense x) = absurd (p .intensity x)
-          at-least (rules.over-obstructed x) = omega arith
-          at-least (rules.blank x) = omega arith
-          at-least (rules.too-many x) = omega arith
+      refuses-14 h = record { holds = rules.over-obstructed h; least = least 14 (λ _. a) (λ _. p .catchment) (λ _. p .intensity) (late (lit≤ tt)) (late (lit≤ tt)) (late (lit≤ tt)) }
 
       module _ (o : OverObstructed job → ⊥) where
         refuses-15 : (Filled fill job → ⊥) → Refuses fill job 15
-        refuses-15 h = record { holds = rules.blank h; least = λ m w. at-least w }
-          where
-            at-least : {m : ℕ} → When fill job m → 15 ≤ m
-            at-least (rules.out-of-range x) = absurd (x a)
-            at-least (rules.large-catchment x) = absurd (p .catchment x)
-            at-least (rules.too-intense x) = absurd (p .intensity x)
-            at-least (rules.over-obstructed x) = absurd (o x)
-            at-least (rules.blank x) = omega arith
-            at-least (rules.too-many x) = omega arith
+        refuses-15 h = record { holds = rules.blank h; least = least 15 (λ _. a) (λ _. p .catchment) (λ _. p .intensity) (λ _. o) (late (lit≤ tt)) (late (lit≤ tt)) }
 
         refuses-16 : Filled fill job → 12 < optionals (job .loads) (rowsOf (job .count)) → Refuses fill job 16
-        refuses-16 f h = record { holds = rules.too-many h; least = λ m w. at-least w }
-          where
-            at-least : {m : ℕ} → When fill job m → 16 ≤ m
-            at-least (rules.out-of-range x) = absurd (x a)
-            at-least (rules.large-catchment x) = absurd (p .catchment x)
-            at-least (rules.too-intense x) = absurd (p .intensity x)
-            at-least (rules.over-obstructed x) = absurd (o x)
-            at-least (rules.blank x) = absurd (x f)
-            at-least (rules.too-many x) = omega arith
+        refuses-16 f h = record { holds = rules.too-many h; least = least 16 (λ _. a) (λ _. p .catchment) (λ _. p .intensity) (λ _. o) (λ _. f) (late (lit≤ tt)) }
 
         unrefused : Filled fill job → optionals (job .loads) (rowsOf (job .count)) ≤ 12 → {m : ℕ} → When fill job m → ⊥
-        unrefused f h (rules.out-of-range x) = x a
-        unrefused f h (rules.large-catchment x) = p .catchment x
-        unrefused f h (rules.too-intense x) = p .intensity x
-        unrefused f h (rules.over-obstructed x) = o x
-        unrefused f h (rules.blank x) = x f
-        unrefused f h (rules.too-many x) = omega arith
+        unrefused f h {m} w = omega (arith, least (m + 1) (λ _. a) (λ _. p .catchment) (λ _. p .intensity) (λ _. o) (λ _. f) (λ _. h) m w)
 
     -- the river's refusals come before 15 and 16
     river-first : {n : ℕ} → RiverSays job (river.Refused n) → Refuses fill job n

@@ -10,8 +10,8 @@ use Rattle.sets.specs.declared.Combination.the-variants.{I, II, III, IV}
 use Rattle.sets.specs.declared.Loads.{Loads}
 use Rattle.checks.specs.declared.Base.{Base}
 use Rattle.checks.specs.declared.Check.{Check}
-use Rattle.lines.specs.declared.Line.the-variants as line
 use Rattle.lines.specs.declared.Lines.{Lines}
+use Rattle.lines.specs.Lines.{no-lines}
 use Rattle.worst.specs.Lines as worst
 use Rattle.loads.specs.LoadRows.{AreLoads}
 use Rattle.loads.specs.Taken.{rowsOf}
@@ -49,9 +49,6 @@ pub record Given (fill : ℕ → ℕ → Coefficient) (job : Job) (a : Answer) :
   pub depth : DepthIs job (a .depth)
   pub clear : ClearIs job (a .clear)
   pub verdict : VerdictIs (a .verdict) a
-
-abbrev pub no-lines : Lines
-no-lines = record { op = line.Missing; om = line.Missing; sl = line.Missing; pr = line.Missing; rk = line.Missing }
 
 -- "A refused job has only VERDICT."
 abbrev pub refusal : ℕ → Answer

@@ -1,15 +1,13 @@
 // The answer of a job (document 01, Refusals of a job, The printed answer): refusal 11 to 16, or its lines and verdict.
 //
 // What is hard is the order: a job is refused with the lowest of its numbers, over all its rows, whatever row shows it
-// first. The answer is total on every `Job` value, and depends on the job and on the fills alone.
+// first. The answer is total on every `Job` value, and depends on the job alone: Table 2 is a constant.
 use checks::Base;
 use jobs::Job;
 use kinds::Numbers;
 use lines::Answer;
 use lines::ClearLine;
 use lines::DepthLine;
-use lines::Line;
-use lines::Lines;
 use lines::Verdict;
 use sets::Combination;
 use sets::Loads;
@@ -18,7 +16,7 @@ ghost use mathlib.Core.Path.{_≡_};
 ghost use Rattle.sets.specs.Sets.{Bounded};
 ghost use Rattle.table2.specs.Table2.{table2-fill};
 ghost use Rattle.checks.specs.Sized.{Sized};
-ghost use Rattle.answer.specs.Answer.{base-of, no-lines, refusal, earlier, WholeIs, AnswerIs, told-first};
+ghost use Rattle.answer.specs.Answer.{base-of, refusal, earlier, WholeIs, AnswerIs, told-first};
 
 fn wide(n: u32) -> u64
     ensures { λ r. ⌜ r ≡ n ⌝ }
@@ -35,20 +33,7 @@ fn base_at(numbers: Numbers) -> Base
         length: wide(numbers.n2.size),
         allowable: wide(numbers.n3.size),
         friction: wide(numbers.n4.size),
-        rock: numbers.n5.size == 1,
-    }
-}
-
-// A combination that has no lines.
-fn missing() -> Lines
-    ensures { λ r. ⌜ r ≡ no-lines ⌝ }
-{
-    Lines {
-        op: Line::Missing,
-        om: Line::Missing,
-        sl: Line::Missing,
-        pr: Line::Missing,
-        rk: Line::Missing,
+        rock: river_marks::is_rock(numbers.n5.size),
     }
 }
 
@@ -56,7 +41,7 @@ fn missing() -> Lines
 fn refused(number: u8) -> Answer
     ensures { λ r. ⌜ r ≡ refusal number ⌝ }
 {
-    let none = missing();
+    let none = lines::no_lines();
     Answer {
         verdict: Verdict::Refused(number),
         one: none,

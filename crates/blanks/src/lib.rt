@@ -1,6 +1,6 @@
-// Whether Table 2 is blank where an E row asks (document 01, Earth pressure).
+// The places of Table 2 that are blank (document 01, Earth pressure; refusal 15 of a job).
 //
-// What is hard is only that a row of any other kind asks nothing.
+// What is hard is only that a row of any other kind than E asks nothing there.
 use classes::Source;
 use earth::EarthAnswer;
 use kinds::Row;

@@ -1,6 +1,6 @@
 -- What bytes say is one thing, and a book is accepted exactly if it is a job book.
 -- The idea: a beginning of a beginning is a beginning, so there is one first row with which no job book begins.
-use Prim.Native.Nat.{ℕ, zero, suc, _+_, _≤_, _<_}
+use Prim.Native.Nat.{ℕ, _+_, _≤_, _<_}
 use native.Mathlib.Omega.{arith}
 use mathlib.Core.Path.{_≡_, refl, sym, ap, subst, _∙_}
 use mathlib.Core.List.{List, [], _∷_, _++_, append-assoc, append-nil}
@@ -17,8 +17,7 @@ use Rattle.book.specs.JobBook.{Jobs, count, Loaded, Different, Placed, r
 use Rattle.book.specs.Values.{values, places}
 use Rattle.book.specs.Says.{Told, given, refused, Fault, formless, misplaced, surplus, reused, number, Unplaced, Surplus, Reused, Bad, FirstBad, Unfinished, Says, too-long, not-csv, bad-row, unfinished, book, told, jobs-told, BookIs, CountIs}
 use Rattle.refusals.specs.Numbers.{refusal-number}
-use Rattle.refusals.specs.declared.Refusal.{Refusal}
-use Rattle.refusals.specs.declared.Refusal.the-variants.{TooLong, NotCsv, NoForm, NoPlace, TooMany, UsedKey}
+use Rattle.refusals.proofs.Numbers.{number-one}
 use Rattle.book.specs.declared.Count.{Count}
 use Rattle.book.specs.declared.Count.the-variants.{Given, Refused}
 use Rattle.book.specs.declared.Book.{Book}
@@ -255,26 +254,6 @@ pub refused-none : {s : List ℕ} {n row : ℕ} → Says s (refused n row) → (
 refused-none p js b = let e = says-one p (book b refl) in let z : _≡_ {A = ℕ} 0 1 = cc in omega arith
 
 -- each answer of `src/` is one
-number-one : (a b : Refusal) → refusal-number a ≡ refusal-number b → a ≡ b
-number-one a b e = sym (back a) ∙ ap by e ∙ back b
-  where
-    by : ℕ → Refusal
-    by zero = TooLong
-    by (suc zero) = TooLong
-    by (suc (suc zero)) = NotCsv
-    by (suc (suc (suc zero))) = NoForm
-    by (suc (suc (suc (suc zero)))) = NoPlace
-    by (suc (suc (suc (suc (suc zero))))) = TooMany
-    by (suc (suc (suc (suc (suc (suc n)))))) = UsedKey
-
-    back : (r : Refusal) → by (refusal-number r) ≡ r
-    back TooLong = refl
-    back NotCsv = refl
-    back NoForm = refl
-    back NoPlace = refl
-    back TooMany = refl
-    back UsedKey = refl
-
 pub told-one : (a b : Count) (js ks : List Job) → told a js ≡ told b ks → a ≡ b
 told-one (Given n) (Given m) js ks e = cc
 told-one (Given n) (Refused why row) js ks e = let z : _≡_ {A = ℕ} 0 1 = cc in absurd (omega arith)

@@ -12,11 +12,11 @@ use Rattle.keys.specs.Keyed.{no-row}
 use Rattle.keys.specs.declared.Key.{Key}
 use Rattle.jobs.specs.Place.{no-job}
 use Rattle.jobs.specs.declared.Job.{Job}
-use Rattle.book.specs.JobBook.{IsA, River, dry, job, base, Jobs, none, _and_, count, Different, new-key, Used, last, before}
+use Rattle.book.specs.JobBook.{IsA, dry, job, base, Jobs, none, _and_, count, Different, Used, last, before}
 use Rattle.keys.specs.Among.{void-key, Among}
 use Rattle.book.specs.Values.{value, values, held, in-places, places, keys-of, key-places}
 use Rattle.book.proofs.Roles.{one-role}
-use Rattle.book.proofs.Steps.{Step, starts, scours, crosses, bears}
+use Rattle.book.proofs.Steps.{Step, starts, scours, crosses, bears, rebased}
 
 -- a value in the first unused place, and a value in place of the last
 module _ {A : Type 0} (blank : A) (l : List A) (h : length l < 64) where
@@ -127,9 +127,6 @@ pub record Joined (js ks : Jobs) : Type 0 where
   pub some : 1 ≤ count js
   pub keys : keys-of ks ≡ keys-of js
   pub different : Different js → Different ks
-
-rebased : {js : Jobs} {b : BookRow} {v w : River} {ls ms : List BookRow} → Different (js and job b v ls) → Different (js and job b w ms)
-rebased (new-key d u) = new-key d u
 
 pub joins : {js ks : Jobs} {r : BookRow} → (IsA Base r → ⊥) → Step js r ks → Joined js ks
 joins n (starts l h) = absurd (n h)

@@ -142,7 +142,8 @@ step-count (scours k e) = omega arith
 step-count (crosses k e) = omega arith
 step-count (bears k e n) = omega arith
 
-rebased : {js : Jobs} {b : BookRow} {v w : River} {ls ms : List BookRow} → Different (js and job b v ls) → Different (js and job b w ms)
+-- that the keys differ does not hang on the river and the load rows of the last job
+pub rebased : {js : Jobs} {b : BookRow} {v w : River} {ls ms : List BookRow} → Different (js and job b v ls) → Different (js and job b w ms)
 rebased (new-key d u) = new-key d u
 
 pub step-keys : {js ks : Jobs} {r : BookRow} → Step js r ks → Different ks → Different js

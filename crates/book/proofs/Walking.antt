@@ -4,13 +4,10 @@ use native.Mathlib.Omega.{arith}
 use mathlib.Core.Path.{_≡_, refl, sym, ap, subst, _∙_}
 use mathlib.Core.Bool.{Bool, true, false}
 use mathlib.Core.List.{List, [], _∷_, _++_}
-use lib.ListN.{length, take, drop, set, length-append}
-use lib.Seq.{append-snoc, take-at}
-use Rattle.rfc4180.specs.Rfc4180.{Cell, File, Readable}
-use Rattle.rfc4180.proofs.Parts.{at-index, past}
-use Rattle.rfc4180.proofs.Unique.{nil-cons}
-use Rattle.rfc4180.proofs.First.{first, some-row}
-use Rattle.notes.proofs.Rests.{rest-more, rest-none}
+use lib.ListN.{length, take, set}
+use lib.Seq.{take-at}
+use Rattle.rfc4180.specs.Rfc4180.{Cell, Readable}
+use Rattle.notes.proofs.Reached.{Reached, reached-start, reached-more, reached-last, reached-many}
 use Rattle.rows.specs.Form.{BookRow, raw, Form}
 use Rattle.rows.specs.Answer.{formed, RowSeen, SeenAt}
 use Rattle.keys.specs.declared.Key.{Key}
@@ -80,71 +77,50 @@ given-is {s} {js} b n c m e k =
 
 pub record Walk (s : List ℕ) (last : Job) (jobs : List Job) (keys : List Key) (n row at : ℕ) : Type 0 where
   pub size : length s ≤ 65536
-  pub rows : List (List Cell)
-  pub reading : File s rows
-  pub done : List (List Cell)
-  pub left : List (List Cell)
-  pub split : rows ≡ done ++ left
-  pub here : File (drop at s) left
-  pub number : row ≡ length done + 1
+  pub passed : List (List Cell)
+  pub reached : Reached s passed row at
   pub typed : List BookRow
   pub written : Jobs
-  pub begins : Begins done typed written
+  pub begins : Begins passed typed written
   pub stands : Standing written n keys jobs last
-  pub within : at ≤ length s
-  pub few : row ≤ at + 1
 
 pub walk-start : {s : List ℕ} {last : Job} {jobs : List Job} {keys : List Key} → length s ≤ 65536 → Readable s → Standing none 0 keys jobs last → Walk s last jobs keys 0 1 0
 walk-start {s} n q w = record {
   size = n;
-  rows = q .rows;
-  reading = q .reading;
-  done = [];
-  left = q .rows;
-  split = refl;
-  here = q .reading;
-  number = refl;
+  passed = [];
+  reached = reached-start q;
   typed = [];
   written = none;
   begins = record { forms = no-form; placed = record { are = refl; shaped = no-job }; few = omega arith; different = no-key };
   stands = w;
-  within = omega arith;
-  few = omega arith;
 }
 
 module _ {s : List ℕ} {last : Job} {jobs : List Job} {keys : List Key} {n row at : ℕ} {r : RowRead} (i : Walk s last jobs keys n row at) (h : SeenAt s at r) where
-  pub record Split : Type 0 where
-    pub cs : List Cell
-    pub css : List (List Cell)
-    pub are : i .left ≡ cs ∷ css
-    pub is : RowSeen s at cs css r
+  abbrev cs : List Cell
+  cs = i .reached .row
 
-  pub split : Split
-  split =
-      let m = some-row (first (i .here)) in
-      record { cs = m .0; css = m .1; are = m .2; is = h (m .0) (m .1) (subst (File (drop at s)) (m .2) (i .here)) }
-
-  cut : i .rows ≡ i .done ++ split .cs ∷ split .css
-  cut = i .split ∙ ap (λ (l : List (List Cell)). i .done ++ l) (split .are)
+  seen : RowSeen s at cs (i .reached .behind) r
+  seen = h _ _ (i .reached .here)
 
   pub walk-on : r .next < length s → at < r .next
-  walk-on k = split .is .on k
+  walk-on k = seen .on k
 
-  first-bad : (why : Fault) → Bad why (i .typed) (split .cs) → Says s (refused (number why) row)
+  first-bad : (why : Fault) → Bad why (i .typed) cs → Says s (refused (number why) row)
   first-bad why x =
-      bad-row {why = why} (i .size) (i .reading)
-      (record { before = i .done; row = split .cs; behind = split .css; split = cut; number = i .number; typed = i .typed; jobs = i .written; begins = i .begins; bad = x }) refl
+      let w = i .reached in
+      bad-row {why = why} (i .size) (w .reading)
+      (record { before = i .passed; row = cs; behind = w .behind; split = w .are; number = w .number; typed = i .typed; jobs = i .written; begins = i .begins; bad = x }) refl
 
   walk-formless : r .good ≡ false → Says s (refused 3 row)
-  walk-formless g = first-bad formless (subst (λ (x : Bool). formed x (split .cs) (r .row)) g (split .is .means) .0)
+  walk-formless g = first-bad formless (subst (λ (x : Bool). formed x cs (r .row)) g (seen .means) .0)
 
   -- the row has a form
   module _ (g : r .good ≡ true) where
     abbrev this : BookRow
-    this = record { keyed = r .row; note = raw (split .cs) 9 }
+    this = record { keyed = r .row; note = raw cs 9 }
 
-    means : Form (split .cs) this
-    means = subst (λ (x : Bool). formed x (split .cs) (r .row)) g (split .is .means)
+    means : Form cs this
+    means = subst (λ (x : Bool). formed x cs (r .row)) g (seen .means)
 
     placing : InPlace last (r .row) → InPlace (held (i .written)) (r .row)
     placing w = subst (λ (j : Job). InPlace j (r .row)) (i .stands .job) w
@@ -168,10 +144,10 @@ module _ {s : List ℕ} {last : Job} {jobs : List Job} {keys : List Key} {n row 
     pub record After (next : Job) (vs : List Job) (ks : List Key) (m : ℕ) : Type 0 where
       pub grew : Jobs
       pub step : Step (i .written) this grew
-      pub begins : Begins (i .done ++ split .cs ∷ []) (i .typed ++ this ∷ []) grew
+      pub begins : Begins (i .passed ++ cs ∷ []) (i .typed ++ this ∷ []) grew
       pub stands : Standing grew m ks vs next
 
-    begins-more : {js : Jobs} → Step (i .written) this js → count js ≤ 64 → (Different (i .written) → Different js) → Begins (i .done ++ split .cs ∷ []) (i .typed ++ this ∷ []) js
+    begins-more : {js : Jobs} → Step (i .written) this js → count js ≤ 64 → (Different (i .written) → Different js) → Begins (i .passed ++ cs ∷ []) (i .typed ++ this ∷ []) js
     begins-more p few d = record { forms = forms-more (i .begins .forms) means; placed = extend (i .begins .placed) p; few = few; different = d (i .begins .different) }
 
     pub walk-joined : (next : Job) → taking.Says last (r .row) taking.joins next → After next (set jobs (n - 1) next) keys n
@@ -245,45 +221,29 @@ module _ {s : List ℕ} {last : Job} {jobs : List Job} {keys : List Key} {n row 
     module _ {next : Job} {vs : List Job} {ks : List Key} {m : ℕ} (w : After next vs ks m) where
       pub walk-more : r .next < length s → Walk s next vs ks m (row + 1) (r .next)
       walk-more k =
-          let f = i .few in
-          let o = walk-on k in
-          let p = i .number in
-          let l = length-append (i .done) (split .cs ∷ []) in
           record {
             size = i .size;
-            rows = i .rows;
-            reading = i .reading;
-            done = i .done ++ split .cs ∷ [];
-            left = split .css;
-            split = cut ∙ sym (append-snoc (i .done) (split .cs) (split .css));
-            here = rest-more (split .is .rest) (λ e. nil-cons (sym e ∙ at-index s (r .next) k));
-            number = omega arith;
+            passed = _;
+            reached = reached-more (i .reached) (seen .rest) (walk-on k) k;
             typed = i .typed ++ this ∷ [];
             written = w .grew;
             begins = w .begins;
             stands = w .stands;
-            within = omega arith;
-            few = omega arith;
           }
 
       -- this was the last row
       module _ (k : length s ≤ r .next) where
-        lone : i .rows ≡ i .done ++ split .cs ∷ []
-        lone = cut ∙ ap (λ (l : List (List Cell)). i .done ++ split .cs ∷ l) (rest-none (split .is .rest) (past s (r .next) k))
-
-        all : Begins (i .rows) (i .typed ++ this ∷ []) (w .grew)
-        all = subst (λ (l : List (List Cell)). Begins l (i .typed ++ this ∷ []) (w .grew)) (sym lone) (w .begins)
+        all : Begins (i .reached .rows) (i .typed ++ this ∷ []) (w .grew)
+        all = subst (λ (l : List (List Cell)). Begins l (i .typed ++ this ∷ []) (w .grew)) (sym (reached-last (i .reached) (seen .rest) k)) (w .begins)
 
         pub walk-end : (b : Book) → EndedIs vs m (next .count) row b → BookIs s b
         walk-end b (missing e c v) =
-            let q = ap length lone ∙ length-append (i .done) (split .cs ∷ []) in
-            let o = i .number in
-            let z : row + 1 ≡ length (i .rows) + 1 = omega arith in
+            let z = reached-many (i .reached) (seen .rest) k in
             refused-is b NoPlace (row + 1) (c, v)
-            (unfinished (i .size) (i .reading) (record { typed = _; jobs = w .grew; begins = all; missing = lacks (w .step) (sym (ap (λ (j : Job). j .count) (w .stands .job)) ∙ e) }) (ap (refused 4) z))
+            (unfinished (i .size) (i .reached .reading) (record { typed = _; jobs = w .grew; begins = all; missing = lacks (w .step) (sym (ap (λ (j : Job). j .count) (w .stands .job)) ∙ e) }) (ap (λ (m : ℕ). refused 4 (m + 1)) (sym z)))
         walk-end b (whole e c v) =
             given-is b m c (w .stands .many) (v ∙ w .stands .jobs)
-            (begins-book (i .size) (i .reading) all (has-load (w .step) (λ z. e (ap (λ (j : Job). j .count) (w .stands .job) ∙ z))))
+            (begins-book (i .size) (i .reached .reading) all (has-load (w .step) (λ z. e (ap (λ (j : Job). j .count) (w .stands .job) ∙ z))))
 
 -- a row that is refused where it stands is the first bad one
 module _ {s : List ℕ} {last : Job} {jobs : List Job} {keys : List Key} {n row at : ℕ} (i : Walk s last jobs keys n row at) {r : RowRead} (h : SeenAt s at r) where

@@ -10,7 +10,7 @@ use keys::Key;
 use refusals::Refusal;
 use steps::Way;
 ghost use mathlib.Core.Path.{_≡_};
-ghost use Prim.Native.Nat.{_+_, _≤_, _<_};
+ghost use Prim.Native.Nat.{_≤_};
 ghost use lib.ListN.{length, replicate};
 ghost use Rattle.rfc4180.specs.Rfc4180.{Readable};
 ghost use Rattle.keys.specs.Keyed.{no-row};

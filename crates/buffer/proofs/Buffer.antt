@@ -42,9 +42,9 @@ wrote-one t before after after′ (wrote m) (refused k row) p q = absurd (omega 
 wrote-one t before after after′ (refused k row) (wrote n) p q = absurd (omega arith)
 wrote-one t before after after′ (refused k row) (refused j line) p q = (cc (p .1, p .2, q .1, q .2), p .3 ∙ sym (q .3))
 
-pub told-injective : (a b : Written) → told a ≡ told b → a ≡ b
+pub told-one : (a b : Written) → told a ≡ told b → a ≡ b
 unfolding told
-told-injective (Length m) (Length n) e = cc
-told-injective (Length m) TooShort e = let z : _≡_ {A = ℕ} 0 1 = cc in absurd (omega arith)
-told-injective TooShort (Length n) e = let z : _≡_ {A = ℕ} 0 1 = cc in absurd (omega arith)
-told-injective TooShort TooShort e = refl
+told-one (Length m) (Length n) e = cc
+told-one (Length m) TooShort e = let z : _≡_ {A = ℕ} 0 1 = cc in absurd (omega arith)
+told-one TooShort (Length n) e = let z : _≡_ {A = ℕ} 0 1 = cc in absurd (omega arith)
+told-one TooShort TooShort e = refl

@@ -2,7 +2,6 @@
 // next row starts; and the stretch of the text that a cell is.
 //
 // What is hard is that the stretch is exact for any places, those of a row or not: nothing, where they are none.
-ghost use Prim.Native.Nat.{_<_};
 ghost use Rattle.cells.specs.Cells.{CellAt};
 
 // A row: how many fields it has, where the first ten start and end, and where the next row starts.

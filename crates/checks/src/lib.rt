@@ -29,9 +29,10 @@ pub enum Figure {
     Off,
 }
 
-// The rank of "none", and past every number's.
-const TOP: u64 = 18446744073709551615;
+// The rank of "none", past every number's. The number of PR or RK is what its rank leaves of this.
+pub const TOP: u64 = 18446744073709551615;
 
+// The figure of OP, OM or SL, where a number is its own rank.
 fn low_figure(r: u64) -> Figure
     ensures { λ v. ⌜ Sound lowest v × (rank lowest v ≡ r) ⌝ }
 {
@@ -41,6 +42,7 @@ fn low_figure(r: u64) -> Figure
     Figure::Number(r)
 }
 
+// The figure of PR or RK, whose rank falls as the number grows, down to "off".
 fn high_figure(r: u64) -> Figure
     ensures { λ v. ⌜ Sound highest v × (rank highest v ≡ r) ⌝ }
 {

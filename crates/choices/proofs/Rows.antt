@@ -14,6 +14,7 @@ use Rattle.sets.specs.declared.Load.{Load}
 use Rattle.sets.specs.declared.Loads.{Loads}
 use Rattle.sets.specs.Sets.{bit, row, ownPhase, Acts, Has, Mixed, Permitted, RowFits}
 use Rattle.sets.proofs.Bits.{bit-not-one}
+use Rattle.sets.proofs.Classes.{one-class}
 use Rattle.choices.specs.declared.Stance.{Stance}
 use Rattle.choices.specs.declared.Stance.the-variants.{Never, Always, Either}
 use Rattle.choices.specs.Stance.{byClass, acting, stanceOf, held}
@@ -53,27 +54,18 @@ Says k load Never = (Acts k (load .phase) → ⊥) ⊎ (byClass k (load .class) 
 Says k load Always = Acts k (load .phase) × (load .class ≡ Permanent)
 Says k load Either = Acts k (load .phase) × (load .class ≡ Permanent → ⊥)
 
-free-not : _≡_ {A = Class} Free Permanent → ⊥
-free-not q = let z : _≡_ {A = ℕ} 0 1 = cc in omega arith
-
-wind-not : _≡_ {A = Class} Wind Permanent → ⊥
-wind-not q = let z : _≡_ {A = ℕ} 0 1 = cc in omega arith
-
-quake-not : _≡_ {A = Class} Earthquake Permanent → ⊥
-quake-not q = let z : _≡_ {A = ℕ} 0 1 = cc in omega arith
-
 says-class : (k : Combination) (load : Load) (c : Class) → load .class ≡ c → Acts k (load .phase) → Says k load (byClass k c)
 unfolding Says byClass
 says-class k load Permanent e a = (a, e)
-says-class k load Free e a = (a, λ p. free-not (sym e ∙ p))
+says-class k load Free e a = (a, λ p. omega (arith, one-class Free Permanent e p))
 says-class I load Wind e a = inr (ap (byClass I) e)
-says-class II load Wind e a = (a, λ p. wind-not (sym e ∙ p))
+says-class II load Wind e a = (a, λ p. omega (arith, one-class Wind Permanent e p))
 says-class III load Wind e a = inr (ap (byClass III) e)
-says-class IV load Wind e a = (a, λ p. wind-not (sym e ∙ p))
+says-class IV load Wind e a = (a, λ p. omega (arith, one-class Wind Permanent e p))
 says-class I load Earthquake e a = inr (ap (byClass I) e)
 says-class II load Earthquake e a = inr (ap (byClass II) e)
-says-class III load Earthquake e a = (a, λ p. quake-not (sym e ∙ p))
-says-class IV load Earthquake e a = (a, λ p. quake-not (sym e ∙ p))
+says-class III load Earthquake e a = (a, λ p. omega (arith, one-class Earthquake Permanent e p))
+says-class IV load Earthquake e a = (a, λ p. omega (arith, one-class Earthquake Permanent e p))
 
 pub stance-says : (k : Combination) (load : Load) → Says k load (stanceOf k load)
 unfolding Says

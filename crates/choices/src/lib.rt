@@ -1,7 +1,7 @@
-// The choices of a combination's free rows, and the sets that they make.
+// The choices of a combination's free rows, and the sets that they make (document 01, Load sets).
 //
-// What a row is to the sets of a combination, and the laws that every permitted set is a choice and that the sums of a choice are
-// those of its set. A search in any order of the choices rests on them.
+// What is hard is that every permitted set is a choice, and that the sums of a choice are those of its set. A search in any order of
+// the choices rests on these two laws.
 use sets::Class;
 use sets::Combination;
 use sets::Load;

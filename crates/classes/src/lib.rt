@@ -46,8 +46,8 @@ pub fn source_of(kind: Kind) -> Source
     }
 }
 
-// How many optional rows a row of a class is.
-pub fn is_optional(class: Class) -> u64
+// How many optional rows a row of a class is: 0 or 1 (document 01, refusal 16).
+pub fn optional_count(class: Class) -> u64
     ensures { λ r. ⌜ r ≡ optional class ⌝ }
 {
     match class {

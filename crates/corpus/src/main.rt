@@ -1,7 +1,7 @@
 // Prints the lines of each stored book that its arguments name, after a line with the book's name (document 01, The printed
 // answer). What it must print is put together from the lines of programs written apart from this one. The books named
-// using-NN are the examples of docs/USING.md; load-sets.book has a job for each figure of 01 beside OP and PR, and for each load set
-// that the old program got wrong or never tried.
+// using-NN are the examples of docs/USING.md; load-sets.book has 01's figures of OP and PR, and cases of the other checks and of the
+// load sets that the old program got wrong or never tried.
 use libc::STDOUT_FILENO;
 
 // The book that an argument names.

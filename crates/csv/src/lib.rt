@@ -1,13 +1,14 @@
 // RFC 4180 text, read from a lent slice (document 01, the job book): where the field at a place ends.
 //
-// What RFC 4180 is stands in the room `rfc4180`, and where a quoted field closes in `quoted`. What is hard is that its grammar gives a text one reading at most, so that
-// the field at a place, with what may follow it, is one.
+// What RFC 4180 is stands in the room `rfc4180`, and where a quoted field closes in `quoted`. What is hard is that its grammar
+// gives a text one reading at most, so that the field at a place, with what may follow it, is one.
 use quoted::Found;
-ghost use Prim.Native.Nat.{_+_, _≤_, _<_};
+ghost use Prim.Native.Nat.{_≤_};
 ghost use lib.ListN.{length};
 ghost use Rattle.csv.specs.Answer.{PlainTo, StopAt, FieldAt};
 
-// What follows the field at a place, with the index at which the field ends; or Bad, where no field stands there.
+// What follows the field at a place: a comma or a row's end, with the index at which the field ends; the text's end, which is
+// that index itself; or Bad, where no field stands there that may be followed so.
 pub enum Ended {
     Comma(usize),
     Row(usize),
@@ -59,15 +60,15 @@ pub fn field_end(s: &[u8], at: usize) -> Ended
     requires { ⌜ at ≤ length (now s) ⌝ }
     ensures { λ r. ⌜ FieldAt (now (s .entry)) at r ⌝ }
 {
-    let q = quoted::byte_is(s, at, 0x22);
-    if q {
-        let f = quoted::closing(s, at + 1);
-        match f {
+    let opened = quoted::byte_is(s, at, 0x22);
+    if opened {
+        let found = quoted::closing(s, at + 1);
+        match found {
             Found::At(i) => stop_at(s, i + 1),
             Found::Nothing => Ended::Bad,
         }
     } else {
-        let e = plain_end(s, at);
-        stop_at(s, e)
+        let end = plain_end(s, at);
+        stop_at(s, end)
     }
 }

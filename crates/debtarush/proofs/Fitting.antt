@@ -7,8 +7,8 @@ use Rattle.sets.specs.declared.Combination.the-variants.{I, II, III, IV}
 use Rattle.worst.proofs.Sets.{sets-fit}
 use Rattle.loads.proofs.Answering.{rows-few}
 use Rattle.lines.specs.declared.Answer.{Answer}
-use Rattle.lines.specs.Lines.{SetFits, SetsFit, Numbered}
-use Rattle.answer.specs.Answer.{no-lines, AnswerIs, refused, answered}
+use Rattle.lines.specs.Lines.{no-lines, SetFits, SetsFit, Numbered}
+use Rattle.answer.specs.Answer.{AnswerIs, refused, answered}
 
 none-fit : SetsFit no-lines
 unfolding SetFits

@@ -8,7 +8,8 @@ use Rattle.keys.specs.declared.Key.{Key}
 use Rattle.jobs.specs.declared.Job.{Job}
 use Rattle.book.specs.JobBook.{Written, Jobs, none, _and_}
 use Rattle.scour.specs.Scour as scour
-use Rattle.levels.specs.Told.{given, signed}
+use Rattle.signed.specs.Whole.{signed}
+use Rattle.levels.specs.Told.{given}
 use Rattle.clearance.specs.Clear.{Cleared}
 use Rattle.table2.specs.declared.Coefficient.{Coefficient}
 use Rattle.sets.specs.declared.Combination.{Combination}

@@ -3,12 +3,13 @@
 // What is hard is that the worth of nine digits fits, and that the answer is exact whatever the bytes.
 ghost use Rattle.digits.specs.Numerals.{DigitsAre};
 
+// What digits are worth, or that a content is not digits.
 pub enum Digits {
     Worth(u32),
     NoDigits,
 }
 
-// What digits are worth.
+// What a content is worth as digits.
 pub fn digits_of(content: &[u8]) -> Digits
     ensures { λ r. ⌜ DigitsAre (now (content .entry)) r ⌝ }
 {

@@ -6,7 +6,8 @@
 ghost use Prim.Native.Nat.{_≤_};
 ghost use Rattle.discharge.specs.Discharge.{FoundationDischarge};
 
-// 4.4: Qf for a discharge and a catchment.
+// 4.4: Qf for a discharge and a catchment: 13/10 of the discharge to 500 km², from there a share that falls evenly to 12/10 at 5,000,
+// and on to 11/10 at 25,000.
 pub fn foundation_discharge(q: u64, z: u64) -> u64
     requires { ⌜ (q ≤ 50000000) × (z ≤ 25000) ⌝ }
     ensures { λ r. ⌜ FoundationDischarge q z r ⌝ }

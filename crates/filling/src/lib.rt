@@ -1,4 +1,4 @@
-// The table of a combination's rows: the terms of those that are free, and the sums of those in every set of it.
+// The table of a combination's rows (document 01, Load sets): the terms of those that are free, and the sums of those in every set of it.
 //
 // A search goes through the choices of the free rows, and adds their terms for each. What is hard is that each free row's place in
 // the table is the number of free rows before it, by which a choice holds it.

@@ -1,7 +1,7 @@
 // What one load row exerts (document 01, the job book and Earth pressure): its class, its phase, and its forces, from its own
 // numbers or from its fill.
 //
-// A table of fills that is lent and a shift of x change this step alone. What is hard is that numbers have signs and zero has none.
+// What is hard is that numbers have signs and zero has none.
 use classes::Source;
 use earth::EarthAnswer;
 use kinds::Numbers;
@@ -11,7 +11,7 @@ use sets::Load;
 use signed::Amount;
 ghost use mathlib.Core.Path.{_≡_};
 ghost use mathlib.Core.Bool.{false};
-ghost use Prim.Native.Nat.{_*_, _≤_};
+ghost use Prim.Native.Nat.{_≤_};
 ghost use Rattle.ranges.specs.Range.{Ranged};
 ghost use Rattle.table2.specs.Table2.{table2-fill};
 ghost use Rattle.signed.specs.Whole.{signed, amount};

@@ -1,7 +1,7 @@
 // What is found at a place of a book, the first place being 1 (document 01, "Refusals of a book", refusal 10).
 //
-// A book is refused, 1 to 6, before a place of it is: only a book that is given has jobs to count. What is hard is only the order:
-// the place is looked at behind the book's own refusal, and never instead of it.
+// What is hard is only the order: the place is looked at behind the book's own refusal, 1 to 6, and never instead of it, since only a
+// book that is given has jobs to count.
 use book::Count;
 use refusals::Refusal;
 ghost use Rattle.found.specs.FoundAt.{FoundIs};

@@ -25,8 +25,7 @@ pub fn has_clearance(stage: Stage) -> bool
     ensures { λ r. ⌜ Decides r (HasClearance stage) ⌝ }
 {
     match stage {
-        Stage::Unbegun => false,
-        Stage::Dry => false,
+        Stage::Unbegun | Stage::Dry => false,
         Stage::Scoured => false,
         Stage::Crossed => true,
     }

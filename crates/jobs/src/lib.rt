@@ -12,7 +12,7 @@ use kinds::Role;
 use kinds::Row;
 use placing::Stage;
 ghost use mathlib.Core.Path.{_≡_};
-ghost use Prim.Native.Nat.{_+_, _<_};
+ghost use Prim.Native.Nat.{_<_};
 ghost use Rattle.kinds.specs.Table.{role};
 ghost use Rattle.kinds.specs.declared.Role.the-variants.{Base, Scour, Clearance, Load};
 ghost use Rattle.jobs.specs.Place.{no-job, with-row};
@@ -29,12 +29,14 @@ pub struct Job {
     pub loads: [Row; 16],
 }
 
+// What became of a row: it started a job, it joined the one before, or it is out of place (refusal 4).
 pub enum Took {
     Started,
     Joined,
     OutOfPlace,
 }
 
+// What became of a row, and the job behind it.
 pub struct Taken {
     pub answer: Took,
     pub job: Job,

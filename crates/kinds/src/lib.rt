@@ -6,6 +6,7 @@ use fields::Entry;
 ghost use mathlib.Core.Path.{_≡_};
 ghost use Rattle.kinds.specs.Table.{columns, load-columns};
 
+// The kinds of a row: the base, the two river rows, earth pressure, and the load rows that give their own forces.
 pub enum Kind {
     B,
     S,
@@ -39,6 +40,7 @@ pub enum Column {
     Signed(u32, u32),
 }
 
+// The columns n1 to n6 of a kind.
 pub struct Columns {
     pub n1: Column,
     pub n2: Column,
@@ -129,6 +131,7 @@ fn force_columns() -> Columns
     }
 }
 
+// The columns of a kind.
 pub fn columns_of(kind: Kind) -> Columns
     ensures { λ r. ⌜ r ≡ columns kind ⌝ }
 {

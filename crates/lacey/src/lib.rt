@@ -14,6 +14,8 @@ const LACEY: u64 = 473 * 473 * 473;
 const CONSTRICTED: u64 = 1_338 * 1_338 * 1_338;
 // 4.6.6: greatest scour in hundredths of Lacey's depth, reach by reach.
 const REACHES: [u64; 5] = [125, 150, 175, 200, 275];
+// 6.9.1: the depth needed in hundredths of the greatest scour.
+const NEEDED: u64 = 133;
 
 // 4.5.3: whether a waterway meets the regime width.
 pub fn meets_regime(q: u64, w: u64) -> bool
@@ -49,5 +51,5 @@ pub fn depth_needed(depth: u64, reach: u64) -> u64
 {
     let at = (reach - 1) as usize;
     let greatest = rounding::up(REACHES[at] * depth, 100);
-    rounding::up(133 * greatest, 100)
+    rounding::up(NEEDED * greatest, 100)
 }

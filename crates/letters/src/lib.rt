@@ -6,6 +6,7 @@ ghost use mathlib.Core.Path.{_≡_};
 ghost use mathlib.Core.List.{[], _∷_};
 ghost use Rattle.letters.specs.Form.{KindAt, KindIs};
 
+// The kind that letters are, or that they are none.
 pub enum KindRead {
     Known(Kind),
     Unknown,

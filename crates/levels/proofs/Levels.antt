@@ -1,68 +1,57 @@
 -- Levels as whole numbers, and how the code keeps them natural: what each is above zero and below it is added up on two sides,
 -- and the difference of the sides is the whole number, by its sign and size.
-use mathlib.Core.Path.{_≡_, sym, ap, _∙_}
+use mathlib.Core.Path.{_≡_, refl, sym, ap, subst⁻¹, _∙_}
 use mathlib.Core.Bool.{Bool, true, false, cond}
-use Prim.Native.Nat.{ℕ, zero, suc, _+_, _-_, _≤_, _<_, zero-le}
-use native.Mathlib.Nat.{le-refl}
+use Prim.Native.Nat.{ℕ, _+_, _≤_, _<_}
+use native.Mathlib.Nat.{add-zero}
 use native.Mathlib.Omega.{arith}
-use borrow.Author.Tests.{le-ltb, lt-ltb}
-use lib.IntN.{ℤ, pos, negℤ, _+ℤ_, _-ℤ_, +ℤ-idl, +ℤ-idr, +ℤ-assoc, +ℤ-comm, negℤ-+ℤ, negℤ-negℤ}
+use lib.IntN.{ℤ, pos, negsuc, negℤ, _+ℤ_, _-ℤ_, +ℤ-idl}
+use Rattle.signed.specs.declared.Amount.{Amount}
+use Rattle.signed.specs.declared.Parts.{Parts}
+use Rattle.signed.specs.Whole.{signed, worth, amount, above, below, partsOf}
+use Rattle.signed.proofs.Laws.{above-size, below-size, above-neg, below-neg, add-parts, add-diffs}
 use Rattle.fields.specs.declared.Entry.{Entry}
 use Rattle.ranges.specs.Range.{value}
+use Rattle.levels.specs.Told.{given, Answers}
+use Rattle.levels.specs.declared.ClearanceAnswer.the-variants.{Given}
 
--- a difference that is not below zero, and one that is
-pub not-below : (a b : ℕ) → b ≤ a → pos a -ℤ pos b ≡ pos (a - b)
-not-below a zero h = ap pos {x = a + 0} {y = a - 0} (omega arith)
-not-below a (suc b) h = simp (le-ltb _ _ h)
+-- an amount is a level
+abbrev pub Level : Amount → Entry → Type 0
+Level a e = (a .minus ≡ e .minus) × (a .size ≡ e .size)
 
-pub is-below : (a b : ℕ) → a < b → pos a -ℤ pos b ≡ negℤ (pos (b - a))
-is-below a zero h = absurd (omega arith)
-is-below a (suc b) h = simp (lt-ltb _ _ h) (ap (λ (n : ℕ). negℤ (pos n)) {x = suc (suc b - suc a)} {y = suc b - a} (omega arith))
-
--- a level above zero, and below
-abbrev pub above : Entry → ℕ
-above e = cond (e .minus) 0 (e .size)
-
-abbrev pub below : Entry → ℕ
-below e = cond (e .minus) (e .size) 0
-
-parts : (e : Entry) → value e ≡ pos (above e) -ℤ pos (below e)
-unfolding value
-parts e = by-sign (e .minus) (e .size)
+level-worth : (e : Entry) (a : Amount) → Level a e → value e ≡ worth a
+unfolding worth signed value
+level-worth e a h = rw (h .0, h .1) (by-sign (e .minus) (e .size))
   where
-    by-sign : (minus : Bool) (n : ℕ) → cond minus (negℤ (pos n)) (pos n) ≡ pos (cond minus 0 n) -ℤ pos (cond minus n 0)
-    by-sign true n = sym (+ℤ-idl (negℤ (pos n)))
-    by-sign false n = sym (+ℤ-idr (pos n))
+    by-sign : (minus : Bool) (n : ℕ) → cond minus (negℤ (pos n)) (pos n) ≡ signed minus n
+    by-sign true n = refl
+    by-sign false n = refl
 
-exchange : (w x y z : ℤ) → (w +ℤ x) +ℤ (y +ℤ z) ≡ (w +ℤ z) +ℤ (x +ℤ y)
-exchange w x y z =
-    +ℤ-assoc w x (y +ℤ z) ∙ ap (λ (k : ℤ). w +ℤ k) (sym (+ℤ-assoc x y z) ∙ +ℤ-comm (x +ℤ y) z) ∙ sym (+ℤ-assoc w z (x +ℤ y))
+-- the parts of a level of 32 bits have no more, so that two of them and an afflux fit a word
+pub part-fits : (e : Entry) (a : Amount) {p : Parts} → e .size < 4294967296 → Level a e → p ≡ partsOf (worth a) → (p .above < 4294967296) × (p .below < 4294967296)
+unfolding partsOf
+part-fits e a f h q = rw q (omega (arith, above-size a, h .1), omega (arith, below-size a, h .1))
 
--- two levels and a height: what is above zero on one side, what is below on the other
-sides : (a b c d h : ℕ) → (pos a -ℤ pos b) -ℤ (pos c -ℤ pos d) -ℤ pos h ≡ pos (a + d) -ℤ pos (b + c + h)
-sides a b c d h =
-    let opposite : negℤ (pos c -ℤ pos d) ≡ negℤ (pos c) +ℤ pos d = negℤ-+ℤ (pos c) (negℤ (pos d)) ∙ ap (λ (k : ℤ). negℤ (pos c) +ℤ k) (negℤ-negℤ (pos d)) in
-    let joined : negℤ (pos (b + c + h)) ≡ negℤ (pos b) +ℤ negℤ (pos c) -ℤ pos h = negℤ-+ℤ (pos (b + c)) (pos h) ∙ ap (λ (k : ℤ). k -ℤ pos h) (negℤ-+ℤ (pos b) (pos c)) in
-    ap (λ (k : ℤ). pos a -ℤ pos b +ℤ k -ℤ pos h) opposite
-    ∙ ap (λ (k : ℤ). k -ℤ pos h) (exchange (pos a) (negℤ (pos b)) (negℤ (pos c)) (pos d))
-    ∙ +ℤ-assoc (pos (a + d)) (negℤ (pos b) -ℤ pos c) (negℤ (pos h))
-    ∙ ap (λ (k : ℤ). pos (a + d) +ℤ k) (sym joined)
+pub side-fits : {a b : ℕ} (h : ℕ) → a < 4294967296 → b < 4294967296 → h ≤ 60000000000000 → (a + b < 18446744073709551616) × (a + b + h < 18446744073709551616)
+side-fits h x y z = (omega arith, omega arith)
 
-pub between : (upper lower : Entry) (h : ℕ) {a b c d : ℕ} → a ≡ above upper → b ≡ below lower → c ≡ below upper → d ≡ above lower
-    → pos (a + b) -ℤ pos (c + d + h) ≡ value upper -ℤ value lower -ℤ pos h
-between upper lower h p q r s = rw (p, q, r, s, parts upper, parts lower) (sym (sides (above upper) (below upper) (above lower) (below lower) h))
+-- two numbers and a height: what is above zero on one side, what is below on the other
+sides : (y z : ℤ) (h : ℕ) → pos (above y + below z) -ℤ pos (below y + above z + h) ≡ y -ℤ z -ℤ pos h
+sides y z h =
+    let apart : y -ℤ z ≡ pos (above y + below z) -ℤ pos (below y + above z) = rw (sym (above-neg z), sym (below-neg z)) (add-parts y (negℤ z)) in
+    let down : negℤ (pos h) ≡ pos 0 -ℤ pos h = sym (+ℤ-idl (negℤ (pos h))) in
+    sym (rw (apart, down) (add-diffs (above y + below z) (below y + above z) 0 h ∙ ap (λ (n : ℕ). pos n -ℤ pos (below y + above z + h)) (add-zero (above y + below z))))
 
--- neither part is more than the size
-pub above-most : (e : Entry) → above e ≤ e .size
-above-most e = by-sign (e .minus) (e .size)
+pub between : (upper lower : Entry) (h : ℕ) {u l : Amount} {p q : Parts} → Level u upper → Level l lower → p ≡ partsOf (worth u) → q ≡ partsOf (worth l)
+    → pos (p .above + q .below) -ℤ pos (p .below + q .above + h) ≡ value upper -ℤ value lower -ℤ pos h
+unfolding partsOf
+between upper lower h {u} {l} hu hl e f = rw (e, f, level-worth upper u hu, level-worth lower l hl) (sides (worth u) (worth l) h)
+
+-- the amount of a number tells it, without a minus zero
+pub amount-told : (z : ℤ) (needed : ℕ) {a : Amount} → a ≡ amount z → Answers (λ t. t ≡ given z needed) (Given (a .minus) (a .size) needed)
+unfolding amount signed
+amount-told z needed e = subst⁻¹ (λ (a : Amount). Answers (λ t. t ≡ given z needed) (Given (a .minus) (a .size) needed)) e (by-sign z)
   where
-    by-sign : (minus : Bool) (n : ℕ) → cond minus 0 n ≤ n
-    by-sign true n = zero-le
-    by-sign false n = le-refl n
-
-pub below-most : (e : Entry) → below e ≤ e .size
-below-most e = by-sign (e .minus) (e .size)
-  where
-    by-sign : (minus : Bool) (n : ℕ) → cond minus n 0 ≤ n
-    by-sign true n = le-refl n
-    by-sign false n = zero-le
+    by-sign : (z : ℤ) → Answers (λ t. t ≡ given z needed) (Given (amount z .minus) (amount z .size) needed)
+    by-sign (pos n) = record { says = refl; plain = λ k. let w : _≡_ {A = ℕ} 0 1 = cc in omega arith }
+    by-sign (negsuc n) = record { says = refl; plain = λ k. omega arith }

@@ -5,6 +5,7 @@ use Prim.Native.Nat.{zero, suc}
 use native.Mathlib.Omega.{arith}
 use lib.Dec.{eqb}
 use lib.IntN.{pos, negsuc}
+use Rattle.signed.specs.Whole.{signed}
 use Rattle.levels.specs.Told.{Told, refused, given, told, NoMinusZero, Answers}
 use Rattle.levels.specs.declared.ClearanceAnswer.{ClearanceAnswer}
 use Rattle.levels.specs.declared.ClearanceAnswer.the-variants.{OutOfRange, OverObstructed, Given}
@@ -22,7 +23,7 @@ back (given (pos n) needed) = Given false n needed
 back (given (negsuc n) needed) = Given true (suc n) needed
 
 back-told : (r : ClearanceAnswer) → NoMinusZero r → back (told r) ≡ r
-unfolding back
+unfolding back signed
 back-told OutOfRange h = refl
 back-told OverObstructed h = refl
 back-told (Given false size needed) h = refl

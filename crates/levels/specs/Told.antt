@@ -1,8 +1,9 @@
 -- Document 01, what a C row is told: the clearance there is and the clearance needed (CL), or a refusal of its job.
 use mathlib.Core.Path.{_≡_}
-use mathlib.Core.Bool.{Bool, true, false}
+use mathlib.Core.Bool.{true}
 use Prim.Native.Nat.{ℕ, _<_}
-use lib.IntN.{ℤ, pos, negℤ}
+use lib.IntN.{ℤ}
+use Rattle.signed.specs.Whole.{signed}
 use Rattle.levels.specs.declared.ClearanceAnswer.{ClearanceAnswer}
 use Rattle.levels.specs.declared.ClearanceAnswer.the-variants.{OutOfRange, OverObstructed, Given}
 
@@ -10,10 +11,6 @@ use Rattle.levels.specs.declared.ClearanceAnswer.the-variants.{OutOfRang
 pub data Told : Type 0 where
   refused : ℕ → Told
   given : ℤ → ℕ → Told
-
-abbrev pub signed : Bool → ℕ → ℤ
-signed true size = negℤ (pos size)
-signed false size = pos size
 
 abbrev pub told : ClearanceAnswer → Told
 told OutOfRange = refused 11

@@ -4,8 +4,8 @@
 // What is hard is sign. What is left of the clearance may be below zero: levels are added up on two sides, and only natural
 // numbers are taken from each other.
 use fields::Entry;
+use signed::Amount;
 ghost use mathlib.Core.Path.{_≡_};
-ghost use mathlib.Core.Bool.{cond};
 ghost use Prim.Native.Nat.{_≤_};
 ghost use lib.IntN.{pos, _-ℤ_};
 ghost use Rattle.ranges.specs.Range.{value};
@@ -18,18 +18,14 @@ pub enum ClearanceAnswer {
     Given { minus: bool, size: u64, needed: u64 },
 }
 
-// How far a level is above zero.
-fn above_zero(level: Entry) -> u64
-    ensures { λ r. ⌜ r ≡ cond (level .minus) 0 (level .size) ⌝ }
+// A level as an amount.
+fn amount_of(level: Entry) -> Amount
+    ensures { λ r. ⌜ (r .minus ≡ level .minus) × (r .size ≡ level .size) ⌝ }
 {
-    if level.minus { 0 } else { level.size as u64 }
-}
-
-// How far a level is below zero.
-fn below_zero(level: Entry) -> u64
-    ensures { λ r. ⌜ r ≡ cond (level .minus) (level .size) 0 ⌝ }
-{
-    if level.minus { level.size as u64 } else { 0 }
+    Amount {
+        minus: level.minus,
+        size: level.size as u64,
+    }
 }
 
 // Underside - flood - afflux by its sign and size, beside the clearance needed.
@@ -37,18 +33,14 @@ pub fn clearance_under(underside: Entry, flood: Entry, afflux: u64, needed: u64)
     requires { ⌜ afflux ≤ 60000000000000 ⌝ }
     ensures { λ r. ⌜ Answers (λ t. t ≡ given (value underside -ℤ value flood -ℤ pos afflux) needed) r ⌝ }
 {
-    let height = above_zero(underside) + below_zero(flood);
-    let depth = below_zero(underside) + above_zero(flood) + afflux;
-    if height < depth {
-        return ClearanceAnswer::Given {
-            minus: true,
-            size: depth - height,
-            needed,
-        };
-    }
+    let upper = signed::parts_of(amount_of(underside));
+    let lower = signed::parts_of(amount_of(flood));
+    let height = upper.above + lower.below;
+    let depth = upper.below + lower.above + afflux;
+    let clearance = signed::difference(height, depth);
     ClearanceAnswer::Given {
-        minus: false,
-        size: height - depth,
+        minus: clearance.minus,
+        size: clearance.size,
         needed,
     }
 }

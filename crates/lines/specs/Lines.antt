@@ -134,6 +134,10 @@ Alone false verdict = (later : List PrintedLine) → unless-refused verdict late
 unfoldable pub lines-of : Answer → List PrintedLine
 lines-of answer = verdict-line (answer .verdict) ∷ unless-refused (answer .verdict) (later-lines answer)
 
+-- the lines of a combination that has none: "A combination with no set is not checked."
+abbrev pub no-lines : Lines
+no-lines = record { op = line.Missing; om = line.Missing; sl = line.Missing; pr = line.Missing; rk = line.Missing }
+
 -- A set number of 16 load rows is below 65,536.
 unfoldable pub SetFits : Line → Type 0
 SetFits line.Missing = Unit {0}

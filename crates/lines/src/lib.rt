@@ -1,11 +1,11 @@
 // The answer of a job, by value, and the lines that document 01, The printed answer, gives it.
 //
-// These are types, A or N of a job that is not refused, and which verdict stands alone: `worst` gives the lines of a
-// combination, `waters` the two lines of the river, and `verdicts` whether they all say Y. What is hard is their order, which
-// `specs/` states once as a list, for the text and for the demands.
+// These are types, the lines of a combination that has none, A or N of a job that is not refused, and which verdict stands
+// alone: `worst` gives the lines of a combination, `waters` the two lines of the river, and `verdicts` whether they all say Y.
+// What is hard is their order, which `specs/` states once as a list, for the text and for the demands.
 use checks::Figure;
 ghost use mathlib.Core.Path.{_≡_};
-ghost use Rattle.lines.specs.Lines.{verdict-by, Alone};
+ghost use Rattle.lines.specs.Lines.{verdict-by, no-lines, Alone};
 
 // The line of a check: value, limit, set, and whether it says Y.
 pub enum Line {
@@ -27,6 +27,7 @@ pub struct Lines {
     pub rk: Line,
 }
 
+// What VERDICT says: A, N, or the number of the job's refusal.
 pub enum Verdict {
     Accepted,
     NotAccepted,
@@ -63,6 +64,19 @@ pub struct Answer {
     pub four: Lines,
     pub depth: DepthLine,
     pub clear: ClearLine,
+}
+
+// The lines of a combination that is not checked (document 01, Load sets), and of a refused job.
+pub fn no_lines() -> Lines
+    ensures { λ r. ⌜ r ≡ no-lines ⌝ }
+{
+    Lines {
+        op: Line::Missing,
+        om: Line::Missing,
+        sl: Line::Missing,
+        pr: Line::Missing,
+        rk: Line::Missing,
+    }
 }
 
 // A where every line after VERDICT says Y, N where not.

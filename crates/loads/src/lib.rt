@@ -11,6 +11,8 @@ ghost use Rattle.table2.specs.Table2.{table2-fill};
 ghost use Rattle.loads.specs.LoadRows.{AllRanged, NoneBlank, optionals, AreLoads};
 ghost use Rattle.loads.specs.Taken.{noLoads, rowsOf, Answers};
 
+// What the load rows are told: refusal 11 (a number out of range), 15 (Table 2 blank) or 16 (more than 12 optional rows), in that
+// order over all of them; or the loads.
 pub enum Answer {
     OutOfRange,
     NoCoefficient,
@@ -33,7 +35,7 @@ fn no_loads() -> Loads
     Loads { count: 0, loads }
 }
 
-// How many rows there are.
+// The count of load rows that is looked at: the count given, at most the 16 that a job may have (document 01, the job book).
 fn rows_of(count: usize) -> usize
     ensures { λ r. ⌜ (r ≡ rowsOf count) × (r ≤ 16) ⌝ }
 {
@@ -87,7 +89,7 @@ fn optional_rows(rows: [Row; 16], n: usize) -> u64
     while i < n {
         let row = rows[i];
         let kind = row.kind;
-        many = many + classes::is_optional(classes::class_of(kind));
+        many = many + classes::optional_count(classes::class_of(kind));
         i = i + 1;
     }
     many

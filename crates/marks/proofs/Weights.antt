@@ -1,4 +1,4 @@
--- A rank and a set as one weight: which of two comes first, that the better of a mark and of a set is one, and how it is offered.
+-- A rank and a set as one weight: which of two comes first, that the worse of a mark and of a set is one, and how it is offered.
 use mathlib.Core.Path.{_≡_, refl, sym, _∙_, ap₂, subst}
 use mathlib.Core.Logic.{inl, inr, ⊎-elim}
 use mathlib.Core.Bool.{Bool, true, false, true≢false}
@@ -10,7 +10,7 @@ use Rattle.checks.specs.declared.Figure.{Figure}
 use Rattle.checks.specs.Order.{Side, Ranks}
 use Rattle.checks.proofs.Ranking.{ranks-one}
 use Rattle.marks.specs.declared.Mark.{Mark}
-use Rattle.marks.specs.Marks.{place, weight, weightOf, Better, Offered, Offers}
+use Rattle.marks.specs.Marks.{place, weight, weightOf, WorseOf, Offered, Offers}
 
 -- ---- the place of a set
 pub place-none : place 0 ≡ 17 * 65536
@@ -39,21 +39,21 @@ pub weight-place : (m n s t : ℕ) → m ≡ n → place s ≤ place t → weigh
 unfolding weight
 weight-place m n s t e h = omega arith
 
--- ---- the better of two
-pub better-new : (b : Mark) (n s : ℕ) → weight n s ≤ weightOf b → Better b n s (record { rank = n; set = s })
+-- ---- the worse of two
+pub worse-of-new : (b : Mark) (n s : ℕ) → weight n s ≤ weightOf b → WorseOf b n s (record { rank = n; set = s })
 unfolding weightOf
-better-new b n s h = record { from = inr (refl, refl); kept = h; first = le-refl _ }
+worse-of-new b n s h = record { from = inr (refl, refl); kept = h; first = le-refl _ }
 
-pub better-old : (b : Mark) (n s : ℕ) → weightOf b ≤ weight n s → Better b n s b
-better-old b n s h = record { from = inl refl; kept = le-refl _; first = h }
+pub worse-of-old : (b : Mark) (n s : ℕ) → weightOf b ≤ weight n s → WorseOf b n s b
+worse-of-old b n s h = record { from = inl refl; kept = le-refl _; first = h }
 
 -- a set whose figure is plainly no worse
 pub offered-old : (s : Side) (P : Figure → Type 0) (b : Mark) (set n : ℕ) → Ranks s P n → b .rank < n → b .set < 65536 → set < 65536 → Offered s P b set b
 unfolding weightOf
-offered-old s P b set n r h p q = record { rank = n; ranks = r; better = better-old b n set (weight-rank (b .rank) n (b .set) set h p q) }
+offered-old s P b set n r h p q = record { rank = n; ranks = r; worse = worse-of-old b n set (weight-rank (b .rank) n (b .set) set h p q) }
 
-pub better-low : {b r : Mark} {n s : ℕ} → b .set < 65536 → s < 65536 → Better b n s r → r .set < 65536
-better-low {b} {r} {n} {s} p q w =
+pub worse-of-low : {b r : Mark} {n s : ℕ} → b .set < 65536 → s < 65536 → WorseOf b n s r → r .set < 65536
+worse-of-low {b} {r} {n} {s} p q w =
     ⊎-elim (λ e. subst (λ (m : Mark). m .set < 65536) (sym e) p) (λ e. subst (λ (k : ℕ). k < 65536) (sym (e .1)) q) (w .from)
 
 -- a check that is weighed, and one that is not
@@ -79,16 +79,16 @@ weight-one a b p q e = λ i. record { rank = ranks i; set = place-one (a .set) (
     ranks = omega (arith, e, place-low (a .set) p, place-low (b .set) q)
 
 module _ {b : Mark} {n s : ℕ} (p : b .set < 65536) (q : s < 65536) where
-  lightest : {r t : Mark} → Better b n s r → Better b n s t → weightOf r ≤ weightOf t
+  lightest : {r t : Mark} → WorseOf b n s r → WorseOf b n s t → weightOf r ≤ weightOf t
   unfolding weightOf
   lightest {r} {t} x y =
       ⊎-elim (λ e. subst (λ (m : Mark). weightOf r ≤ weightOf m) (sym e) (x .kept)) (λ e. subst (λ (m : ℕ). weightOf r ≤ m) (sym (ap₂ weight (e .0) (e .1))) (x .first)) (y .from)
 
-  pub better-one : {r t : Mark} → Better b n s r → Better b n s t → r ≡ t
-  better-one {r} {t} x y = weight-one r t (better-low p q x) (better-low p q y) (le-antisymm (lightest x y) (lightest y x))
+  pub worse-of-one : {r t : Mark} → WorseOf b n s r → WorseOf b n s t → r ≡ t
+  worse-of-one {r} {t} x y = weight-one r t (worse-of-low p q x) (worse-of-low p q y) (le-antisymm (lightest x y) (lightest y x))
 
--- The better of a mark and of a set is one where the set has one figure.
+-- The worse of a mark and of a set is one where the set has one figure.
 pub offered-one : {from : Side} {P : Figure → Type 0} {b : Mark} {s : ℕ} {r t : Mark} → ((v w : Figure) → P v → P w → v ≡ w) → b .set < 65536 → s < 65536
     → Offered from P b s r → Offered from P b s t → r ≡ t
 offered-one {from} {P} {b} {s} {r} {t} one p q x y =
-    better-one p q (subst (λ (n : ℕ). Better b n s r) (ranks-one one (x .ranks) (y .ranks)) (x .better)) (y .better)
+    worse-of-one p q (subst (λ (n : ℕ). WorseOf b n s r) (ranks-one one (x .ranks) (y .ranks)) (x .worse)) (y .worse)

@@ -1,4 +1,4 @@
--- A mark's place in the order of sets, as one number, and what it is to be the better of a mark and of one set more.
+-- A mark's place in the order of sets, as one number, and what it is to be the worse of a mark and of one set more.
 use mathlib.Core.Path.{_≡_}
 use mathlib.Core.Logic.{_⊎_}
 use mathlib.Core.Bool.{Bool, true, false}
@@ -20,17 +20,17 @@ weight r s = r * (18 * 65536) + place s
 unfoldable pub weightOf : Mark → ℕ
 weightOf m = weight (m .rank) (m .set)
 
--- r is the better of b and of the set s with the rank n
-pub record Better (b : Mark) (n s : ℕ) (r : Mark) : Type 0 where
+-- r is the worse of b and of the set s with the rank n: of the two the one that weighs less
+pub record WorseOf (b : Mark) (n s : ℕ) (r : Mark) : Type 0 where
   pub from : (r ≡ b) ⊎ ((r .rank ≡ n) × (r .set ≡ s))
   pub kept : weightOf r ≤ weightOf b
   pub first : weightOf r ≤ weight n s
 
--- r is the better of b and of the set s, of whose figure P says which it is
+-- r is the worse of b and of the set s, of whose figure P says which it is
 pub record Offered (from : Side) (P : Figure → Type 0) (b : Mark) (s : ℕ) (r : Mark) : Type 0 where
   pub rank : ℕ
   pub ranks : Ranks from P rank
-  pub better : Better b rank s r
+  pub worse : WorseOf b rank s r
 
 -- the same of a check that is weighed; where it is not, r is b
 pub record Offers (on : Bool) (from : Side) (P : Figure → Type 0) (b : Mark) (s : ℕ) (r : Mark) : Type 0 where

@@ -1,12 +1,12 @@
 // The mark of a check: the worst figure so far, and its set, by document 01's tie rule (Load sets).
 //
 // Of two sets with one figure the one with fewer rows is named, and of as many rows the smaller number. What is hard is that this
-// order and that of the figures are one order of one number, the weight, so that the better of two marks is one.
+// order and that of the figures are one order of one number, the weight, so that the worse of two marks is one.
 ghost use Prim.Native.Nat.{_<_};
 ghost use Rattle.decides.specs.Decides.{Decides};
-ghost use Rattle.marks.specs.Marks.{place, Better};
+ghost use Rattle.marks.specs.Marks.{place, WorseOf};
 
-// The best so far of a check: the rank of its figure, and its set; set 0 where there is none yet.
+// The worst so far of a check: the rank of its figure, and its set; set 0 where there is none yet.
 pub struct Mark {
     pub rank: u64,
     pub set: u64,
@@ -34,20 +34,20 @@ fn fewer(s: u64, t: u64) -> bool
     false
 }
 
-// The better of the best so far and of one set more.
-pub fn better(best: Mark, rank: u64, set: u64) -> Mark
-    requires { ⌜ (0 < set) × (set < 65536) × (best .set < 65536) ⌝ }
-    ensures { λ r. ⌜ Better best rank set r ⌝ }
+// The worse of the worst so far and of one set more: the lower rank, and of equal ranks the set that comes first.
+pub fn worse(worst: Mark, rank: u64, set: u64) -> Mark
+    requires { ⌜ (0 < set) × (set < 65536) × (worst .set < 65536) ⌝ }
+    ensures { λ r. ⌜ WorseOf worst rank set r ⌝ }
 {
-    let last = best.rank;
+    let last = worst.rank;
     if rank < last {
         return Mark { rank, set };
     }
     if last < rank {
-        return best;
+        return worst;
     }
-    if fewer(set, best.set) {
+    if fewer(set, worst.set) {
         return Mark { rank, set };
     }
-    best
+    worst
 }

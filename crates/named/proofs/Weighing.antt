@@ -1,4 +1,4 @@
--- The best so far with one set more is one.
+-- The worst so far with one set more is one.
 use mathlib.Core.Path.{_≡_, refl, sym, _∙_}
 use mathlib.Core.Bool.{Bool, true, false, true≢false}
 use Prim.Native.Nat.{_<_}
@@ -10,7 +10,7 @@ use Rattle.checks.specs.declared.Figure.{Figure}
 use Rattle.set_figures.specs.Figures.{Judged}
 use Rattle.pressure.proofs.Pressing.{presses-one}
 use Rattle.ranks.proofs.Ranks.{tips-one, slides-one, leans-one}
-use Rattle.named.specs.declared.Best.{Best}
+use Rattle.named.specs.declared.Worst.{Worst}
 use Rattle.named.specs.Weighs.{markOf, Weighed, Low, Weighs}
 use Rattle.marks.proofs.Weights.{offered-one}
 
@@ -27,21 +27,21 @@ is-on : (on : Bool) → Dec (on ≡ true)
 is-on true = yes refl
 is-on false = no (λ e. true≢false (sym e))
 
-weighed : (full rock : Bool) (check : Check) → Dec (Weighed full rock check)
+weighed : (serves rock : Bool) (check : Check) → Dec (Weighed serves rock check)
 unfolding Weighed
-weighed full rock OP = is-on full
-weighed full rock OM = is-on full
-weighed full rock SL = is-on full
-weighed full rock PR = yes tt
-weighed full rock RK = is-on rock
+weighed serves rock OP = is-on serves
+weighed serves rock OM = is-on serves
+weighed serves rock SL = is-on serves
+weighed serves rock PR = yes tt
+weighed serves rock RK = is-on rock
 
 -- No second answer meets the promise of `weigh`.
-module _ (full rock : Bool) (base : Base) (sums : Sums) {b r t : Best} (low : Low b) (few : sums .set < 65536) (x : Weighs full rock base sums b r) (y : Weighs full rock base sums b t) where
+module _ (serves rock : Bool) (base : Base) (sums : Sums) {b r t : Worst} (low : Low b) (few : sums .set < 65536) (x : Weighs serves rock base sums b r) (y : Weighs serves rock base sums b t) where
   mark-one : (check : Check) → markOf check r ≡ markOf check t
   unfolding Low
-  mark-one check = go (weighed full rock check)
+  mark-one check = go (weighed serves rock check)
     where
-      go : Dec (Weighed full rock check) → markOf check r ≡ markOf check t
+      go : Dec (Weighed serves rock check) → markOf check r ≡ markOf check t
       go (yes o) = offered-one (judged-one check base sums) (low check) few (x .offered check o) (y .offered check o)
       go (no n) = x .left check n ∙ sym (y .left check n)
 

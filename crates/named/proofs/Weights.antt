@@ -1,4 +1,4 @@
--- The search by weights: the best so far comes before every permitted set gone through, whatever the order, and at the end it is the set that the line names.
+-- The search by weights: the worst so far comes before every permitted set gone through, whatever the order, and at the end it is the set that the line names.
 use mathlib.Core.Path.{_≡_, refl, sym, _∙_, ap, subst}
 use mathlib.Core.Logic.{_⊎_, inl, inr, ⊎-elim}
 use Prim.Native.Nat.{ℕ, _+_, _*_, _-_, _^_, _≤_, _<_}
@@ -13,7 +13,7 @@ use Rattle.marks.specs.Marks.{place, weight, weightOf, Offered}
 use Rattle.marks.proofs.Weights.{place-none, place-some, place-low, some-low}
 use Rattle.named.specs.Named.{Named}
 
--- ---- from the best so far to the best of it and of a family of sets
+-- ---- from the worst so far to the worst of it and of a family of sets
 module _ (s : Side) (P : ℕ → Type 0) (Shown : ℕ → Figure → Type 0) where
   -- r is a permitted set with the rank of its figure
   pub record Reached (r : Mark) : Type 0 where
@@ -26,7 +26,7 @@ module _ (s : Side) (P : ℕ → Type 0) (Shown : ℕ → Figure → Type 0) whe
     pub ranks : Ranks s (Shown t) rank
     pub weighs : weightOf r ≤ weight rank t
 
-  -- r is the best of b and of the permitted sets of F
+  -- r is the worst of b and of the permitted sets of F
   pub record Extends (F : ℕ → Type 0) (b r : Mark) : Type 0 where
     pub from : (r ≡ b) ⊎ Reached r
     pub kept : weightOf r ≤ weightOf b
@@ -43,9 +43,9 @@ module _ (s : Side) (P : ℕ → Type 0) (Shown : ℕ → Figure → Type 0) whe
     pub offer : {r : Mark} → P u → Offered s (Shown u) c u r → Extends H b r
     offer {r} h w =
         record {
-          from = ⊎-elim (λ e. ⊎-elim (λ d. inl (e ∙ d)) (λ k. inr (subst Reached (sym e) k)) (so-far .from)) (λ e. inr (here e)) (w .better .from);
-          kept = le-trans (w .better .kept) (so-far .kept);
-          first = λ t f k. ⊎-elim (λ x. later (w .better .kept) (so-far .first t x k)) (λ e. subst (Before r) (sym e) own) (split t f);
+          from = ⊎-elim (λ e. ⊎-elim (λ d. inl (e ∙ d)) (λ k. inr (subst Reached (sym e) k)) (so-far .from)) (λ e. inr (here e)) (w .worse .from);
+          kept = le-trans (w .worse .kept) (so-far .kept);
+          first = λ t f k. ⊎-elim (λ x. later (w .worse .kept) (so-far .first t x k)) (λ e. subst (Before r) (sym e) own) (split t f);
         }
       where
         here : (r .rank ≡ w .rank) × (r .set ≡ u) → Reached r
@@ -56,7 +56,7 @@ module _ (s : Side) (P : ℕ → Type 0) (Shown : ℕ → Figure → Type 0) whe
             }
 
         own : Before r u
-        own = record { rank = w .rank; ranks = w .ranks; weighs = w .better .first }
+        own = record { rank = w .rank; ranks = w .ranks; weighs = w .worse .first }
 
     -- or a set more that is not permitted
     pub skip : (P u → ⊥) → Extends H b c

@@ -4,7 +4,6 @@
 // its own: its bytes with zeros behind them, so that one content gives one name, and two contents two.
 ghost use mathlib.Core.Path.{_≡_};
 ghost use mathlib.Core.Bool.{false};
-ghost use Prim.Native.Nat.{_+_, _<_};
 ghost use Rattle.decides.specs.Decides.{Decides};
 ghost use Rattle.names.specs.Names.{Letter, ContentNamed, NameAt, no-name};
 

@@ -13,6 +13,7 @@ use Rattle.sets.specs.declared.Combination.the-variants.{I, II, III, IV}
 use Rattle.sets.specs.declared.Load.{Load}
 use Rattle.sets.specs.declared.Loads.{Loads}
 use Rattle.sets.specs.Sets.{bit, row, Has, Mixed, Permitted, RowFits, Opens, Together, Admits}
+use Rattle.sets.proofs.Opening.{opens-erected}
 use Rattle.sets.specs.Totals.{sum, counted}
 use Rattle.sets.specs.Sums.{isWind, isQuake, sumsOf}
 use Rattle.sets.proofs.Adding.{winds-is, quakes-is}
@@ -147,7 +148,7 @@ module _ (width : ℕ) (loads : Loads) (set : ℕ) where
     Fit = (set < 2 ^ loads .count) × ((i : ℕ) → i < loads .count → RowFits combination (row loads i) (bit set i))
 
     pub permits : Fit → Opens combination loads → Admits combination ((sumsOf width loads set) .winds) ((sumsOf width loads set) .quakes) set → Permitted combination loads set
-    unfolding Fit Opens
+    unfolding Fit
     permits f o a =
         record {
           some = a .some;
@@ -155,7 +156,7 @@ module _ (width : ℕ) (loads : Loads) (set : ℕ) where
           permanent = λ i h. f .1 i h .permanent;
           acting = λ i h. f .1 i h .acting;
           mixed = mixed-of combination (a .together);
-          erection = o;
+          erection = opens-erected loads combination o;
         }
 
     pub admitted : Permitted combination loads set → Admits combination ((sumsOf width loads set) .winds) ((sumsOf width loads set) .quakes) set

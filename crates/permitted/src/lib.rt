@@ -1,7 +1,7 @@
 // Whether a combination permits a set of a job's load rows (document 01, Load sets; 002, 5.13).
 //
-// The decision for any one set, whatever its number. The search for the worst set does not go through every set, but through the
-// choices of the free rows, and needs only `permits` at each.
+// The decision for any one set, whatever its number: for whoever asks of a set, as a reviewer does. The search for the worst set goes
+// through the choices of the free rows and does not ask it. What is hard is that a set may name rows that the job has not.
 use sets::Combination;
 use sets::Loads;
 ghost use Prim.Native.Nat.{ℕ, _^_, _<_, _≤_};
@@ -38,7 +38,7 @@ pub fn permitted(combination: Combination, loads: Loads, set: u64) -> bool
     if !rows_fit(combination, loads, set) {
         return false;
     }
-    if !erection::opens(combination, loads) {
+    if !openings::opens(combination, loads) {
         return false;
     }
     let sums = set_sums::sums_of(0, loads, set);

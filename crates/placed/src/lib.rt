@@ -1,7 +1,7 @@
 // The job at a place of a book, the first place being 1 (document 01, "Refusals of a book", refusal 10).
 //
-// A book is refused, 1 to 6, before a place of it is: only a book that is given has jobs to count. What is hard is that the jobs
-// come by value in 64 places, of which the book's jobs fill the first: a place up to their number holds the job there.
+// What is hard is that the jobs come by value in 64 places, of which the book's jobs fill the first: a place up to their number holds
+// the job there, and a place past it is none, whatever stands there.
 use found::Found;
 use jobs::Job;
 ghost use mathlib.Core.Path.{_≡_};

@@ -1,4 +1,4 @@
-// Where the cells of a row of an RFC 4180 text stand: the row that starts at a place.
+// Where the cells of a row of an RFC 4180 text stand (document 01, the job book): the row that starts at a place.
 //
 // The text is known to be RFC 4180, so no field is bad. What is hard is that each place is tied to the one reading of
 // the text: the loop keeps the fields passed, and what stands behind them still has the rest of the rows.

@@ -1,8 +1,8 @@
 // Whether a row is in its place in a job (document 01, the job book; refusal 4): from its role, from how far the job has
 // come, and from whether it has the job's key.
 //
-// The promise is exact for every stage and count, and not only for those that a book gives. The stages go by numbers
-// here, so that one test serves the S row and the C row.
+// What is hard is that the promise is exact for every stage and count, and not only for those that a book gives. The stages go by
+// numbers here, so that one test serves the S row and the C row.
 use kinds::Role;
 ghost use mathlib.Core.Path.{_≡_};
 ghost use mathlib.Core.Bool.{true};

@@ -2,14 +2,15 @@
 //
 // What is hard is that PR has two rules, for a base that is pressed whole and for one that is pressed in part, and that every
 // product of either fits in 64 bits.
+use checks::TOP;
 ghost use Prim.Native.Nat.{_^_, _<_, _≤_};
 ghost use Rattle.checks.specs.Order.{highest, Ranks};
 ghost use Rattle.pressure.specs.Pressure.{Presses};
 
-// The rank of "none", and past every number's.
-const TOP: u64 = 18446744073709551615;
+// The mm² of 1 m²: lengths are in mm, and the pressure in kN/m².
+const SQUARE_METRE: u64 = 1_000_000;
 
-// The rank of PR.
+// The rank of PR: "off" first, then the rule of a base pressed whole, then that of one pressed in part.
 pub fn press_rank(width: u64, length: u64, n: u64, m: u64) -> u64
     requires { ⌜ (0 < width) × (width ≤ 30000) × (0 < length) × (length ≤ 60000) ⌝ }
     requires { ⌜ (n ≤ 2 ^ 20) × (m ≤ 2 ^ 40) ⌝ }
@@ -20,7 +21,7 @@ pub fn press_rank(width: u64, length: u64, n: u64, m: u64) -> u64
         return 0;
     }
     if 3 * m <= full {
-        return TOP - rounding::up(1000000 * (full + 3 * m), width * width * length);
+        return TOP - rounding::up(SQUARE_METRE * (full + 3 * m), width * width * length);
     }
-    TOP - rounding::up(4000000 * (n * n), 3 * length * (full - m))
+    TOP - rounding::up(4 * SQUARE_METRE * (n * n), 3 * length * (full - m))
 }

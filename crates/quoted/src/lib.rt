@@ -2,7 +2,7 @@
 //
 // What stands between quotes may hold commas, line breaks and doubled quotes, and ends at the first quote that stands alone. What
 // is hard is to say that no other end is one, and that where none is found there is none.
-ghost use Prim.Native.Nat.{_+_, _≤_, _<_};
+ghost use Prim.Native.Nat.{_≤_};
 ghost use lib.ListN.{length, drop};
 ghost use Rattle.rfc4180.specs.Rfc4180.{Textdata, Inside};
 ghost use Rattle.decides.specs.Decides.{Decides};

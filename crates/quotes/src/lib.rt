@@ -4,7 +4,6 @@
 // whether or not it is a field of RFC 4180. What is hard is what the laws in `proofs/` say: a name, a kind, a number or
 // an empty field has no quote in its content, so the stretch between the quotes is the content, and nothing is ever
 // unescaped.
-ghost use Prim.Native.Nat.{_<_};
 ghost use Rattle.quotes.specs.Content.{Bare};
 
 // A stretch without the quotes around it.

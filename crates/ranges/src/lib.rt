@@ -1,6 +1,6 @@
 // Whether a row's numbers are in their ranges (document 01, refusal 11), which the table of kinds holds.
 //
-// A number that a column leaves empty has no range, and one that is not filled is in none.
+// What is hard is what is not there: a number that a column leaves empty has no range, and one that is not filled is in none.
 use fields::Entry;
 use kinds::Column;
 use kinds::Kind;

@@ -1,13 +1,10 @@
 // The ranks of OP, OM, SL and RK (document 01, Load sets; 002, 6.5.3 note); PR's is in `pressure`.
 //
-// What is hard is that each figure has cases of its own before the division, whose ranks stand at either end; and that a set may be
-// seen to be plainly no worse than the figure so far with no division at all.
+// What is hard is that each figure has cases of its own before the division, and that the ranks of these stand at either end.
+use checks::TOP;
 ghost use Prim.Native.Nat.{_^_, _<_, _≤_};
 ghost use Rattle.checks.specs.Order.{lowest, highest, Ranks};
 ghost use Rattle.ranks.specs.Figures.{Tips, Slides, Leans};
-
-// The rank of "none", and past every number's.
-const TOP: u64 = 18446744073709551615;
 
 // The rank of SL where N is not above 0.
 const NO_WEIGHT: u64 = 0;

@@ -1,6 +1,6 @@
 // The one line of a refused book (document 01, The printed answer: "A refused book prints `,,BOOK,number,row,,`").
 //
-// It is put into a page of 2,048 bytes part by part, and nothing is cut.
+// It is put into a page of 2,048 bytes part by part. What is hard is only that nothing is cut, whatever the row.
 use block::Block;
 ghost use mathlib.Core.Path.{_≡_};
 ghost use Prim.Native.Nat.{_≤_};

@@ -83,14 +83,10 @@ pub fn terms_of(width: u64, load: Load, place: u64) -> Sums
     ensures { λ r. ⌜ r ≡ termsOf width load place ⌝ }
 {
     let class = load.class;
-    let lv = load.v;
-    let lx = load.x;
-    let lh = load.h;
-    let lt = load.twist;
-    let v = signed::parts_of(lv);
-    let x = signed::parts_of(lx);
-    let h = signed::parts_of(lh);
-    let twist = signed::parts_of(lt);
+    let v = signed::parts_of(load.v);
+    let x = signed::parts_of(load.x);
+    let h = signed::parts_of(load.h);
+    let twist = signed::parts_of(load.twist);
     let near = arm_of(width, x.above, x.below);
     let far = arm_of(width, x.below, x.above);
     let m = moment_of(v, x, twist);

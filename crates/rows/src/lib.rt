@@ -116,24 +116,24 @@ fn unformed() -> Formed
 fn row_of(s: &[u8], places: Cells) -> Formed
     ensures { λ r. ⌜ FormedAt (now (s .entry)) places r ⌝ }
 {
-    let m = names::name_at(cells::cell(s, places, 0));
-    let good = m.good;
-    let member = m.name;
+    let member_read = names::name_at(cells::cell(s, places, 0));
+    let good = member_read.good;
+    let member = member_read.name;
     if !good {
         return unformed();
     }
-    let j = names::name_at(cells::cell(s, places, 1));
-    let good = j.good;
-    let job = j.name;
+    let job_read = names::name_at(cells::cell(s, places, 1));
+    let good = job_read.good;
+    let job = job_read.name;
     if !good {
         return unformed();
     }
-    let k = letters::kind_at(cells::cell(s, places, 2));
-    let KindRead::Known(kind) = k else {
+    let kind_read = letters::kind_at(cells::cell(s, places, 2));
+    let KindRead::Known(kind) = kind_read else {
         return unformed();
     };
-    let n = numbers_of(s, places, kind);
-    let NumbersRead::Are(numbers) = n else {
+    let numbers_read = numbers_of(s, places, kind);
+    let NumbersRead::Are(numbers) = numbers_read else {
         return unformed();
     };
     let key = Key { member, job };
@@ -155,9 +155,9 @@ pub fn read_row(s: &[u8], start: usize) -> RowRead
     let next = places.next;
     let count = places.count;
     if count == 10 {
-        let f = row_of(s, places);
-        let good = f.good;
-        let row = f.row;
+        let formed = row_of(s, places);
+        let good = formed.good;
+        let row = formed.row;
         return RowRead { good, row, next };
     }
     let row = keys::blank_row();

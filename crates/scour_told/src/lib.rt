@@ -1,4 +1,4 @@
-// What an S row is told, by its numbers: that of its refusal (document 01, Refusals of a job, 12 and 13), and the depth that
+// What an S row is told, by its numbers: that of its refusal (document 01, Refusals of a job, 11 to 13), and the depth that
 // it needs (The printed answer, SC).
 //
 // What is hard is that one answer serves both, and each must be 0 where there is only the other.

@@ -84,9 +84,16 @@ pub record RowFits (combination : Combination) (load : Load) (held : ℕ) : Type
   pub acting : held ≡ 1 → Acts combination (load .phase)
   pub permanent : load .class ≡ Permanent → Acts combination (load .phase) → held ≡ 1
 
--- IV, only if some row has phase 1
+-- a row of this class and phase opens the combination: any row I, a WL row II, an SF row III, a row of phase 1 IV
+unfoldable pub OpenedBy : Combination → Class → ℕ → Type 0
+OpenedBy I class phase = Unit {0}
+OpenedBy II class phase = class ≡ Wind
+OpenedBy III class phase = class ≡ Earthquake
+OpenedBy IV class phase = phase ≡ 1
+
+-- some row opens the combination
 unfoldable pub Opens : Combination → Loads → Type 0
-Opens combination loads = combination ≡ IV → Erected loads
+Opens combination loads = (i : ℕ) × (i < loads .count) × OpenedBy combination ((row loads i) .class) ((row loads i) .phase)
 
 -- so many wind and earthquake rows may act together, in a set that has a row
 unfoldable pub Together : Combination → ℕ → ℕ → Type 0

@@ -16,6 +16,7 @@ pub enum Class {
     Earthquake,
 }
 
+// The combinations of loads (002, 5.13): I without wind and earthquake, II with wind, III with earthquake, IV during erection.
 pub enum Combination {
     I,
     II,
@@ -86,6 +87,7 @@ pub fn no_load() -> Load
     }
 }
 
+// The sums over no rows, from which every set's sums are built up; their set is 0.
 pub fn no_sums() -> Sums
     ensures { λ r. ⌜ r ≡ noSums ⌝ }
 {
@@ -134,21 +136,11 @@ pub fn add_sums(a: Sums, b: Sums) -> Sums
     requires { ⌜ Room 64 b ⌝ }
     ensures { λ r. ⌜ r ≡ add a b ⌝ }
 {
-    let av = a.v;
-    let bv = b.v;
-    let ah = a.h;
-    let bh = b.h;
-    let am = a.m;
-    let bm = b.m;
-    let ap = a.plus;
-    let bp = b.plus;
-    let an = a.minus;
-    let bn = b.minus;
-    let v = add_parts(av, bv);
-    let h = add_parts(ah, bh);
-    let m = add_parts(am, bm);
-    let plus = add_balance(ap, bp);
-    let minus = add_balance(an, bn);
+    let v = add_parts(a.v, b.v);
+    let h = add_parts(a.h, b.h);
+    let m = add_parts(a.m, b.m);
+    let plus = add_balance(a.plus, b.plus);
+    let minus = add_balance(a.minus, b.minus);
     Sums {
         v,
         h,

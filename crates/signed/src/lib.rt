@@ -21,7 +21,7 @@ pub struct Parts {
 }
 
 // What an amount is above zero.
-pub fn above_zero(a: Amount) -> u64
+fn above_zero(a: Amount) -> u64
     ensures { λ r. ⌜ r ≡ above (worth a) ⌝ }
 {
     if a.minus {
@@ -31,7 +31,7 @@ pub fn above_zero(a: Amount) -> u64
 }
 
 // What an amount is below zero.
-pub fn below_zero(a: Amount) -> u64
+fn below_zero(a: Amount) -> u64
     ensures { λ r. ⌜ r ≡ below (worth a) ⌝ }
 {
     if a.minus {
@@ -86,7 +86,7 @@ pub fn parts_of(a: Amount) -> Parts
     }
 }
 
-// The parts of a product, of factors below a million.
+// The parts of a product, of factors whose parts are at most 1,000,000.
 pub fn product(p: Parts, q: Parts) -> Parts
     requires { ⌜ Small p ⌝ }
     requires { ⌜ Small q ⌝ }

@@ -1,7 +1,7 @@
 // One row of a book (document 01, "The job book" and "Refusals of a book"): read by its form, and taken up by the job
 // before it; or refused with 3, without a form, or with 4, out of place.
 //
-// A row without a form is refused with 3 wherever it stands, so that its place is not looked at.
+// What is hard is only the order: a row without a form is refused with 3 wherever it stands, so that its place is not looked at.
 use jobs::Job;
 use jobs::Took;
 use refusals::Refusal;

@@ -1,4 +1,4 @@
-// One row of the table of a search, read back as sums.
+// One row of the table of a search (document 01, Load sets), read back as sums.
 //
 // What is hard is nothing but that each of the 13 numbers is read from its own place.
 use sets::Balance;

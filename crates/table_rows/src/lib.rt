@@ -1,4 +1,4 @@
-// The rows of a search in one table, 13 numbers each.
+// The rows of a search (document 01, Load sets) in one table: 13 numbers each, and at most 16 rows, so 208.
 //
 // A search adds rows for each set that it weighs, so they lie side by side in an array of numbers. What is hard is only that what
 // is written is what is read back, and that nothing else moves.

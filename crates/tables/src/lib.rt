@@ -1,4 +1,4 @@
-// The sums of a choice of the rows of a search, read from one lent table.
+// The sums of a choice of the rows of a search (document 01, Load sets), read from one lent table.
 //
 // What is hard is that the choice is taken apart bit by bit as the rows are gone through, those from a place on.
 use sets::Sums;

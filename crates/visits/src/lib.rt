@@ -1,8 +1,9 @@
-// The best so far with one set more, where the combination permits it (document 01, Load sets).
+// The worst so far with one set more, where the combination permits it (document 01, Load sets).
 //
-// Its rows may stand in it already: what is left to decide is how many of them are wind and earthquake, and that it has a row.
+// Its rows may stand in it already: what is left to decide is how many of them are wind and earthquake, and that it has a row. What is
+// hard is only this last: in a mark 0 stands for no set yet, so a set without a row may not be weighed.
 use checks::Base;
-use named::Best;
+use named::Worst;
 use sets::Combination;
 use sets::Sums;
 ghost use Prim.Native.Nat.{_<_};
@@ -11,23 +12,23 @@ ghost use Rattle.checks.specs.Sized.{Sized};
 ghost use Rattle.named.specs.Weighs.{Low};
 ghost use Rattle.visits.specs.Visits.{Visits};
 
-// The best so far with one set more: the one place that decides whether its set is permitted.
+// The worst so far with one set more: the one place that decides whether its set is permitted.
 pub fn visit(
     combination: Combination,
-    full: bool,
+    serves: bool,
     rock: bool,
     base: Base,
     sums: Sums,
-    best: Best,
-) -> Best
+    worst: Worst,
+) -> Worst
     requires { ⌜ Sized base ⌝ }
     requires { ⌜ Room 16 sums ⌝ }
     requires { ⌜ sums .set < 65536 ⌝ }
-    requires { ⌜ Low best ⌝ }
-    ensures { λ r. ⌜ Visits combination full rock base sums best r ⌝ }
+    requires { ⌜ Low worst ⌝ }
+    ensures { λ r. ⌜ Visits combination serves rock base sums worst r ⌝ }
 {
     if !permits::admits(combination, sums.winds, sums.quakes, sums.set) {
-        return best;
+        return worst;
     }
-    named::weigh(full, rock, base, sums, best)
+    named::weigh(serves, rock, base, sums, worst)
 }

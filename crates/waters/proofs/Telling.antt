@@ -10,6 +10,7 @@ use Rattle.job_ranges.specs.Rows.{HasScour, HasClearance, RowsRanged}
 use Rattle.job_ranges.proofs.Rows.{crossed-scoured}
 use Rattle.scour.specs.Scour as scour
 use Rattle.river.specs.River as river
+use Rattle.signed.specs.Whole.{signed}
 use Rattle.levels.specs.Told as told
 use Rattle.clearance.specs.Clear as clearing
 use Rattle.river.proofs.River.{says-one}
@@ -81,14 +82,14 @@ module _ (job : Job) (r : RowsRanged job) (line : DepthLine) (p : Passed job) (d
     pub clear-obstructed : clearing.Says (job .clearance) (job .scour .n1) (told.refused 14) → RiverSays job (Refused 14)
     clear-obstructed (clearing.in-range k (clearing.over-obstructed h)) = obstructed p (record { has = has; above = h })
 
-    module _ (minus : Bool) (size needed : ℕ) (says : clearing.Says (job .clearance) (job .scour .n1) (told.given (told.signed minus size) needed)) (plain : minus ≡ true → 0 < size) where
+    module _ (minus : Bool) (size needed : ℕ) (says : clearing.Says (job .clearance) (job .scour .n1) (told.given (signed minus size) needed)) (plain : minus ≡ true → 0 < size) where
       not-obstructed : OverObstructed job → ⊥
       not-obstructed o =
           let e = clearances.says-one (clearing.in-range ranged (clearing.over-obstructed (o .above))) says in
           let z : _≡_ {A = ℕ} 0 1 = cc in
           omega arith
 
-      value-of : {t : told.Told} → clearing.Says (job .clearance) (job .scour .n1) t → t ≡ told.given (told.signed minus size) needed
+      value-of : {t : told.Told} → clearing.Says (job .clearance) (job .scour .n1) t → t ≡ told.given (signed minus size) needed
           → clearing.Cleared (job .clearance .n1 .size) (job .clearance .n2 .size) (job .clearance .n3 .size) (value (job .clearance .n4)) (value (job .clearance .n5)) (job .scour .n1 .size) t
       value-of (clearing.out-of-range h) e = let z : _≡_ {A = ℕ} 0 1 = cc in absurd (omega arith)
       value-of (clearing.in-range k v) e = v

@@ -10,7 +10,8 @@ use Rattle.job_ranges.specs.Rows.{HasScour, HasClearance, RowsRanged}
 use Rattle.scour.specs.Scour as scour
 use Rattle.river.specs.River as river
 use Rattle.clearance.specs.Clear as clearance
-use Rattle.levels.specs.Told.{given, signed, Answers}
+use Rattle.signed.specs.Whole.{signed}
+use Rattle.levels.specs.Told.{given, Answers}
 use Rattle.levels.specs.declared.ClearanceAnswer.{ClearanceAnswer}
 use Rattle.river_marks.specs.Marks.{AtLeast}
 use Rattle.lines.specs.declared.DepthLine.{DepthLine}

@@ -23,7 +23,7 @@ use Rattle.checks.specs.Order.{side}
 use Rattle.service.specs.Service.{Service, HasCheck}
 use Rattle.checks.proofs.Ranking.{ranks-map}
 use Rattle.set_figures.proofs.Showing.{judged-shows, shows-one}
-use Rattle.named.specs.declared.Best.{Best}
+use Rattle.named.specs.declared.Worst.{Worst}
 use Rattle.marks.specs.declared.Mark.{Mark}
 use Rattle.filling.specs.declared.Table.{Table}
 use Rattle.marks.specs.Marks.{Offered}
@@ -45,10 +45,10 @@ setOf combination loads k = pick (stanceAt combination loads) (loads .count) k
 unfoldable pub Passed : Combination → Loads → ℕ → ℕ → Type 0
 Passed combination loads n t = (k : ℕ) × (k < n) × (t ≡ setOf combination loads k)
 
--- the best so far, check by check, after the first n choices
-unfoldable pub So-far : Combination → Base → Loads → Bool → Bool → ℕ → Mark → Best → Type 0
-So-far combination base loads full rock n none best =
-    (check : Check) → Weighed full rock check → Extends (side check) (Permitted combination loads) (Shows check base loads) (Passed combination loads n) none (markOf check best)
+-- the worst so far, check by check, after the first n choices
+unfoldable pub So-far : Combination → Base → Loads → Bool → Bool → ℕ → Mark → Worst → Type 0
+So-far combination base loads serves rock n none worst =
+    (check : Check) → Weighed serves rock check → Extends (side check) (Permitted combination loads) (Shows check base loads) (Passed combination loads n) none (markOf check worst)
 
 module _ (combination : Combination) (base : Base) (loads : Loads) (bounded : Bounded loads) (opens : Opens combination loads) where
   pub set-low : (k : ℕ) → setOf combination loads k < 65536
@@ -83,10 +83,10 @@ module _ (combination : Combination) (base : Base) (loads : Loads) (bounded : Bo
       go (yes h) = inl (w .0, h, w .2)
       go (no h) = let e : w .0 ≡ n = omega (arith, w .1) in inr (w .2 ∙ ap (setOf combination loads) e)
 
-  pub one-choice : (full rock : Bool) (n : ℕ) (none : Mark) {sums : Sums} {b r : Best} → sums ≡ sumsOf (base .width) loads (setOf combination loads n) → Visits combination full rock base sums b r
-      → So-far combination base loads full rock n none b → So-far combination base loads full rock (n + 1) none r
+  pub one-choice : (serves rock : Bool) (n : ℕ) (none : Mark) {sums : Sums} {b r : Worst} → sums ≡ sumsOf (base .width) loads (setOf combination loads n) → Visits combination serves rock base sums b r
+      → So-far combination base loads serves rock n none b → So-far combination base loads serves rock (n + 1) none r
   unfolding So-far
-  one-choice full rock n none {sums} {b} {r} e v so check on = ⊎-elim inside outside (v .came)
+  one-choice serves rock n none {sums} {b} {r} e v so check on = ⊎-elim inside outside (v .came)
     where
       number : sums .set ≡ setOf combination loads n
       number = ap (λ (s : Sums). s .set) e ∙ set-number n
@@ -95,7 +95,7 @@ module _ (combination : Combination) (base : Base) (loads : Loads) (bounded : Bo
       admits = (λ i. Admits combination ((e i) .winds) ((e i) .quakes) (number i))
 
       inside : Admits combination (sums .winds) (sums .quakes) (sums .set)
-          × Weighs full rock base sums b r
+          × Weighs serves rock base sums b r
           → Extends (side check) (Permitted combination loads) (Shows check base loads) (Passed combination loads (n + 1)) none (markOf check r)
       inside w =
           offer (side check) (Permitted combination loads) (Shows check base loads) (setOf combination loads n) (so check on) (passed-more n)
@@ -108,13 +108,13 @@ module _ (combination : Combination) (base : Base) (loads : Loads) (bounded : Bo
               (record {
                 rank = o .rank;
                 ranks = ranks-map (λ f h. judged-shows base loads (setOf combination loads n) check f (subst (λ (s : Sums). Judged check base s f) e h)) (o .ranks);
-                better = o .better;
+                worse = o .worse;
               })
 
       outside : (Admits combination (sums .winds) (sums .quakes) (sums .set) → ⊥) × (r ≡ b)
           → Extends (side check) (Permitted combination loads) (Shows check base loads) (Passed combination loads (n + 1)) none (markOf check r)
       outside w =
-          subst⁻¹ (λ (x : Best). Extends (side check) (Permitted combination loads) (Shows check base loads) (Passed combination loads (n + 1)) none (markOf check x)) (w .1)
+          subst⁻¹ (λ (x : Worst). Extends (side check) (Permitted combination loads) (Shows check base loads) (Passed combination loads (n + 1)) none (markOf check x)) (w .1)
           (skip (side check) (Permitted combination loads) (Shows check base loads) (setOf combination loads n) (so check on) (passed-more n)
           (λ p. w .0 (subst⁻¹ (λ (A : Type 0). A) admits (admitted (base .width) loads (setOf combination loads n) combination p))))
 
@@ -125,28 +125,28 @@ module _ (combination : Combination) (base : Base) (loads : Loads) (bounded : Bo
       let m = made (stanceAt combination loads) t (loads .count) (p .within) (λ i h. (held-never combination loads t i p h, held-always combination loads t i p h)) in
       (m .0, m .1, sym (m .2))
 
-  pub all-found : (full rock : Bool) (n : ℕ) (none : Mark) (best : Best) → n ≡ 2 ^ free (stanceAt combination loads) (loads .count) → none .set ≡ 0 → none .rank ≡ 2 ^ 64 - 1
-      → Decides full (Service combination) → rock ≡ base .rock → So-far combination base loads full rock n none best → Walked combination base loads best
+  pub all-found : (serves rock : Bool) (n : ℕ) (none : Mark) (worst : Worst) → n ≡ 2 ^ free (stanceAt combination loads) (loads .count) → none .set ≡ 0 → none .rank ≡ 2 ^ 64 - 1
+      → Decides serves (Service combination) → rock ≡ base .rock → So-far combination base loads serves rock n none worst → Walked combination base loads worst
   unfolding Walked So-far Weighed HasCheck
-  all-found full rock n none best e z l d o so check has =
+  all-found serves rock n none worst e z l d o so check has =
       record {
         named = λ found v sound ranked. ends-named _ _ _ over every some rows one z l v sound ranked found;
         none = λ empty. ends-empty _ _ _ over every some rows one z l empty;
       }
     where
-      serving : (full : Bool) → Decides full (Service combination) → Service combination → full ≡ true
+      serving : (serves : Bool) → Decides serves (Service combination) → Service combination → serves ≡ true
       serving true d s = refl
       serving false d s = absurd (d s)
 
-      weighed : (check : Check) → HasCheck combination check base → Weighed full rock check
-      weighed OP h = serving full d h
-      weighed OM h = serving full d h
-      weighed SL h = serving full d h
+      weighed : (check : Check) → HasCheck combination check base → Weighed serves rock check
+      weighed OP h = serving serves d h
+      weighed OM h = serving serves d h
+      weighed SL h = serving serves d h
       weighed PR h = tt
       weighed RK h = o ∙ h
 
-      over : Extends (side check) (Permitted combination loads) (Shows check base loads) (Passed combination loads (2 ^ free (stanceAt combination loads) (loads .count))) none (markOf check best)
-      over = subst (λ (m : ℕ). Extends (side check) (Permitted combination loads) (Shows check base loads) (Passed combination loads m) none (markOf check best)) e (so check (weighed check has))
+      over : Extends (side check) (Permitted combination loads) (Shows check base loads) (Passed combination loads (2 ^ free (stanceAt combination loads) (loads .count))) none (markOf check worst)
+      over = subst (λ (m : ℕ). Extends (side check) (Permitted combination loads) (Shows check base loads) (Passed combination loads m) none (markOf check worst)) e (so check (weighed check has))
 
       some : (t : ℕ) → Permitted combination loads t → 0 < t
       some t p = p .some
@@ -157,8 +157,8 @@ module _ (combination : Combination) (base : Base) (loads : Loads) (bounded : Bo
       one : (t : ℕ) (v w : Figure) → Shows check base loads t v → Shows check base loads t w → v ≡ w
       one t v w p q = shows-one check base loads t v w p q
 
-  pub nothing-passed : (full rock : Bool) (none : Mark) (best : Best) → ((check : Check) → markOf check best ≡ none) → So-far combination base loads full rock 0 none best
+  pub nothing-passed : (serves rock : Bool) (none : Mark) (worst : Worst) → ((check : Check) → markOf check worst ≡ none) → So-far combination base loads serves rock 0 none worst
   unfolding So-far Passed
-  nothing-passed full rock none best e check on =
+  nothing-passed serves rock none worst e check on =
       subst⁻¹ (Extends (side check) (Permitted combination loads) (Shows check base loads) (Passed combination loads 0) none) (e check)
       (nothing-yet (side check) (Permitted combination loads) (Shows check base loads) (λ t w. omega (arith, w .1)))

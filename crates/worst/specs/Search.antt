@@ -11,7 +11,7 @@ use Rattle.set_figures.specs.Figures.{Shows}
 use Rattle.checks.specs.Order.{side, rank, Sound}
 use Rattle.service.specs.Service.{HasCheck}
 use Rattle.marks.specs.declared.Mark.{Mark}
-use Rattle.named.specs.declared.Best.{Best}
+use Rattle.named.specs.declared.Worst.{Worst}
 use Rattle.named.specs.Named.{Named}
 use Rattle.named.specs.Weighs.{markOf}
 
@@ -21,5 +21,5 @@ pub record Found (combination : Combination) (check : Check) (base : Base) (load
       → Named (side check) (Permitted combination loads) (Shows check base loads) v (m .set)
   pub none : m .set ≡ 0 → (t : ℕ) → Permitted combination loads t → ⊥
 
-unfoldable pub Walked : Combination → Base → Loads → Best → Type 0
-Walked combination base loads best = (check : Check) → HasCheck combination check base → Found combination check base loads (markOf check best)
+unfoldable pub Walked : Combination → Base → Loads → Worst → Type 0
+Walked combination base loads worst = (check : Check) → HasCheck combination check base → Found combination check base loads (markOf check worst)

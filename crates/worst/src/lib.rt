@@ -5,10 +5,11 @@
 // before the one that is named.
 use checks::Base;
 use checks::Check;
+use checks::TOP;
 use lines::Line;
 use lines::Lines;
 use marks::Mark;
-use named::Best;
+use named::Worst;
 use sets::Combination;
 use sets::Loads;
 ghost use Prim.Native.Nat.{_≤_};
@@ -18,24 +19,22 @@ ghost use Rattle.service.specs.Service.{HasCheck};
 ghost use Rattle.worst.specs.Lines.{Says, line};
 ghost use Rattle.worst.specs.Search.{Found, Walked};
 
-const TOP: u64 = 18446744073709551615;
-
-// The best of all choices: every permitted set of the combination is one of them. The first rows, a quarter of them, change most
+// The worst of all choices: every permitted set of the combination is one of them. The first rows, a quarter of them, change most
 // often, so the sums of the others are added once for all choices that differ in the first alone.
-fn walk(combination: Combination, base: Base, loads: Loads) -> Best
+fn walk(combination: Combination, base: Base, loads: Loads) -> Worst
     requires { ⌜ Sized base ⌝ }
     requires { ⌜ Bounded loads ⌝ }
     requires { ⌜ Opens combination loads ⌝ }
     ensures { λ r. ⌜ Walked combination base loads r ⌝ }
 {
-    let full = service::serves(combination);
+    let serves = service::serves(combination);
     let rock = base.rock;
     let table = filling::fill(combination, base.width, loads);
     let terms = table.terms;
     let free = table.free;
     let fixed = table.fixed;
     let none = Mark { rank: TOP, set: 0 };
-    let mut best = Best {
+    let mut worst = Worst {
         op: none,
         om: none,
         sl: none,
@@ -53,11 +52,11 @@ fn walk(combination: Combination, base: Base, loads: Loads) -> Best
             upper = part;
         }
         let sums = tables::sums_at(&terms, 0, low, k % step, upper);
-        let next = visits::visit(combination, full, rock, base, sums, best);
-        best = next;
+        let next = visits::visit(combination, serves, rock, base, sums, worst);
+        worst = next;
         k = k + 1;
     }
-    best
+    worst
 }
 
 // The line of a check from what the walk found.
@@ -90,21 +89,15 @@ pub fn worst_lines(combination: Combination, base: Base, loads: Loads) -> Lines
     requires { ⌜ Bounded loads ⌝ }
     ensures { λ r. ⌜ ((check : Check) → Says combination check base loads (line check r)) ⌝ }
 {
-    if !erection::opens(combination, loads) {
-        return Lines {
-            op: Line::Missing,
-            om: Line::Missing,
-            sl: Line::Missing,
-            pr: Line::Missing,
-            rk: Line::Missing,
-        };
+    if !openings::opens(combination, loads) {
+        return lines::no_lines();
     }
-    let best = walk(combination, base, loads);
-    let op = best.op;
-    let om = best.om;
-    let sl = best.sl;
-    let pr = best.pr;
-    let rk = best.rk;
+    let worst = walk(combination, base, loads);
+    let op = worst.op;
+    let om = worst.om;
+    let sl = worst.sl;
+    let pr = worst.pr;
+    let rk = worst.rk;
     Lines {
         op: line_at(combination, Check::OP, base, loads, op),
         om: line_at(combination, Check::OM, base, loads, om),

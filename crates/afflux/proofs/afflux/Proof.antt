@@ -7,8 +7,8 @@ use Rattle.rounding.proofs.Powers.{square}
 use Rattle.afflux.proofs.afflux.Statement.{statement}
 use Rattle.afflux.proofs.afflux.Tie as tie
 
-clear : (c : tie.Start) → c .args .area * c .args .area ≤ 100000 * 100000
-clear c = mul-le-mul (c .pre .1) (c .pre .1)
+whole : (c : tie.Start) → c .args .area * c .args .area ≤ 100000 * 100000
+whole c = mul-le-mul (c .pre .1) (c .pre .1)
 
 less : (c : tie.Start) → c .args .obstructed * c .args .obstructed ≤ c .args .area * c .args .area
 less c = mul-le-mul (c .pre .3) (c .pre .3)
@@ -16,43 +16,43 @@ less c = mul-le-mul (c .pre .3) (c .pre .3)
 quick : (c : tie.Start) → c .args .velocity * c .args .velocity ≤ 10000 * 10000
 quick c = mul-le-mul (c .pre .0) (c .pre .0)
 
-mul-clear : tie.Need-mul-clear
-mul-clear c = omega (arith, clear c)
+mul-whole-squared : tie.Need-mul-whole-squared
+mul-whole-squared c = omega (arith, whole c)
 
-mul-taken : tie.Need-mul-taken
-mul-taken c = omega (arith, clear c, less c)
+mul-left-squared : tie.Need-mul-left-squared
+mul-left-squared c = omega (arith, whole c, less c)
 
-mul-over-taken : tie.Need-mul-over-taken
-mul-over-taken c = omega (arith, quick c)
+mul-over-left : tie.Need-mul-over-left
+mul-over-left c = omega (arith, quick c)
 
-mul-over-taken-2 : tie.Need-mul-over-taken-2
-mul-over-taken-2 c = omega (arith, quick c)
+mul-over-left-2 : tie.Need-mul-over-left-2
+mul-over-left-2 c = omega (arith, quick c)
 
-add-over-taken : tie.Need-add-over-taken
-add-over-taken c = omega (arith, quick c)
+add-over-left : tie.Need-add-over-left
+add-over-left c = omega (arith, quick c)
 
-sub-over-taken : tie.Need-sub-over-taken
-sub-over-taken c = less c
+sub-over-left : tie.Need-sub-over-left
+sub-over-left c = less c
 
-mul-over-taken-3 : tie.Need-mul-over-taken-3
-mul-over-taken-3 c = record { fits = lt-of-le-of-lt (mul-le-mul {n₂ = 1002724912} (omega (arith, quick c)) (le-trans (sub-le _ _) (clear c))) (lit< tt) }
+mul-over-left-3 : tie.Need-mul-over-left-3
+mul-over-left-3 c = record { fits = lt-of-le-of-lt (mul-le-mul {n₂ = 1002724912} (omega (arith, quick c)) (le-trans (sub-le _ _) (whole c))) (lit< tt) }
 
-over-taken-requires : tie.Need-over-taken-requires
-over-taken-requires c κs = (one-le-mul (c .pre .2) (c .pre .2), le-trans (less c) (clear c))
+over-left-requires : tie.Need-over-left-requires
+over-left-requires c κs = (one-le-mul (c .pre .2) (c .pre .2), le-trans (less c) (whole c))
 
 returns : tie.Need-returns
-returns c = simp square (c .over-taken .ensures)
+returns c = simp square (c .over-left .ensures)
 
 pub afflux-spec : {M : Type 1} → statement M
 afflux-spec =
     tie.close
     (tie.spec
-    mul-clear
-    mul-taken
-    mul-over-taken
-    mul-over-taken-2
-    add-over-taken
-    sub-over-taken
-    mul-over-taken-3
-    over-taken-requires
+    mul-whole-squared
+    mul-left-squared
+    mul-over-left
+    mul-over-left-2
+    add-over-left
+    sub-over-left
+    mul-over-left-3
+    over-left-requires
     returns)

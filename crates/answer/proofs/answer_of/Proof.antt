@@ -1,3 +1,5 @@
+-- Refusal 11 of the B, S and C rows comes first, and `told-first` orders the rest. Where it leaves the river's lines the loads are given,
+-- and their bounds and the base's are what `whole` asks.
 use mathlib.Core.Path.{sym, subst, _∙_}
 use borrow.Author.Tests.{not-true, not-false}
 use Rattle.decides.specs.Decides.{decided, refuted}

@@ -1,3 +1,4 @@
+-- Each answer of the load rows is a line of `told-first`; where they tell 15 or 16, `first_of` says whether the river's refusal comes before it.
 use Prim.Native.Nat.{ℕ}
 use mathlib.Core.Path.{sym, ap, _∙_}
 use Rattle.loads.specs.declared.Answer as loads

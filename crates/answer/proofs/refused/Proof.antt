@@ -1,3 +1,4 @@
+-- A refused answer is its number and nothing else: all four combinations hold what `missing` gives, and that is no line.
 use mathlib.Core.Path.{ap}
 use Rattle.lines.specs.declared.Lines.{Lines}
 use Rattle.lines.specs.declared.Verdict.the-variants.{Refused}
@@ -7,11 +8,11 @@ use borrow.Author.Needs.{needs}
 use Rattle.answer.proofs.refused.Statement.{statement}
 use Rattle.answer.proofs.refused.Tie as tie
 
-missing-requires : tie.Need-missing-requires
-missing-requires c κs = search needs
+no-lines-requires : tie.Need-no-lines-requires
+no-lines-requires c κs = search needs
 
 returns : tie.Need-returns
-returns c = ap (λ (l : Lines). record { verdict = Refused (c .before .args .number); one = l; two = l; three = l; four = l; depth = depth.Missing; clear = clear.Missing }) (c .missing .ensures)
+returns c = ap (λ (l : Lines). record { verdict = Refused (c .before .args .number); one = l; two = l; three = l; four = l; depth = depth.Missing; clear = clear.Missing }) (c .no-lines .ensures)
 
 pub refused-spec : {M : Type 1} → statement M
-refused-spec = tie.close (tie.spec missing-requires returns)
+refused-spec = tie.close (tie.spec no-lines-requires returns)

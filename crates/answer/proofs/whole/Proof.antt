@@ -1,3 +1,4 @@
+-- `judged` hands the lines on as they came, so what `worst_lines` says of each combination holds of the lines in the answer.
 use mathlib.Core.Path.{sym, subst}
 use Rattle.sets.specs.declared.Combination.the-variants.{I, II, III, IV}
 use Rattle.lines.specs.declared.Lines.{Lines}

@@ -1,3 +1,4 @@
+-- An E row is told one thing, so where it is told 11 or a push Table 2 is not blank there; a row of any other source asks nothing.
 use borrow.Author.Needs.{needs}
 use native.Mathlib.Omega.{arith}
 use mathlib.Core.Path.{_≡_, sym, _∙_, subst}

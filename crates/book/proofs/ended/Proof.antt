@@ -1,3 +1,4 @@
+-- A load row is missing exactly where the last job's count of them is 0. One past the last row fits, that row being at most 65,537.
 use mathlib.Core.Path.{refl}
 use Rattle.book.specs.Says.{missing, whole}
 use borrow.Author.Needs.{needs}

@@ -1,3 +1,4 @@
+-- All 64 places hold the key of the blank row, as `blank_row` gives it.
 use mathlib.Core.Path.{ap}
 use lib.ListN.{replicate}
 use Rattle.keys.specs.declared.Keyed.{Keyed}

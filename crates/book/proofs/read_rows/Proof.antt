@@ -1,3 +1,5 @@
+-- The loop keeps `Walk`: the rows passed are rows that a job book may begin with, and the jobs and keys held are theirs.
+-- Each way out is one thing that the bytes say, and each next row starts further on, so the loop ends.
 use Prim.Native.Nat.{ℕ, _-_, _≤_, _<_}
 use native.Mathlib.Omega.{arith}
 use mathlib.Core.Path.{_≡_, refl, ap, subst}
@@ -63,7 +65,7 @@ loop-holds c =
     walk-start (start .pre .0) (start .pre .1) (record { many = refl; keys = c .no-keys .ensures; jobs = ap (λ (j : Job). replicate 64 j) e; job = e })
 
 step-at-requires : tie.Need-step-at-requires Inv-loop μ-loop
-step-at-requires c κs = (c .loop .inv .within, record { rows = _; reading = c .loop .inv .here })
+step-at-requires c κs = (c .loop .inv .reached .within, record { rows = _; reading = c .loop .inv .reached .here })
 
 enum-known-way : tie.Need-enum-known-way Inv-loop μ-loop
 enum-known-way c = search needs
@@ -135,8 +137,8 @@ module _ (c : tie.After-row-known Inv-loop μ-loop) where
   counted : c .before .before .before .before .loop .row ≤ 65537
   counted =
       let w = c .before .before .before .before .loop .inv in
-      let few = w .few in
-      let within = w .within in
+      let few = w .reached .few in
+      let within = w .reached .within in
       let size = w .size in
       omega arith
 

@@ -1,3 +1,4 @@
+-- A refused book yields no job: each of the 64 places holds the blank one.
 use mathlib.Core.Path.{refl, ap}
 use lib.ListN.{replicate}
 use Rattle.jobs.specs.declared.Job.{Job}

@@ -1,3 +1,4 @@
+-- The loop's own test shows that the byte read is there, and one fewer is left each time.
 use Prim.Native.Nat.{_-_}
 use lib.ListN.{length}
 use borrow.Author.Needs.{needs}

@@ -1,3 +1,4 @@
+-- The three tests are what `Stands` asks: where all hold, the stretch is the cell's, and where one fails the cell has no place and nothing is due.
 use mathlib.Core.Path.{refl}
 use native.Mathlib.Omega.{arith}
 use borrow.Author.Needs.{needs}

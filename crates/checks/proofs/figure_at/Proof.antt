@@ -1,3 +1,4 @@
+-- The check tells the side of the order, and the figure is that side's: OP, OM and SL have the lowest for the worst, PR and RK the highest.
 use borrow.Author.Needs.{needs}
 use mathlib.Core.Path.{_≡_, subst⁻¹}
 use Rattle.checks.specs.declared.Check.{Check}

@@ -1,3 +1,4 @@
+-- Rank 0 is "off"; any other is what a number below the top leaves of it, and the two subtractions undo each other.
 use borrow.Author.Needs.{needs}
 use native.Mathlib.Omega.{arith}
 use mathlib.Core.Path.{sym}

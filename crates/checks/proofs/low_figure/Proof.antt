@@ -1,3 +1,4 @@
+-- The top rank is "none"; any other is a number below it, and its own rank.
 use native.Mathlib.Omega.{arith}
 use mathlib.Core.Path.{sym, refl}
 use Rattle.checks.specs.Order.{Sound, rank}

@@ -1,3 +1,4 @@
+-- A permanent or free row is the same to every combination; for WL and SF the combination is looked at too, as in the lines of `byClass`.
 use borrow.Author.Needs.{needs}
 use mathlib.Core.Path.{sym, ap, ap₂}
 use Rattle.choices.specs.Stance.{byClass}

@@ -1,3 +1,4 @@
+-- The phase decides first: a row that does not act is in no set, and one that acts is what its class makes it.
 use borrow.Author.Needs.{needs}
 use mathlib.Core.Path.{sym, _∙_}
 use borrow.Author.Tests.{not-true, not-false}

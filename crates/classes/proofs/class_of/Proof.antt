@@ -1,3 +1,4 @@
+-- The six kinds of the first arm are all permanent and the seven of the second all free, whichever of them it is; WL and SF have their own arms.
 use borrow.Author.Needs.{needs}
 use mathlib.Core.Path.{refl}
 use mathlib.Core.List.{[], _∷_}

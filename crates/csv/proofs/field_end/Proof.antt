@@ -1,3 +1,5 @@
+-- A quoted field ends behind the quote that closes it, a plain one with the longest plain stretch; no field there has another end,
+-- so what follows that end decides. A quote that nothing closes begins no field.
 use Prim.Native.Nat.{_+_, _<_}
 use mathlib.Core.Path.{subst}
 use native.Mathlib.Omega.{arith}
@@ -25,26 +27,26 @@ closing-requires c κs =
     let h : at < length s = begins-lt s at DQUOTE (bq .behind) (bq .begins) in
     omega arith
 
-enum-known-f : tie.Need-enum-known-f
-enum-known-f c = search needs
+enum-known-found : tie.Need-enum-known-found
+enum-known-found c = search needs
 
 add-stop-at : tie.Need-add-stop-at
 add-stop-at c =
-    let at-f = c .before in
-    let at-closing = at-f .before .before in
+    let at-found = c .before in
+    let at-closing = at-found .before .before in
     let s = at-closing .before .before .before .before .args .s .now in
     let at = at-closing .before .before .before .before .args .at in
-    let p = subst (ClosedAt s (at + 1)) (at-f .f .given .1) (at-closing .closing .ensures) in
+    let p = subst (ClosedAt s (at + 1)) (at-found .found .given .1) (at-closing .closing .ensures) in
     let h = p .within in
     search needs
 
 stop-at-requires : tie.Need-stop-at-requires
 stop-at-requires c κs =
-    let at-f = c .before in
-    let at-closing = at-f .before .before in
+    let at-found = c .before in
+    let at-closing = at-found .before .before in
     let s = at-closing .before .before .before .before .args .s .now in
     let at = at-closing .before .before .before .before .args .at in
-    let p = subst (ClosedAt s (at + 1)) (at-f .f .given .1) (at-closing .closing .ensures) in
+    let p = subst (ClosedAt s (at + 1)) (at-found .found .given .1) (at-closing .closing .ensures) in
     let h = p .within in
     search needs
 
@@ -60,14 +62,14 @@ stop-at-requires-2 c κs = search needs
 returns : tie.Need-returns
 returns c =
     let at-told = c .before in
-    let at-f = at-told .before in
-    let at-closing = at-f .before .before in
+    let at-found = at-told .before in
+    let at-closing = at-found .before .before in
     let at-if = at-closing .before in
     let s = at-if .before .before .before .args .s .now in
     let at = at-if .before .before .before .args .at in
     let bq = decided (at-if .before .byte-is .result) (at-if .if1 .taken) (at-if .before .byte-is .ensures) in
-    let i = at-f .f .given .0 .0 in
-    let p = subst (ClosedAt s (at + 1)) (at-f .f .given .1) (at-closing .closing .ensures) in
+    let i = at-found .found .given .0 .0 in
+    let p = subst (ClosedAt s (at + 1)) (at-found .found .given .1) (at-closing .closing .ensures) in
     field-ends s at (i + 1) (c .stop-at .result) (quoted-field s at bq i p) (quoted-follows s at bq i p) (c .stop-at .ensures)
 
 returns-2 : tie.Need-returns-2
@@ -96,7 +98,7 @@ field-end-spec =
     byte-is-requires
     add-closing
     closing-requires
-    enum-known-f
+    enum-known-found
     add-stop-at
     stop-at-requires
     enum-told

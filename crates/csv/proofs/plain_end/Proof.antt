@@ -1,3 +1,4 @@
+-- The bytes passed are all TEXTDATA. The loop stops at the first that is not, or at the text's end, so no longer stretch is plain.
 use Prim.Native.Nat.{_≤_, _-_}
 use mathlib.Core.Path.{sym, subst}
 use Rattle.csv.proofs.Scan.{plain-more}

@@ -1,3 +1,4 @@
+-- Behind a field stands nothing, a comma, or CR with LF behind it. Where the bytes at e are none of these, no field can end there.
 use mathlib.Core.Path.{refl}
 use mathlib.Core.List.{_∷_}
 use Rattle.rfc4180.specs.Rfc4180.{CR, LF}

@@ -1,3 +1,5 @@
+-- A refused book and a missing place leave the buffer as it was. Of a job that is found the block holds the lines whole,
+-- so what writing the block does, 7 or the bytes, is what the call does with the lines.
 use mathlib.Core.Path.{refl}
 use Rattle.placed.proofs.Finding.{refused-book, refused-place, found-job}
 use Rattle.debtarush.specs.Called.{no-book, no-place}

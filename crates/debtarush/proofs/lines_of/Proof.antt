@@ -1,3 +1,4 @@
+-- The bytes are the text of the job's own answer, and they fit the block whole, since its sets are numbered below 65,536.
 use mathlib.Core.Path.{refl}
 use Rattle.debtarush.proofs.Fitting.{numbered}
 use borrow.Author.Needs.{needs}

@@ -1,3 +1,5 @@
+-- The loop keeps that the bytes passed are a numeral of this worth, with no leading zero. At most eight stand before the next digit,
+-- so the worth is below 10⁸ and ten times as much still fits; a byte that is no digit leaves no numeral at all.
 use Prim.Native.Nat.{ℕ, _≤_, _<_, _-_}
 use mathlib.Core.Path.{_≡_, subst}
 use native.Mathlib.Omega.{arith}
@@ -15,6 +17,13 @@ Inv-loop content n first worth₀ i₀ worth i = (n ≤ 9) × (1 ≤ i) × (i �
 
 abbrev μ-loop : tie.MeasureT-loop
 μ-loop content n first worth₀ i₀ worth i = n - i
+
+-- what the digits passed are worth, where one more is read
+low : (c : tie.Else8 Inv-loop μ-loop) → c .before .before .before .before .loop .worth < 100000000
+low c =
+    let at-loop = c .before .before .before .before in
+    let inv = at-loop .loop .inv in
+    room (c .before .before .before .before .before .before .before .before .before .before .before .args .content .now) (at-loop .loop .i) (at-loop .loop .worth) (c .before .before .before .loop-test .taken) (inv .0) (inv .4)
 
 returns : tie.Need-returns Inv-loop μ-loop
 returns c = λ n d. let h = numeral-some (d .numeral) in omega arith
@@ -62,21 +71,13 @@ returns-8 : tie.Need-returns-8 Inv-loop μ-loop
 returns-8 c = λ n d. let h = numeral-digit (d .numeral) (c .before .before .before .before .loop .i) (c .before .before .before .loop-test .taken) in omega arith
 
 mul-worth : tie.Need-mul-worth Inv-loop μ-loop
-mul-worth c =
-    let at-loop = c .before .before .before .before in
-    let inv = at-loop .loop .inv in
-    let r = room (c .before .before .before .before .before .before .before .before .before .before .before .args .content .now) (at-loop .loop .i) (at-loop .loop .worth) (c .before .before .before .loop-test .taken) (inv .0) (inv .4) in
-    search needs
+mul-worth c = let r = low c in search needs
 
 cast-worth-2 : tie.Need-cast-worth-2 Inv-loop μ-loop
 cast-worth-2 c = search needs
 
 add-worth : tie.Need-add-worth Inv-loop μ-loop
-add-worth c =
-    let at-loop = c .before .before .before .before in
-    let inv = at-loop .loop .inv in
-    let r = room (c .before .before .before .before .before .before .before .before .before .before .before .args .content .now) (at-loop .loop .i) (at-loop .loop .worth) (c .before .before .before .loop-test .taken) (inv .0) (inv .4) in
-    search needs
+add-worth c = let r = low c in search needs
 
 add-i : tie.Need-add-i Inv-loop μ-loop
 add-i c = search needs
@@ -86,9 +87,8 @@ loop-less c = search needs
 
 loop-again : tie.Need-loop-again Inv-loop μ-loop
 loop-again c =
-    let at-loop = c .before .before .before .before in
-    let inv = at-loop .loop .inv in
-    let r = room (c .before .before .before .before .before .before .before .before .before .before .before .args .content .now) (at-loop .loop .i) (at-loop .loop .worth) (c .before .before .before .loop-test .taken) (inv .0) (inv .4) in
+    let inv = c .before .before .before .before .loop .inv in
+    let r = low c in
     let k = c .before .before .before .loop-test .taken in
     (search needs, search needs, search needs, omega arith, numeral-more _ _ _ k (inv .3) (c .before .if7 .left) (c .if8 .left) (inv .4))
 

@@ -1,3 +1,4 @@
+-- A field is left empty exactly if the stretch without its quotes has no byte: an empty content needs no unescaping.
 use mathlib.Core.Path.{ap}
 use lib.ListN.{length}
 use Rattle.fields.specs.declared.Entered.the-variants.{Is, Wrong}

@@ -1,3 +1,4 @@
+-- No number has a quote in it, so the number of the stretch without its quotes is that of the field, and where that has none the field has none.
 use Rattle.fields.proofs.Numerals.{number-field}
 use borrow.Author.Needs.{needs}
 use Rattle.fields.proofs.number_at.Statement.{statement}

@@ -1,3 +1,5 @@
+-- A row in no set leaves the table as it is, one in every set adds to the fixed sums alone, and a free one is written behind the free rows
+-- before it, which stay.
 use borrow.Author.Needs.{needs}
 use native.Mathlib.Omega.{arith}
 use mathlib.Core.Path.{_≡_, refl, sym, _∙_, ap}

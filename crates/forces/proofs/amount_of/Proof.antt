@@ -1,3 +1,4 @@
+-- Only zero loses its sign; with any other size the sign and the size are the amount of that number already.
 use Rattle.forces.proofs.Amounts.{amount-zero, amount-some}
 use Rattle.forces.proofs.amount_of.Statement.{statement}
 use Rattle.forces.proofs.amount_of.Tie as tie

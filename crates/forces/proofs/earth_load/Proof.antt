@@ -1,3 +1,4 @@
+-- Earth pushes toward +x alone, so no sign comes in, and there is no V. H·y is at most 300,000 · 5,000 and fits.
 use borrow.Author.Needs.{needs}
 use native.Mathlib.Omega.{arith}
 use mathlib.Core.Path.{refl}

@@ -1,3 +1,4 @@
+-- V, x and H are the row's own numbers. y is not below zero, so H·y has the sign of H, and its size is at most 50,000 · 60,000.
 use borrow.Author.Needs.{needs}
 use native.Mathlib.Omega.{arith}
 use mathlib.Core.Path.{refl, sym, _∙_, ap, ap₂}
@@ -45,9 +46,9 @@ returns c =
       refl,
       refl,
       record {
-        v = c .before .before .before .before .before .before .before .amount-of .ensures ∙ ap (λ (s : ℕ). amount (signed (c .before .before .before .before .before .before .before .before .before .before .before .before .before .args .numbers .n1 .minus) s)) (c .before .before .before .before .before .before .before .before .wide .ensures) ∙ ap amount (value-signed (c .before .before .before .before .before .before .before .before .before .before .before .before .before .args .numbers .n1));
-        x = c .before .before .before .before .before .amount-of2 .ensures ∙ ap (λ (s : ℕ). amount (signed (c .before .before .before .before .before .before .before .before .before .before .before .before .before .args .numbers .n2 .minus) s)) (c .before .before .before .before .before .before .wide2 .ensures) ∙ ap amount (value-signed (c .before .before .before .before .before .before .before .before .before .before .before .before .before .args .numbers .n2));
-        h = c .before .before .before .amount-of3 .ensures ∙ ap (λ (s : ℕ). amount (signed (c .before .before .before .before .before .before .before .before .before .before .before .before .before .args .numbers .n3 .minus) s)) (c .before .before .before .before .wide3 .ensures) ∙ ap amount (value-signed (c .before .before .before .before .before .before .before .before .before .before .before .before .before .args .numbers .n3));
+        v = c .before .before .before .before .before .before .before .amount-of .ensures ∙ ap (λ (s : ℕ). amount (signed (n .n1 .minus) s)) (c .before .before .before .before .before .before .before .before .wide .ensures) ∙ ap amount (value-signed (n .n1));
+        x = c .before .before .before .before .before .amount-of2 .ensures ∙ ap (λ (s : ℕ). amount (signed (n .n2 .minus) s)) (c .before .before .before .before .before .before .wide2 .ensures) ∙ ap amount (value-signed (n .n2));
+        h = c .before .before .before .amount-of3 .ensures ∙ ap (λ (s : ℕ). amount (signed (n .n3 .minus) s)) (c .before .before .before .before .wide3 .ensures) ∙ ap amount (value-signed (n .n3));
         twist = c .amount-of4 .ensures ∙ (λ i. amount (signed (n .n3 .minus) (c .before .before .wide4 .ensures i * c .before .wide5 .ensures i)))
             ∙ ap amount (signed-times (n .n3 .minus) (n .n3 .size) (n .n4 .size) ∙ ap₂ (λ (y z : ℤ). y *ℤ z) (value-signed (n .n3)) (sym (plain-value (n .n4) (c .before .before .before .before .before .before .before .before .before .before .before .before .before .pre .2))));
       },

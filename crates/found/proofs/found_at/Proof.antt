@@ -1,3 +1,4 @@
+-- The four ways through the tests are the four cases of `FoundIs`: a refused book, place 0, a place past the last job, and one within.
 use mathlib.Core.Path.{refl}
 use Rattle.found.specs.FoundAt.{refused, at-none, past, within}
 use borrow.Author.Needs.{needs}

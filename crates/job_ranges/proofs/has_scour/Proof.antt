@@ -1,3 +1,4 @@
+-- Stage by stage: there is no S row before it has come, and there still is one behind a C row.
 use mathlib.Core.Path.{sym, subst}
 use Rattle.placing.specs.declared.Stage.{Stage}
 use Rattle.job_ranges.specs.Rows.{HasScour}

@@ -1,3 +1,4 @@
+-- What a B row does not bring, the river's numbers and the load rows, is taken over from the blank job.
 use Rattle.placing.specs.declared.Stage.the-variants.{Dry}
 use borrow.Author.Needs.{needs}
 use Rattle.jobs.proofs.begun.Statement.{statement}

@@ -1,3 +1,4 @@
+-- The blank row gives all of it: the key, the numbers of three rows and all 16 load rows.
 use lib.ListN.{replicate}
 use Rattle.placing.specs.declared.Stage.the-variants.{Unbegun}
 use borrow.Author.Needs.{needs}

@@ -1,3 +1,4 @@
+-- B, S and C have a role each. The twelve kinds of the last arm are all load rows, so which of them came does not matter.
 use mathlib.Core.Path.{refl}
 use mathlib.Core.List.{[], _∷_}
 use borrow.Author.Needs.{needs}

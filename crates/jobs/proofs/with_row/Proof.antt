@@ -1,3 +1,4 @@
+-- The role says which of the four made the job, and `by-role` carries its promise over; only a load row needs room, and is promised it.
 use mathlib.Core.Path.{_≡_, sym, ap, _∙_}
 use Rattle.kinds.specs.declared.Role.{Role}
 use Rattle.kinds.specs.declared.Role.the-variants.{Base, Scour, Clearance, Load}

@@ -1,3 +1,4 @@
+-- A 65th job is refused before its key is looked at. With fewer jobs `is_used` decides, and every key that it looks at has a place.
 use native.Mathlib.Omega.{arith}
 use mathlib.Core.Path.{refl}
 use Rattle.decides.specs.Decides.{decided, refuted}

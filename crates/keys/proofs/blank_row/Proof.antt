@@ -1,3 +1,4 @@
+-- No row has the blank name for member and for job, and blank numbers; its kind is B, which says nothing.
 use Rattle.kinds.specs.declared.Kind.the-variants.{B}
 use borrow.Author.Needs.{needs}
 use Rattle.keys.proofs.blank_row.Statement.{statement}

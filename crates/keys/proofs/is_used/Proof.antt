@@ -1,11 +1,12 @@
+-- None of the keys passed is the one asked for: so the first that is it is found, and where the loop ends it is not among the n.
 use Prim.Native.Nat.{ℕ, _-_, _≤_, _<_}
 use native.Mathlib.Omega.{arith}
 use mathlib.Core.Path.{_≡_}
 use lib.ListN.{getD}
 use borrow.Author.Needs.{needs}
+use borrow.Author.Count.{below-more}
 use Rattle.decides.specs.Decides.{decided, refuted}
 use Rattle.keys.specs.Among.{void-key}
-use Rattle.keys.proofs.Same.{nowhere-more}
 use Rattle.keys.proofs.is_used.Statement.{statement}
 use Rattle.keys.proofs.is_used.Tie as tie
 
@@ -40,7 +41,7 @@ loop-again : tie.Need-loop-again Inv-loop μ-loop
 loop-again c =
     let at-loop = c .before .before .before .before in (
       omega arith,
-      nowhere-more (at-loop .before .args .t1) (at-loop .before .args .key) (at-loop .loop .i) (refuted (c .before .same-key .result) (c .if1 .left) (c .before .same-key .ensures)) (at-loop .loop .inv .1),
+      below-more _ _ (at-loop .loop .inv .1) (refuted (c .before .same-key .result) (c .if1 .left) (c .before .same-key .ensures)),
     )
 
 returns-2 : tie.Need-returns-2 Inv-loop μ-loop

@@ -1,3 +1,4 @@
+-- All six numbers are the one blank entry.
 use borrow.Author.Needs.{needs}
 use Rattle.keys.proofs.no_numbers.Statement.{statement}
 use Rattle.keys.proofs.no_numbers.Tie as tie

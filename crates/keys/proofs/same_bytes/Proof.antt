@@ -1,11 +1,13 @@
+-- The bytes passed agree. One place that differs sets the two apart; all twelve that agree leave nothing by which they could differ.
 use Prim.Native.Nat.{ℕ, _-_, _≤_}
 use native.Mathlib.Omega.{arith}
 use mathlib.Core.Path.{_≡_, sym, ap, _∙_}
 use lib.ListN.{length, getD}
 use lib.Seq.{ext-getD}
 use mathlib.Core.List.{List}
-use Rattle.keys.proofs.Same.{Agree, agree-more}
+use Rattle.keys.proofs.Same.{Agree}
 use borrow.Author.Needs.{needs}
+use borrow.Author.Count.{below-more}
 use Rattle.keys.proofs.same_bytes.Statement.{statement}
 use Rattle.keys.proofs.same_bytes.Tie as tie
 
@@ -31,7 +33,7 @@ loop-less : tie.Need-loop-less Inv-loop μ-loop
 loop-less c = search needs
 
 loop-again : tie.Need-loop-again Inv-loop μ-loop
-loop-again c = (omega arith, agree-more (c .before .before .before .args .t1) (c .before .before .before .args .t2) (c .before .before .loop .i) (c .if1 .taken) (c .before .before .loop .inv .1))
+loop-again c = (omega arith, below-more _ _ (c .before .before .loop .inv .1) (c .if1 .taken))
 
 returns : tie.Need-returns Inv-loop μ-loop
 returns c = λ e. c .if1 .left (ap (λ (l : List ℕ). getD l (c .before .before .loop .i) 0) e)

@@ -1,3 +1,4 @@
+-- Two keys are one exactly if members and jobs are: other members settle it, and with the same member the jobs do.
 use borrow.Author.Needs.{needs}
 use mathlib.Core.Path.{ap}
 use Rattle.decides.specs.Decides.{decided, refuted}

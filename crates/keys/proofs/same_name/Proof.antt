@@ -1,3 +1,4 @@
+-- Names of two lengths are two; of one length they are one exactly if their twelve bytes are, zeros behind the name included.
 use borrow.Author.Needs.{needs}
 use mathlib.Core.Path.{ap}
 use Rattle.names.specs.declared.Name.{Name}

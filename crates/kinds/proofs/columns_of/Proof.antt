@@ -1,3 +1,4 @@
+-- B, S, C and E have columns of their own. The eleven kinds of the table's last line share theirs, which `arm` shows of their list.
 use mathlib.Core.Path.{refl, _∙_}
 use mathlib.Core.List.{[], _∷_}
 use borrow.Author.Needs.{needs}

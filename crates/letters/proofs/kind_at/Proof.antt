@@ -1,3 +1,4 @@
+-- The letters of a kind are no quotes, so a field is a kind exactly if the stretch without its quotes is those letters.
 use Rattle.letters.proofs.Letters.{kind-field}
 use borrow.Author.Needs.{needs}
 use Rattle.letters.proofs.kind_at.Statement.{statement}

@@ -1,3 +1,4 @@
+-- Every kind is written with one letter or two. A content of that length is the bytes read from it; of any other length it is no kind.
 use Prim.Native.Nat.{ℕ}
 use mathlib.Core.List.{List}
 use mathlib.Core.Path.{subst⁻¹}

@@ -1,3 +1,4 @@
+-- The four kinds of one letter have an arm each. In the last arm the byte is none of those, and every other kind has a letter too many.
 use mathlib.Core.Path.{_≡_}
 use mathlib.Core.List.{[], _∷_}
 use Prim.Native.Nat.{ℕ}

@@ -1,3 +1,4 @@
+-- Both bytes are below 256, so the number that they make tells them apart; a number without an arm is that of no kind's letters.
 use mathlib.Core.Path.{_≡_}
 use mathlib.Core.List.{[], _∷_}
 use Prim.Native.Nat.{ℕ, _+_, _*_}

@@ -1,3 +1,5 @@
+-- The limit of each check is its own function's. That OP, OM and SL are asked only of a combination in service, and RK only on rock, is read off what
+-- it is to have the check.
 use borrow.Author.Needs.{needs}
 use mathlib.Core.Path.{refl, subst, subst⁻¹}
 use Rattle.checks.specs.declared.Check.{Check}

@@ -1,3 +1,4 @@
+-- In I the limit is the allowable pressure itself; in II to IV it is what `rounding::down` promises of the product over 3 or 5.
 use borrow.Author.Needs.{needs}
 use mathlib.Core.Path.{refl, subst⁻¹}
 use Rattle.sets.specs.declared.Combination.{Combination}

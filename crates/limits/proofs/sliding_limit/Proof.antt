@@ -1,3 +1,4 @@
+-- In I to III the limit is the number that the definition gives; the contract leaves out IV, which has no factor against sliding.
 use borrow.Author.Needs.{needs}
 use mathlib.Core.Path.{refl, subst, subst⁻¹}
 use Rattle.sets.specs.declared.Combination.{Combination}

@@ -1,3 +1,4 @@
+-- With A or N the later lines stand, with a refusal none of them: the three lines of `unless-refused`.
 use mathlib.Core.Path.{ap}
 use Rattle.lines.specs.Lines.{unless-refused}
 use borrow.Author.Needs.{needs}

@@ -1,3 +1,4 @@
+-- Yes is A and no is N, by the definition itself.
 use mathlib.Core.Path.{sym, ap}
 use Rattle.lines.specs.Lines.{verdict-by}
 use Rattle.lines.proofs.verdict_of.Statement.{statement}

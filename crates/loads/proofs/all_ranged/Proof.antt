@@ -1,3 +1,4 @@
+-- All rows passed are in range. A row that is not is one of the first n, so it speaks against all of them; at the end none is left.
 use borrow.Author.Needs.{needs}
 use native.Mathlib.Omega.{arith}
 use Prim.Native.Nat.{ℕ, _-_, _≤_, _<_}

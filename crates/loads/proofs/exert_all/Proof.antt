@@ -1,3 +1,4 @@
+-- The loads of the rows passed are laid out, and no load stands behind them. Each row may be exerted, being in range and not blank.
 use borrow.Author.Needs.{needs}
 use native.Mathlib.Omega.{arith}
 use mathlib.Core.Path.{subst}

@@ -1,3 +1,4 @@
+-- No loads: a count of 0, and in all 16 places the load that exerts nothing.
 use borrow.Author.Needs.{needs}
 use lib.ListN.{replicate}
 use Rattle.loads.specs.Taken.{noLoads}

@@ -1,3 +1,4 @@
+-- Table 2 is blank for no row passed; the first for which it is blank refutes the claim, and past the n-th there is none to ask.
 use borrow.Author.Needs.{needs}
 use native.Mathlib.Omega.{arith}
 use Prim.Native.Nat.{ℕ, _-_, _≤_, _<_}

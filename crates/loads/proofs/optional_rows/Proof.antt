@@ -1,3 +1,4 @@
+-- The count is that of the rows passed. Each row adds 0 or 1, so it is never above their number and fits.
 use borrow.Author.Needs.{needs}
 use native.Mathlib.Omega.{arith}
 use mathlib.Core.Path.{_≡_, refl, sym, _∙_, ap, ap₂}
@@ -46,12 +47,12 @@ array-copy-out-row c = omega (arith, c .before .before .pre)
 class-of-requires : tie.Need-class-of-requires Inv-loop μ-loop
 class-of-requires c κs = search needs
 
-is-optional-requires : tie.Need-is-optional-requires Inv-loop μ-loop
-is-optional-requires c κs = search needs
+optional-count-requires : tie.Need-optional-count-requires Inv-loop μ-loop
+optional-count-requires c κs = search needs
 
 add-many : tie.Need-add-many Inv-loop μ-loop
 add-many c =
-    omega (arith, c .before .before .before .before .loop .inv .1, c .before .before .before .before .before .pre, c .is-optional .ensures, optional-low (c .before .class-of .result))
+    omega (arith, c .before .before .before .before .loop .inv .1, c .before .before .before .before .before .pre, c .optional-count .ensures, optional-low (c .before .class-of .result))
 
 add-i : tie.Need-add-i Inv-loop μ-loop
 add-i c = omega (arith, c .before .before .before .before .before .pre)
@@ -64,8 +65,8 @@ unfolding rowAt
 loop-again c =
     let inv = c .before .before .before .before .loop .inv in (
       omega arith,
-      omega (arith, inv .1, c .is-optional .ensures, optional-low (c .before .class-of .result)),
-      ap₂ (λ (x y : ℕ). x + y) (inv .2) (c .is-optional .ensures ∙ ap optional (c .before .class-of .ensures)) ∙ sym (one-more _ _),
+      omega (arith, inv .1, c .optional-count .ensures, optional-low (c .before .class-of .result)),
+      ap₂ (λ (x y : ℕ). x + y) (inv .2) (c .optional-count .ensures ∙ ap optional (c .before .class-of .ensures)) ∙ sym (one-more _ _),
     )
 
 returns : tie.Need-returns Inv-loop μ-loop
@@ -81,7 +82,7 @@ optional-rows-spec =
     mul-row
     array-copy-out-row
     class-of-requires
-    is-optional-requires
+    optional-count-requires
     add-many
     add-i
     loop-less

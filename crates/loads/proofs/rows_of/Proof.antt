@@ -1,3 +1,4 @@
+-- The test is the one in `rowsOf`, and on either side of it at most 16 rows are left.
 use mathlib.Core.Path.{sym, ap}
 use mathlib.Core.Bool.{Bool, cond}
 use borrow.Author.Tests.{lt-ltb, le-ltb}

@@ -1,10 +1,12 @@
+-- A check that is not weighed keeps its mark. Where RK is plainly below the figure shown, its rank is above the mark's and the mark stays; else the
+-- set is offered with its own rank. The products fit by the ranges of the base and of N.
 use borrow.Author.Needs.{needs}
 use native.Mathlib.Omega.{arith}
 use borrow.Author.Tests.{not-true, not-false}
 use native.Mathlib.Nat.{mul-le-mul, le-trans}
 use lib.Dec.{lit≤}
 use Rattle.ranks.proofs.Ranks.{lean-above}
-use Rattle.marks.proofs.Weights.{better-low, offered-old, offers-on, offers-off}
+use Rattle.marks.proofs.Weights.{worse-of-low, offered-old, offers-on, offers-off}
 use Rattle.named.proofs.leaned.Statement.{statement}
 use Rattle.named.proofs.leaned.Tie as tie
 
@@ -32,14 +34,14 @@ returns-2 c =
 lean-rank-requires : tie.Need-lean-rank-requires
 lean-rank-requires c κs = let e = c .before .before .before in ((e .pre .0 .wide, e .pre .0 .width), e .pre .1 .0)
 
-better-requires : tie.Need-better-requires
-better-requires c κs = c .before .before .before .before .pre .1 .1
+worse-requires : tie.Need-worse-requires
+worse-requires c κs = c .before .before .before .before .pre .1 .1
 
 returns-3 : tie.Need-returns-3
 returns-3 c =
     let e = c .before .before .before .before .before in
-    offers-on (not-false (e .args .on) (c .before .before .before .before .if1 .left)) (better-low (e .pre .1 .1 .2) (e .pre .1 .1 .1) (c .better .ensures))
-    (record { rank = _; ranks = c .before .lean-rank .ensures; better = c .better .ensures })
+    offers-on (not-false (e .args .on) (c .before .before .before .before .if1 .left)) (worse-of-low (e .pre .1 .1 .2) (e .pre .1 .1 .1) (c .worse .ensures))
+    (record { rank = _; ranks = c .before .lean-rank .ensures; worse = c .worse .ensures })
 
 pub leaned-spec : {M : Type 1} → statement M
 leaned-spec =
@@ -51,5 +53,5 @@ leaned-spec =
     plainly-requires
     returns-2
     lean-rank-requires
-    better-requires
+    worse-requires
     returns-3)

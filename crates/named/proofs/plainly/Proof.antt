@@ -1,3 +1,4 @@
+-- True is answered only behind the test that it promises, and false promises nothing. The product fits: the figure is below 2²⁴, N times B at most 2³⁶.
 use borrow.Author.Needs.{needs}
 use native.Mathlib.Omega.{arith}
 use mathlib.Core.Path.{sym}

@@ -1,3 +1,5 @@
+-- A check that is not weighed keeps its mark. Where friction times N is at least 10 H times one more than the figure so far, SL is above that figure
+-- with no division and the mark stays; else the set is offered with its own rank.
 use borrow.Author.Needs.{needs}
 use native.Mathlib.Omega.{arith}
 use borrow.Author.Tests.{not-true, not-false}
@@ -5,7 +7,7 @@ use native.Mathlib.Nat.{mul-le-mul, le-trans}
 use Prim.Native.Nat.{_+_, _*_, _^_, _≤_}
 use lib.Dec.{lit≤}
 use Rattle.ranks.proofs.Ranks.{slide-above}
-use Rattle.marks.proofs.Weights.{better-low, offered-old, offers-on, offers-off}
+use Rattle.marks.proofs.Weights.{worse-of-low, offered-old, offers-on, offers-off}
 use Rattle.named.proofs.slid.Statement.{statement}
 use Rattle.named.proofs.slid.Tie as tie
 
@@ -20,7 +22,7 @@ add-if4 c = search needs
 
 mul-if4-2 : tie.Need-mul-if4-2
 mul-if4-2 c =
-    let l : c .before .before .before .args .best .rank + 1 ≤ 2 ^ 24 = omega (arith, c .if3 .taken) in
+    let l : c .before .before .before .args .worst .rank + 1 ≤ 2 ^ 24 = omega (arith, c .if3 .taken) in
     let t : 10 * c .before .before .before .args .h ≤ 10 * 2 ^ 24 = omega (arith, c .before .before .before .pre .0 .2) in
     omega (arith, mul-le-mul t l)
 
@@ -36,14 +38,14 @@ returns-2 c =
 slide-rank-requires : tie.Need-slide-rank-requires
 slide-rank-requires c κs = let e = c .before .before in (e .pre .0 .0, e .pre .0 .1, le-trans (e .pre .0 .2) (lit≤ tt))
 
-better-requires : tie.Need-better-requires
-better-requires c κs = c .before .before .before .pre .1
+worse-requires : tie.Need-worse-requires
+worse-requires c κs = c .before .before .before .pre .1
 
 returns-3 : tie.Need-returns-3
 returns-3 c =
     let e = c .before .before .before .before in
-    offers-on (not-false (e .args .on) (c .before .before .before .if1 .left)) (better-low (e .pre .1 .2) (e .pre .1 .1) (c .better .ensures))
-    (record { rank = _; ranks = c .before .slide-rank .ensures; better = c .better .ensures })
+    offers-on (not-false (e .args .on) (c .before .before .before .if1 .left)) (worse-of-low (e .pre .1 .2) (e .pre .1 .1) (c .worse .ensures))
+    (record { rank = _; ranks = c .before .slide-rank .ensures; worse = c .worse .ensures })
 
 pub slid-spec : {M : Type 1} → statement M
 slid-spec =
@@ -56,5 +58,5 @@ slid-spec =
     mul-if4-3
     returns-2
     slide-rank-requires
-    better-requires
+    worse-requires
     returns-3)

@@ -1,10 +1,12 @@
+-- A check that is not weighed keeps its mark. Where 100 times what resists is at least what overturns times one more than the figure so far, OP or OM
+-- is above that figure with no division and the mark stays; else the set is offered with its own rank.
 use borrow.Author.Needs.{needs}
 use native.Mathlib.Omega.{arith}
 use borrow.Author.Tests.{not-true, not-false}
 use native.Mathlib.Nat.{mul-le-mul}
 use Prim.Native.Nat.{_+_, _^_, _≤_}
 use Rattle.ranks.proofs.Ranks.{tip-above}
-use Rattle.marks.proofs.Weights.{better-low, offered-old, offers-on, offers-off}
+use Rattle.marks.proofs.Weights.{worse-of-low, offered-old, offers-on, offers-off}
 use Rattle.named.proofs.tipped.Statement.{statement}
 use Rattle.named.proofs.tipped.Tie as tie
 
@@ -19,7 +21,7 @@ add-if3 c = search needs
 
 mul-if3 : tie.Need-mul-if3
 mul-if3 c =
-    let l : c .before .before .before .args .best .rank + 1 ≤ 2 ^ 24 = omega (arith, c .if2 .taken) in
+    let l : c .before .before .before .args .worst .rank + 1 ≤ 2 ^ 24 = omega (arith, c .if2 .taken) in
     omega (arith, mul-le-mul (c .before .before .before .pre .0 .1) l)
 
 returns-2 : tie.Need-returns-2
@@ -31,14 +33,14 @@ returns-2 c =
 tip-rank-requires : tie.Need-tip-rank-requires
 tip-rank-requires c κs = c .before .before .before .pre .0 .0
 
-better-requires : tie.Need-better-requires
-better-requires c κs = c .before .before .before .before .pre .1
+worse-requires : tie.Need-worse-requires
+worse-requires c κs = c .before .before .before .before .pre .1
 
 returns-3 : tie.Need-returns-3
 returns-3 c =
     let e = c .before .before .before .before .before in
-    offers-on (not-false (e .args .on) (c .before .before .before .before .if1 .left)) (better-low (e .pre .1 .2) (e .pre .1 .1) (c .better .ensures))
-    (record { rank = _; ranks = c .before .tip-rank .ensures; better = c .better .ensures })
+    offers-on (not-false (e .args .on) (c .before .before .before .before .if1 .left)) (worse-of-low (e .pre .1 .2) (e .pre .1 .1) (c .worse .ensures))
+    (record { rank = _; ranks = c .before .tip-rank .ensures; worse = c .worse .ensures })
 
 pub tipped-spec : {M : Type 1} → statement M
 tipped-spec =
@@ -50,5 +52,5 @@ tipped-spec =
     mul-if3
     returns-2
     tip-rank-requires
-    better-requires
+    worse-requires
     returns-3)

@@ -1,4 +1,4 @@
--- Each check by its own better, at the parts of N, H and M.
+-- Each check by the worse of its own two, at the parts of N, H and M.
 use borrow.Author.Needs.{needs}
 use mathlib.Core.Path.{_≡_, refl, subst₂}
 use mathlib.Core.Bool.{Bool, true, false}
@@ -12,7 +12,7 @@ use Rattle.ranks.specs.Figures.{Slides, Leans}
 use Rattle.set_figures.specs.Figures.{Judged, apart}
 use Rattle.checks.specs.Order.{side, lowest, highest}
 use Rattle.set_figures.proofs.Showing.{slight}
-use Rattle.named.specs.declared.Best.{Best}
+use Rattle.named.specs.declared.Worst.{Worst}
 use Rattle.marks.specs.Marks.{Offered, Offers}
 use Rattle.named.specs.Weighs.{Low, markOf, Weighed, Weighs}
 use Rattle.marks.proofs.Weights.{offers-on}
@@ -23,26 +23,26 @@ off : (on : Bool) → (on ≡ true → ⊥) → on ≡ false
 off true n = absurd (n refl)
 off false n = refl
 
-module _ (full rock : Bool) (base : Base) (sums : Sums) (b r : Best) where
+module _ (serves rock : Bool) (base : Base) (sums : Sums) (b r : Worst) where
   Judge : Bool → Check → Type 0
   Judge on check = Offers on (side check) (Judged check base sums) (markOf check b) (sums .set) (markOf check r)
 
   -- check by check
-  weighs-all : Judge full OP → Judge full OM → Judge full SL → Judge true PR → Judge rock RK → Weighs full rock base sums b r
+  weighs-all : Judge serves OP → Judge serves OM → Judge serves SL → Judge true PR → Judge rock RK → Weighs serves rock base sums b r
   unfolding Judge Weighed Low
   weighs-all op om sl pr rk = record { offered = offered; left = left; low = low }
     where
-      offered : (check : Check) → Weighed full rock check → Offered (side check) (Judged check base sums) (markOf check b) (sums .set) (markOf check r)
+      offered : (check : Check) → Weighed serves rock check → Offered (side check) (Judged check base sums) (markOf check b) (sums .set) (markOf check r)
       offered OP o = op .weighed o
       offered OM o = om .weighed o
       offered SL o = sl .weighed o
       offered PR o = pr .weighed refl
       offered RK o = rk .weighed o
 
-      left : (check : Check) → (Weighed full rock check → ⊥) → markOf check r ≡ markOf check b
-      left OP n = op .left (off full n)
-      left OM n = om .left (off full n)
-      left SL n = sl .left (off full n)
+      left : (check : Check) → (Weighed serves rock check → ⊥) → markOf check r ≡ markOf check b
+      left OP n = op .left (off serves n)
+      left OM n = om .left (off serves n)
+      left SL n = sl .left (off serves n)
       left PR n = absurd (n tt)
       left RK n = rk .left (off rock n)
 
@@ -106,9 +106,9 @@ returns c =
     let m = c .before .before .before .before .before .before .before .before .before .before .distance2 .ensures in
     weighs-all _ _ _ _ _ _
     (c .before .before .before .before .tipped .ensures) (c .before .before .before .tipped2 .ensures)
-    (subst₂ (λ (x y : ℕ). Offers (e .full) lowest (Slides (e .base .friction) x y) (e .best .sl) (e .sums .set) (c .before .before .slid .result)) n h (c .before .before .slid .ensures))
-    (subst₂ (λ (x y : ℕ). Offers true highest (Presses (e .base .width) (e .base .length) x y) (e .best .pr) (e .sums .set) (c .before .pressed .result)) n m (offers-on refl (c .before .pressed .ensures .0) (c .before .pressed .ensures .1)))
-    (subst₂ (λ (x y : ℕ). Offers (e .rock) highest (Leans (e .base .width) x y) (e .best .rk) (e .sums .set) (c .leaned .result)) n m (c .leaned .ensures))
+    (subst₂ (λ (x y : ℕ). Offers (e .serves) lowest (Slides (e .base .friction) x y) (e .worst .sl) (e .sums .set) (c .before .before .slid .result)) n h (c .before .before .slid .ensures))
+    (subst₂ (λ (x y : ℕ). Offers true highest (Presses (e .base .width) (e .base .length) x y) (e .worst .pr) (e .sums .set) (c .before .pressed .result)) n m (offers-on refl (c .before .pressed .ensures .0) (c .before .pressed .ensures .1)))
+    (subst₂ (λ (x y : ℕ). Offers (e .rock) highest (Leans (e .base .width) x y) (e .worst .rk) (e .sums .set) (c .leaned .result)) n m (c .leaned .ensures))
 
 pub weigh-spec : {M : Type 1} → statement M
 weigh-spec =

@@ -1,3 +1,4 @@
+-- From below: the hyphen, the digits, the capitals. A byte under, between or above these stretches is in none of them.
 use Rattle.names.proofs.Names.{letter-low, letter-gap, letter-high}
 use borrow.Author.Needs.{needs}
 use Rattle.names.specs.Names.{hyphen, digit, upper}

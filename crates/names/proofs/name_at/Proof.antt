@@ -1,3 +1,4 @@
+-- A name holds no quote, so what `name_of` says of the stretch without its quotes it says of the field.
 use Rattle.names.proofs.Names.{name-field}
 use borrow.Author.Needs.{needs}
 use Rattle.names.proofs.name_at.Statement.{statement}

@@ -1,3 +1,5 @@
+-- The letters passed are held, with zeros behind them, so that at the end the bytes are the name's own;
+-- a byte that is no letter, and a content of no byte or of more than 12, is ruled out by what a name is.
 use Prim.Native.Nat.{ℕ, _≤_, _<_, _-_}
 use mathlib.Core.Path.{_≡_, refl, ap, _∙_}
 use mathlib.Core.List.{List}

@@ -1,3 +1,5 @@
+-- The loop keeps that row n is reached, and that the row sought is none of those passed: so it is this one, a later one, or none at all.
+-- n fits, since there are no more rows than bytes.
 use Prim.Native.Nat.{_-_}
 use native.Mathlib.Omega.{arith}
 use mathlib.Core.Path.{refl}
@@ -17,7 +19,7 @@ loop-holds : tie.Need-loop-holds Inv-loop μ-loop
 loop-holds c = passing-start _ (c .before .pre)
 
 row-at-requires : tie.Need-row-at-requires Inv-loop μ-loop
-row-at-requires c κs = (c .loop .inv .within, record { rows = _; reading = c .loop .inv .here })
+row-at-requires c κs = (c .loop .inv .reached .within, record { rows = _; reading = c .loop .inv .reached .here })
 
 cell-requires : tie.Need-cell-requires Inv-loop μ-loop
 cell-requires c κs = search needs
@@ -39,9 +41,9 @@ returns-2 c = passing-end (c .before .before .before .before .loop .inv) (c .bef
 
 add-n : tie.Need-add-n Inv-loop μ-loop
 add-n c =
-    let inv = c .before .before .before .loop .inv in
-    let few = inv .few in
-    let within = inv .within in
+    let reached = c .before .before .before .loop .inv .reached in
+    let few = reached .few in
+    let within = reached .within in
     omega arith
 
 loop-less : tie.Need-loop-less Inv-loop μ-loop

@@ -1,3 +1,4 @@
+-- "None" passes any limit and "off" none, whatever the check; a number is left to `number_passes`.
 use borrow.Author.Needs.{needs}
 use mathlib.Core.Path.{subst⁻¹}
 use mathlib.Core.Bool.{false}

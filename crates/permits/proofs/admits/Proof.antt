@@ -1,3 +1,4 @@
+-- A set of no row is in no combination. Of any other, each combination's test is passed exactly when so many rows may act together.
 use borrow.Author.Needs.{needs}
 use borrow.Author.Tests.{eqb-true, eq-eqb, ne-eqb, ltb-true, lt-ltb, le-ltb}
 use native.Mathlib.Omega.{arith}

@@ -1,9 +1,12 @@
+-- A permitted set has rows that may stand in it and a row that opens its combination, so failing either refutes it;
+-- what is left is decided by its wind and earthquake rows, which its sums count at any width, here 0.
 use borrow.Author.Needs.{needs}
 use mathlib.Core.Path.{subst}
 use borrow.Author.Tests.{not-true, not-false}
 use Rattle.decides.specs.Decides.{Decides, decided, refuted}
 use Rattle.sets.specs.declared.Sums.{Sums}
-use Rattle.sets.specs.Sets.{Opens, Admits}
+use Rattle.sets.specs.Sets.{Admits}
+use Rattle.sets.proofs.Opening.{permitted-opens}
 use Rattle.permits.proofs.Permits.{Fit, permitted-fits, decides-permitted}
 use Rattle.permitted.proofs.permitted.Statement.{statement}
 use Rattle.permitted.proofs.permitted.Tie as tie
@@ -20,8 +23,7 @@ opens-requires : tie.Need-opens-requires
 opens-requires c κs = search needs
 
 returns-2 : tie.Need-returns-2
-unfolding Opens
-returns-2 c = λ p. refuted (c .before .opens .result) (not-true (c .before .opens .result) (c .if2 .taken)) (c .before .opens .ensures) (p .erection)
+returns-2 c = λ p. refuted (c .before .opens .result) (not-true (c .before .opens .result) (c .if2 .taken)) (c .before .opens .ensures) (permitted-opens (c .before .before .before .before .args .loads) _ _ p)
 
 sums-of-requires : tie.Need-sums-of-requires
 sums-of-requires c κs = search needs

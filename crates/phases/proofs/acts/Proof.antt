@@ -1,3 +1,4 @@
+-- A row acts by the combination's own phase or by phase 2; where both tests fail it has neither.
 use borrow.Author.Needs.{needs}
 use mathlib.Core.Path.{_∙_, sym}
 use mathlib.Core.Logic.{inl, inr, ⊎-elim}

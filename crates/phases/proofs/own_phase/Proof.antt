@@ -1,3 +1,4 @@
+-- The phase beside 2 is 0 for I, II and III and 1 for IV, one line of `ownPhase` for each.
 use borrow.Author.Needs.{needs}
 use mathlib.Core.Path.{sym, ap}
 use Rattle.sets.specs.Sets.{ownPhase}

@@ -1,22 +1,11 @@
+-- A row in the set fits exactly if it acts. A row left out fits unless it is permanent and acts, so one of another class always does.
 use borrow.Author.Needs.{needs}
 use native.Mathlib.Omega.{arith}
-use mathlib.Core.Path.{_≡_}
-use Prim.Native.Nat.{ℕ}
-use Rattle.sets.specs.declared.Class.{Class}
 use Rattle.sets.specs.declared.Class.the-variants.{Permanent, Free, Wind, Earthquake}
+use Rattle.sets.proofs.Classes.{one-class}
 use Rattle.phases.proofs.Fitting.{fits-inside, fits-outside, fits-unless}
 use Rattle.phases.proofs.row_fits.Statement.{statement}
 use Rattle.phases.proofs.row_fits.Tie as tie
-
--- one class is no other
-other-free : {c : Class} → c ≡ Free → c ≡ Permanent → ⊥
-other-free p q = let z : _≡_ {A = ℕ} 0 1 = cc in omega arith
-
-other-wind : {c : Class} → c ≡ Wind → c ≡ Permanent → ⊥
-other-wind p q = let z : _≡_ {A = ℕ} 0 1 = cc in omega arith
-
-other-quake : {c : Class} → c ≡ Earthquake → c ≡ Permanent → ⊥
-other-quake p q = let z : _≡_ {A = ℕ} 0 1 = cc in omega arith
 
 acts-requires : tie.Need-acts-requires
 acts-requires c κs = search needs
@@ -43,13 +32,13 @@ returns-2 : tie.Need-returns-2
 returns-2 c = fits-outside (c .before .before .before .before .args .combination) (c .before .before .before .before .args .load) _ (c .acts2 .result) (c .before .before .before .if1 .left) (c .before .enum-told .given .1) (c .acts2 .ensures)
 
 returns-3 : tie.Need-returns-3
-returns-3 c = fits-unless _ _ _ (c .before .before .if1 .left) (λ e. other-free (c .enum-told2 .given .1) e)
+returns-3 c = fits-unless _ _ _ (c .before .before .if1 .left) (λ e. omega (arith, one-class Free Permanent (c .enum-told2 .given .1) e))
 
 returns-4 : tie.Need-returns-4
-returns-4 c = fits-unless _ _ _ (c .before .before .if1 .left) (λ e. other-wind (c .enum-told3 .given .1) e)
+returns-4 c = fits-unless _ _ _ (c .before .before .if1 .left) (λ e. omega (arith, one-class Wind Permanent (c .enum-told3 .given .1) e))
 
 returns-5 : tie.Need-returns-5
-returns-5 c = fits-unless _ _ _ (c .before .before .if1 .left) (λ e. other-quake (c .enum-told4 .given .1) e)
+returns-5 c = fits-unless _ _ _ (c .before .before .if1 .left) (λ e. omega (arith, one-class Earthquake Permanent (c .enum-told4 .given .1) e))
 
 pub row-fits-spec : {M : Type 1} → statement M
 row-fits-spec =

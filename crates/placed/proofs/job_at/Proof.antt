@@ -1,3 +1,5 @@
+-- A place where a job is found lies from 1 up to the number of jobs, which fill the first of the 64 places, so the job read there is the book's;
+-- anything else that is found comes with the blank job.
 use native.Mathlib.Omega.{arith}
 use mathlib.Core.Path.{sym, subst}
 use Rattle.placed.specs.JobAt.{JobAt, there}

@@ -1,3 +1,4 @@
+-- What was found is handed on, and beside it stands the blank job.
 use mathlib.Core.Path.{ap}
 use Rattle.jobs.specs.declared.Job.{Job}
 use borrow.Author.Needs.{needs}

@@ -1,3 +1,4 @@
+-- n + 1 fields fit, and the ends with the last one put are what `put` promises; the rest is handed on.
 use borrow.Author.Needs.{needs}
 use Rattle.places.proofs.closed.Statement.{statement}
 use Rattle.places.proofs.closed.Tie as tie

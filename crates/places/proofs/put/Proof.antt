@@ -1,3 +1,4 @@
+-- A place past the tenth is not there, and to set a list where it has no place leaves it as it is.
 use Prim.Native.Nat.{ℕ, _≤_}
 use mathlib.Core.Path.{sym, subst}
 use lib.Seq.{set-out}

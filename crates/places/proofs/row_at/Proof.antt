@@ -1,3 +1,5 @@
+-- The loop keeps where the fields passed stand and that the text from here on is readable, so a bad field cannot come.
+-- Each field takes a byte at least, with its comma, so their number fits and the loop ends.
 use Prim.Native.Nat.{ℕ, _-_, _+_, _≤_}
 use mathlib.Core.Path.{_≡_, refl, subst}
 use mathlib.Core.List.{List}

@@ -1,3 +1,4 @@
+-- The tests go by the stage's number, and no two stages share one: so for each role its test is what `Fits` asks of the stage.
 use mathlib.Core.Path.{_≡_}
 use mathlib.Core.Bool.{true}
 use Rattle.placing.proofs.Placing.{base-fits, scour-fits, clearance-fits, load-fits}

@@ -1,3 +1,4 @@
+-- In a job that has begun and has fewer than 16 load rows the key alone is left to decide; else one condition has failed already.
 use Rattle.placing.proofs.Placing.{also-flag}
 use borrow.Author.Needs.{needs}
 use Rattle.placing.proofs.may_bear.Statement.{statement}

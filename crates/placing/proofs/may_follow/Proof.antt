@@ -1,3 +1,4 @@
+-- At the stage wanted, with no load row yet, the flag for the key is the answer; elsewhere a condition fails whatever the flag.
 use Rattle.placing.proofs.Placing.{also-flag}
 use borrow.Author.Needs.{needs}
 use Rattle.placing.proofs.may_follow.Statement.{statement}

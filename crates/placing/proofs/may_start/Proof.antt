@@ -1,3 +1,4 @@
+-- A count that is not 0 is at least 1. Where the job has begun and the count is 0, neither way to start a job is open.
 use mathlib.Core.Logic.{inl, inr, ⊎-elim}
 use native.Mathlib.Omega.{arith}
 use Rattle.placing.proofs.may_start.Statement.{statement}

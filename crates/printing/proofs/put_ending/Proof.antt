@@ -1,3 +1,4 @@
+-- The four bytes put are those that `ending` spells for the mark: comma, Y or N, CR and LF.
 use mathlib.Core.Path.{ap}
 use Rattle.lines.specs.Lines.{mark-of}
 use Rattle.line_fields.specs.Text.{mark-text, ending}

@@ -1,3 +1,4 @@
+-- What stands from i on begins with the byte exactly if i is in the text and that byte is there; past the end nothing begins.
 use Rattle.rfc4180.proofs.Parts.{begins-at, begins-is, past-begins}
 use borrow.Author.Needs.{needs}
 use Rattle.quoted.proofs.byte_is.Statement.{statement}

@@ -1,3 +1,5 @@
+-- The loop keeps that what it passed may stand between quotes. A quote alone closes it, and a doubled one is passed as two bytes.
+-- Where the text can neither go on nor close, no closing quote comes, however it is cut.
 use Prim.Native.Nat.{_≤_, _-_, _+_}
 use mathlib.Core.Path.{sym, subst}
 use borrow.Author.Needs.{needs}

@@ -1,3 +1,4 @@
+-- Comma, CR and LF may stand between quotes, besides TEXTDATA; a byte that is none of the three is left to `is_text`.
 use Rattle.rfc4180.specs.Rfc4180.{is-comma, is-cr, is-lf}
 use Rattle.quoted.proofs.Bytes.{inside-decides}
 use borrow.Author.Needs.{needs}

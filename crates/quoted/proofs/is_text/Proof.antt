@@ -1,3 +1,4 @@
+-- TEXTDATA is every byte from a blank to a tilde but the quote and the comma; each test that fails is one of these bounds.
 use borrow.Author.Needs.{needs}
 use native.Mathlib.Omega.{arith}
 use Rattle.quoted.proofs.Bytes.{printed, text-of}

@@ -1,3 +1,4 @@
+-- Only a stretch of two bytes or more with a quote at each end stands between quotes; any other is its own answer.
 use Rattle.quotes.proofs.Contents.{bare-between, bare-unclosed, bare-unopened, bare-short}
 use borrow.Author.Needs.{needs}
 use Rattle.quotes.proofs.bare.Statement.{statement}

@@ -1,3 +1,4 @@
+-- The sign says which of the two bounds is asked: below zero the other one asks nothing, and above it likewise.
 use borrow.Author.Tests.{not-true, not-false}
 use native.Mathlib.Omega.{arith}
 use Rattle.decides.specs.Decides.{not-both}

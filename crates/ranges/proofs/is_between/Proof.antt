@@ -1,3 +1,4 @@
+-- The four tests are the four fields of `Between`: the first that fails refutes it, and all passed make it.
 use borrow.Author.Tests.{not-true, not-false}
 use Rattle.decides.specs.Decides.{not-both}
 use borrow.Author.Needs.{needs}

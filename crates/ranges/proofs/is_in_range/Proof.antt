@@ -1,3 +1,4 @@
+-- An empty column asks nothing of its entry. Of the other two each has a test of its own, with the bounds that the column holds.
 use mathlib.Core.Path.{sym, subst}
 use Rattle.decides.specs.Decides.{Decides}
 use Rattle.ranges.specs.Range.{InRange}

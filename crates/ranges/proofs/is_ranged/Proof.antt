@@ -1,3 +1,4 @@
+-- Six answers joined decide all six columns, and the columns are those that the table gives the kind.
 use mathlib.Core.Path.{subst}
 use mathlib.Core.Bool.{_&&_}
 use Rattle.decides.specs.Decides.{Decides}

@@ -1,3 +1,4 @@
+-- RK by its two cases: "off" where N is 0, and else rounded up, over a divisor that is above 0 since N and the width are.
 use borrow.Author.Needs.{needs}
 use native.Mathlib.Omega.{arith}
 use mathlib.Core.Path.{_≡_}

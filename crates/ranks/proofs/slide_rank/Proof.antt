@@ -1,3 +1,4 @@
+-- SL by its three cases, in the order of document 01: N at 0 first, then no H, then the division, whose products fit by the ranges of friction and N.
 use borrow.Author.Needs.{needs}
 use native.Mathlib.Omega.{arith}
 use native.Mathlib.Nat.{mul-le-mul}

@@ -1,3 +1,4 @@
+-- OP and OM by their two cases: "none" where nothing overturns, and else rounded down.
 use borrow.Author.Needs.{needs}
 use Rattle.ranks.proofs.Ranks.{tip-none, tip-some}
 use Rattle.ranks.proofs.tip_rank.Statement.{statement}

@@ -1,3 +1,4 @@
+-- The reading says of the book's number what `CountIs` asks, with the very jobs that were read.
 use borrow.Author.Needs.{needs}
 use Rattle.reader.proofs.count_jobs.Statement.{statement}
 use Rattle.reader.proofs.count_jobs.Tie as tie

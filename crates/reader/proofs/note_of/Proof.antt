@@ -1,3 +1,4 @@
+-- A book that is given is a job book, and its rows have the notes that its text gives them; a refused one is no job book, so nothing is due.
 use mathlib.Core.Path.{refl, subst}
 use Rattle.book.specs.Says.{CountIs}
 use Rattle.book.specs.Notes.{no-book}

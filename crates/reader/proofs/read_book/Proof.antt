@@ -1,3 +1,4 @@
+-- 1, then 2: each is given where the one before is not, and a text past both is short enough and readable, which is what `read_rows` asks.
 use mathlib.Core.Path.{refl}
 use borrow.Author.Tests.{not-true, not-false}
 use Rattle.decides.specs.Decides.{decided, refuted}

@@ -1,3 +1,4 @@
+-- A clearance below zero is never enough, whatever its size; of any other the sizes decide.
 use native.Mathlib.Omega.{arith}
 use mathlib.Core.Path.{sym, subst}
 use mathlib.Core.Bool.{Bool}

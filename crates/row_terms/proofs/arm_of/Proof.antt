@@ -1,3 +1,4 @@
+-- B + 2·away less 2·toward, by how far each is past the other. With x at most 32,000 and B at most 30,000 everything fits.
 use borrow.Author.Needs.{needs}
 use Rattle.signed.proofs.Laws.{same-parts}
 use Rattle.sets.specs.Sums.{armBy}

@@ -1,3 +1,4 @@
+-- V on its arm adds at most 2·10¹² to either side, by the law of small products, and the twist at most 6·10⁹; so both sums fit.
 use borrow.Author.Needs.{needs}
 use native.Mathlib.Omega.{arith}
 use Prim.Native.Nat.{_+_, _*_}

@@ -1,3 +1,4 @@
+-- 2Vx and 2Hy are added above and below zero apart. A product of small parts is at most 2·10¹² and a twist at most 2⁴⁰, so all of it fits.
 use borrow.Author.Needs.{needs}
 use native.Mathlib.Omega.{arith}
 use Prim.Native.Nat.{_+_, _*_}

@@ -1,3 +1,4 @@
+-- An earthquake row counts 1 and a row of any other class 0, as `isQuake` says of each.
 use borrow.Author.Needs.{needs}
 use mathlib.Core.Path.{sym, ap}
 use Rattle.sets.specs.Sums.{isQuake}

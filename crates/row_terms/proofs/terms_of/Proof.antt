@@ -27,19 +27,19 @@ parts-of-requires-4 c κs = search needs
 
 arm-of-requires : tie.Need-arm-of-requires
 arm-of-requires c κs =
-    let e = c .before .before .before .before .before .before .before .before in
+    let e = c .before .before .before .before in
     let x = parts-low _ _ (c .before .before .parts-of2 .ensures) (e .pre .1 .x) in
     (e .pre .0, x .0, x .1)
 
 arm-of-requires-2 : tie.Need-arm-of-requires-2
 arm-of-requires-2 c κs =
-    let e = c .before .before .before .before .before .before .before .before .before in
+    let e = c .before .before .before .before .before in
     let x = parts-low _ _ (c .before .before .before .parts-of2 .ensures) (e .pre .1 .x) in
     (e .pre .0, x .1, x .0)
 
 moment-of-requires : tie.Need-moment-of-requires
 moment-of-requires c κs =
-    let e = c .before .before .before .before .before .before .before .before .before .before in
+    let e = c .before .before .before .before .before .before in
     let v = parts-low _ _ (c .before .before .before .before .before .parts-of .ensures) (e .pre .1 .v) in
     let x = parts-low _ _ (c .before .before .before .before .parts-of2 .ensures) (e .pre .1 .x) in
     let t = parts-low _ _ (c .before .before .parts-of4 .ensures) (e .pre .1 .twist) in
@@ -47,7 +47,7 @@ moment-of-requires c κs =
 
 balance-of-requires : tie.Need-balance-of-requires
 balance-of-requires c κs =
-    let e = c .before .before .before .before .before .before .before .before .before .before .before in
+    let e = c .before .before .before .before .before .before .before in
     let v = parts-low _ _ (c .before .before .before .before .before .before .parts-of .ensures) (e .pre .1 .v) in
     let x = parts-low _ _ (c .before .before .before .before .before .parts-of2 .ensures) (e .pre .1 .x) in
     let a = arm-low (e .pre .0) (x .0) (x .1) (c .before .before .arm-of .ensures) in
@@ -56,7 +56,7 @@ balance-of-requires c κs =
 
 balance-of-requires-2 : tie.Need-balance-of-requires-2
 balance-of-requires-2 c κs =
-    let e = c .before .before .before .before .before .before .before .before .before .before .before .before in
+    let e = c .before .before .before .before .before .before .before .before in
     let v = parts-low _ _ (c .before .before .before .before .before .before .before .parts-of .ensures) (e .pre .1 .v) in
     let x = parts-low _ _ (c .before .before .before .before .before .before .parts-of2 .ensures) (e .pre .1 .x) in
     let a = arm-low (e .pre .0) (x .1) (x .0) (c .before .before .arm-of2 .ensures) in
@@ -72,8 +72,8 @@ quake-of-requires c κs = search needs
 returns : tie.Need-returns
 unfolding partsOf termsOf
 returns c =
-    let load = c .before .before .before .before .before .before .before .before .before .before .before .before .before .before .before .args .load in
-    let width = c .before .before .before .before .before .before .before .before .before .before .before .before .before .before .before .args .width in
+    let load = c .before .before .before .before .before .before .before .before .before .before .before .args .load in
+    let width = c .before .before .before .before .before .before .before .before .before .before .before .args .width in
     let v = c .before .before .before .before .before .before .before .before .before .before .parts-of .ensures in
     let x = c .before .before .before .before .before .before .before .before .before .parts-of2 .ensures in
     let h = c .before .before .before .before .before .before .before .before .parts-of3 .ensures in

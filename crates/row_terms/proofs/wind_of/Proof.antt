@@ -1,3 +1,4 @@
+-- Only the wind row of the four classes counts, once; the three others are 0 in `isWind` too.
 use borrow.Author.Needs.{needs}
 use mathlib.Core.Path.{sym, ap}
 use Rattle.sets.specs.Sums.{isWind}

@@ -1,3 +1,4 @@
+-- A column marked - takes an empty field, and either other column a number whatever its bounds: that is all that a form asks.
 use mathlib.Core.Path.{sym, subst}
 use Rattle.fields.specs.Numbers.{EntryAt}
 use Rattle.kinds.specs.Form.{Means}

@@ -1,3 +1,4 @@
+-- Six numbers by the columns of the kind are three and three: where one half has none there are no six, and both halves make them.
 use Rattle.rows.proofs.Reading.{six-of, no-left, no-right}
 use borrow.Author.Needs.{needs}
 use Rattle.rows.proofs.numbers_of.Statement.{statement}

@@ -1,3 +1,4 @@
+-- Ten cells mean what `row_of` finds in them, and any other number of cells means no row; the next row starts at the same place either way.
 use Rattle.rows.proofs.Reading.{seen-ten, seen-not-ten}
 use borrow.Author.Needs.{needs}
 use Rattle.rows.proofs.read_row.Statement.{statement}

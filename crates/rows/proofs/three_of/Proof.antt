@@ -1,3 +1,4 @@
+-- The first cell is below 8, so all three are among the ten; a cell without an entry in its column leaves no three.
 use native.Mathlib.Omega.{arith}
 use Rattle.rows.proofs.Reading.{cell-entry, cell-no-entry}
 use borrow.Author.Needs.{needs}

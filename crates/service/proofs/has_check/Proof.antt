@@ -1,3 +1,4 @@
+-- Check by check what the definition says: OP, OM and SL as `serves` decides, PR always, and RK by the base's own flag.
 use borrow.Author.Needs.{needs}
 use mathlib.Core.Path.{_≡_, refl, sym, subst⁻¹}
 use mathlib.Core.Bool.{Bool, true, false, true≢false}

@@ -1,3 +1,4 @@
+-- I to III are in service by definition, and IV is not.
 use borrow.Author.Needs.{needs}
 use mathlib.Core.Path.{subst, subst⁻¹}
 use Rattle.service.specs.Service.{Service}

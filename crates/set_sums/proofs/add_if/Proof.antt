@@ -1,3 +1,4 @@
+-- The bit is below 2: at 1 the row is added, and else it is 0 and the sums stay.
 use borrow.Author.Needs.{needs}
 use native.Mathlib.Omega.{arith}
 use mathlib.Core.Path.{_∙_, sym}

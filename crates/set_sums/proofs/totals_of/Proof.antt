@@ -1,3 +1,4 @@
+-- N, the sum of H and M are whole numbers, and each is the difference of its two natural sums; the balances are natural sums as they are.
 use borrow.Author.Needs.{needs}
 use mathlib.Core.Path.{_≡_, _∙_, sym, ap}
 use lib.IntN.{pos, _-ℤ_}

@@ -1,3 +1,4 @@
+-- Two numbers of at most 2⁴⁰ have a sum that fits; the rest is the definition.
 use borrow.Author.Needs.{needs}
 use mathlib.Core.Path.{refl}
 use Rattle.sets.specs.Sums.{addBalance}

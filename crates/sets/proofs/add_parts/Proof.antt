@@ -1,3 +1,4 @@
+-- What is above zero and what is below are added apart, each at most 2⁴⁰, so neither sum overflows.
 use borrow.Author.Needs.{needs}
 use mathlib.Core.Path.{refl}
 use Rattle.sets.specs.Sums.{addParts}

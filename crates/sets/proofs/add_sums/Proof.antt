@@ -1,3 +1,4 @@
+-- Each field is added to its like. What 64 rows give is at most 64 · 2³⁴ = 2⁴⁰ in any field, so no sum overflows.
 use borrow.Author.Needs.{needs}
 use native.Mathlib.Omega.{arith}
 use mathlib.Core.Path.{refl}
@@ -21,17 +22,14 @@ add-balance-requires c κs = search needs
 add-balance-requires-2 : tie.Need-add-balance-requires-2
 add-balance-requires-2 c κs = search needs
 
-add-t18 : tie.Need-add-t18
-add-t18 c =
-    omega (arith, c .before .before .before .before .before .before .before .before .before .before .before .before .before .before .before .before .before .pre .0 .winds, c .before .before .before .before .before .before .before .before .before .before .before .before .before .before .before .before .before .pre .1 .winds)
+add-t8 : tie.Need-add-t8
+add-t8 c = search needs
 
-add-t19 : tie.Need-add-t19
-add-t19 c =
-    omega (arith, c .before .before .before .before .before .before .before .before .before .before .before .before .before .before .before .before .before .before .before .pre .0 .quakes, c .before .before .before .before .before .before .before .before .before .before .before .before .before .before .before .before .before .before .before .pre .1 .quakes)
+add-t9 : tie.Need-add-t9
+add-t9 c = omega (arith, c .before .before .before .before .before .before .before .before .before .pre .0 .quakes, c .before .before .before .before .before .before .before .before .before .pre .1 .quakes)
 
-add-t20 : tie.Need-add-t20
-add-t20 c =
-    omega (arith, c .before .before .before .before .before .before .before .before .before .before .before .before .before .before .before .before .before .before .before .before .before .pre .0 .set, c .before .before .before .before .before .before .before .before .before .before .before .before .before .before .before .before .before .before .before .before .before .pre .1 .set)
+add-t10 : tie.Need-add-t10
+add-t10 c = omega (arith, c .before .before .before .before .before .before .before .before .before .before .before .pre .0 .set, c .before .before .before .before .before .before .before .before .before .before .before .pre .1 .set)
 
 returns : tie.Need-returns
 unfolding add
@@ -56,7 +54,7 @@ add-sums-spec =
     add-parts-requires-3
     add-balance-requires
     add-balance-requires-2
-    add-t18
-    add-t19
-    add-t20
+    add-t8
+    add-t9
+    add-t10
     returns)

@@ -1,3 +1,4 @@
+-- All fields are 0, and the definition says the same.
 use mathlib.Core.Path.{refl}
 use Rattle.sets.specs.Sums.{noSums}
 use Rattle.sets.proofs.no_sums.Statement.{statement}

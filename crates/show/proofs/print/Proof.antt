@@ -1,3 +1,4 @@
+-- The length is tested against 2,048 and the array has that many bytes, so the part that is written lies in it.
 use mathlib.Core.Path.{_≡_}
 use native.Mathlib.Omega.{arith}
 use lib.ListN.{length}

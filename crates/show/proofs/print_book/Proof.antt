@@ -1,3 +1,4 @@
+-- What is answered is the count that was read, whichever arm printed: the match only says which count it is.
 use Prim.Native.Nat.{ℕ}
 use mathlib.Core.Path.{_≡_, subst}
 use mathlib.Core.List.{List}

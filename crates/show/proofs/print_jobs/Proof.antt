@@ -1,3 +1,4 @@
+-- The loop goes over the 64 places of the array and not over the count, so every job copied is there and the loop ends.
 use Prim.Native.Nat.{_-_}
 use borrow.Author.Needs.{needs}
 use Rattle.show.proofs.print_jobs.Statement.{statement}

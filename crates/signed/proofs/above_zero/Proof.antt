@@ -1,3 +1,4 @@
+-- With a minus nothing is above zero, and without one all of the size is.
 use Rattle.signed.proofs.Laws.{above-minus, above-plain}
 use mathlib.Core.Path.{sym}
 use Rattle.signed.proofs.above_zero.Statement.{statement}

@@ -1,3 +1,4 @@
+-- A minus puts the whole size below zero; without it the number has no part there.
 use Rattle.signed.proofs.Laws.{below-minus, below-plain}
 use mathlib.Core.Path.{sym}
 use Rattle.signed.proofs.below_zero.Statement.{statement}

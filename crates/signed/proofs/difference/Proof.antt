@@ -1,3 +1,4 @@
+-- The smaller is taken from the larger, so no step goes below zero, and the sign says which it was; equal numbers give no minus.
 use borrow.Author.Needs.{needs}
 use Rattle.signed.proofs.Laws.{amount-low, amount-high}
 use Rattle.signed.proofs.difference.Statement.{statement}

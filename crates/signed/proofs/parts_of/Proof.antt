@@ -1,3 +1,4 @@
+-- What is above zero and what is below make the parts, each by its own function.
 use borrow.Author.Needs.{needs}
 use Rattle.signed.specs.Whole.{partsOf}
 use Rattle.signed.proofs.Laws.{same-parts}

@@ -1,3 +1,4 @@
+-- A row without a form is refused with 3 and the job stays. Of a row with a form what the job answers is what the row does, case by case.
 use mathlib.Core.Path.{_≡_, refl, sym, subst}
 use mathlib.Core.Bool.{Bool, true}
 use borrow.Author.Needs.{needs}

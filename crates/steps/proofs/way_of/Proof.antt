@@ -1,3 +1,4 @@
+-- Each answer of a job is one way of a row: out of place is refusal 4, and joined and started keep their names.
 use mathlib.Core.Path.{sym, ap}
 use borrow.Author.Needs.{needs}
 use Rattle.steps.specs.Step.{way}

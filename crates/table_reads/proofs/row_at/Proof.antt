@@ -1,3 +1,4 @@
+-- Row j holds the 13 numbers from 13·j on. j is below 16, so all of them are among the 208, and they are read in the definition's order.
 use borrow.Author.Needs.{needs}
 use mathlib.Core.Path.{refl}
 use Rattle.table_rows.specs.Table.{rowOf}

@@ -1,3 +1,5 @@
+-- The loop keeps that the text is readable exactly if what is left of it is; a comma or a CRLF carries that on to the next field.
+-- At the end what is left is readable, and at a bad field it is not.
 use Prim.Native.Nat.{ℕ, _≤_, _-_, _+_}
 use mathlib.Core.Path.{_≡_, subst}
 use mathlib.Core.Logic.{_↔_, Iff·rfl}

@@ -1,3 +1,4 @@
+-- Where CL is missing nothing says N; where it stands its own mark answers.
 use mathlib.Core.Path.{sym, subst}
 use Rattle.decides.specs.Decides.{Decides, decides-flag}
 use Rattle.lines.specs.declared.ClearLine.{ClearLine}

@@ -1,3 +1,4 @@
+-- The mark of SC is the answer, and a job without SC has none against it.
 use mathlib.Core.Path.{sym, subst}
 use Rattle.decides.specs.Decides.{Decides, decides-flag}
 use Rattle.lines.specs.declared.DepthLine.{DepthLine}

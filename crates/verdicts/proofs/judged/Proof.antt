@@ -1,3 +1,4 @@
+-- The lines are handed on untouched. Six answers joined say whether all of them say Y, and the verdict is about the answer that it stands in.
 use mathlib.Core.Path.{refl, sym, subst}
 use Rattle.lines.specs.declared.Answer.{Answer}
 use Rattle.lines.specs.declared.Verdict.{Verdict}

@@ -1,3 +1,4 @@
+-- A line says Y exactly if its mark is set; a check without a line says nothing, and so not N.
 use mathlib.Core.Path.{sym, subst}
 use Rattle.decides.specs.Decides.{Decides, decides-flag}
 use Rattle.lines.specs.declared.Line.{Line}

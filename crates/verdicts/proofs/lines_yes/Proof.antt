@@ -1,3 +1,4 @@
+-- Five answers joined: a combination says Y exactly if OP, OM, SL, PR and RK do, each where it has a line.
 use Rattle.verdicts.proofs.Marking.{lines-decided}
 use borrow.Author.Needs.{needs}
 use Rattle.verdicts.proofs.lines_yes.Statement.{statement}

@@ -1,3 +1,4 @@
+-- What `admits` decides is which of the two cases of `Visits` came about; a set that it admits has a row, as `weigh` asks.
 use borrow.Author.Needs.{needs}
 use mathlib.Core.Path.{refl}
 use mathlib.Core.Logic.{inl, inr}

@@ -1,3 +1,5 @@
+-- A line is missing where the combination has not the check, or where the walk found no set. Else its figure is read back from the mark's rank, and
+-- what the walk found says of that figure and set that they are the ones to name.
 use borrow.Author.Needs.{needs}
 use borrow.Author.Tests.{not-true, not-false}
 use Rattle.decides.specs.Decides.{decided, refuted}

@@ -1,4 +1,4 @@
--- The best so far after the first k choices, for whatever loads the table is filled from: the loads themselves are not at hand in the loop.
+-- The worst so far after the first k choices, for whatever loads the table is filled from: the loads themselves are not at hand in the loop.
 use borrow.Author.Needs.{needs}
 use native.Mathlib.Omega.{arith}
 use mathlib.Core.Path.{_≡_, refl, sym, _∙_, ap, subst⁻¹}
@@ -15,7 +15,7 @@ use Rattle.sets.specs.Sums.{Room}
 use Rattle.sets.proofs.Adding.{room-more, room-all}
 use Rattle.checks.specs.declared.Check.{Check}
 use Rattle.checks.specs.declared.Check.the-variants.{OP, OM, SL, PR, RK}
-use Rattle.named.specs.declared.Best.{Best}
+use Rattle.named.specs.declared.Worst.{Worst}
 use Rattle.marks.specs.declared.Mark.{Mark}
 use Rattle.named.specs.Weighs.{markOf, Low}
 use Rattle.filling.specs.Filling.{Filled}
@@ -29,18 +29,18 @@ use Rattle.worst.proofs.walk.Statement.{statement}
 use Rattle.worst.proofs.walk.Tie as tie
 
 abbrev Inv-loop : tie.InvT-loop
-Inv-loop combination base full rock terms free fixed best₀ low step choices upper₀ k₀ best upper k = (k ≤ choices) × Low best
+Inv-loop combination base serves rock terms free fixed worst₀ low step choices upper₀ k₀ worst upper k = (k ≤ choices) × Low worst
     × (0 < k % step → upper ≡ chosen fixed (rowsFrom terms low) (k / step) (free - low))
     × ((loads : Loads) → Bounded loads → Opens combination loads → Filled combination (base .width) loads (loads .count) (record { terms = terms; free = free; fixed = fixed })
-    → So-far combination base loads full rock k (record { rank = 2 ^ 64 - 1; set = 0 }) best)
+    → So-far combination base loads serves rock k (record { rank = 2 ^ 64 - 1; set = 0 }) worst)
 
 abbrev μ-loop : tie.MeasureT-loop
-μ-loop combination base full rock terms free fixed best₀ low step choices upper₀ k₀ best upper k = choices - k
+μ-loop combination base serves rock terms free fixed worst₀ low step choices upper₀ k₀ worst upper k = choices - k
 
 none : Mark
 none = record { rank = 2 ^ 64 - 1; set = 0 }
 
-start : Best
+start : Worst
 start = record { op = none; om = none; sl = none; pr = none; rk = none }
 
 none-yet : (check : Check) → markOf check start ≡ none

@@ -1,14 +1,18 @@
+-- A combination that no row opens has no permitted set, so that every line of it is missing; of one that is opened, each line is told by the mark
+-- that the walk found for its check.
 use borrow.Author.Needs.{needs}
+use mathlib.Core.Path.{subst⁻¹}
 use borrow.Author.Tests.{not-true, not-false}
 use Rattle.decides.specs.Decides.{decided, refuted}
 use Rattle.sets.specs.declared.Combination.{Combination}
 use Rattle.sets.specs.declared.Loads.{Loads}
 use Rattle.sets.specs.Sets.{Opens}
+use Rattle.sets.proofs.Opening.{permitted-opens}
 use Rattle.checks.specs.declared.Base.{Base}
 use Rattle.checks.specs.declared.Check.{Check}
 use Rattle.checks.specs.declared.Check.the-variants.{OP, OM, SL, PR, RK}
-use Rattle.lines.specs.declared.Line.the-variants.{Missing}
 use Rattle.lines.specs.declared.Lines.{Lines}
+use Rattle.lines.specs.Lines.{no-lines}
 use Rattle.worst.specs.Lines.{Says, line}
 use Rattle.named.specs.Weighs.{markOf}
 use Rattle.worst.specs.Search.{Walked}
@@ -16,14 +20,14 @@ use Rattle.worst.proofs.worst_lines.Statement.{statement}
 use Rattle.worst.proofs.worst_lines.Tie as tie
 
 module _ (combination : Combination) (base : Base) (loads : Loads) where
-  -- a combination that is not checked has no line
-  all-missing : (Opens combination loads → ⊥) → (check : Check) → Says combination check base loads (line check (record { op = Missing; om = Missing; sl = Missing; pr = Missing; rk = Missing }))
-  unfolding Says line Opens
-  all-missing n OP = λ h set p. n (p .erection)
-  all-missing n OM = λ h set p. n (p .erection)
-  all-missing n SL = λ h set p. n (p .erection)
-  all-missing n PR = λ h set p. n (p .erection)
-  all-missing n RK = λ h set p. n (p .erection)
+  -- a combination that no row opens has no line
+  all-missing : (Opens combination loads → ⊥) → (check : Check) → Says combination check base loads (line check no-lines)
+  unfolding Says line
+  all-missing n OP = λ h set p. n (permitted-opens loads combination set p)
+  all-missing n OM = λ h set p. n (permitted-opens loads combination set p)
+  all-missing n SL = λ h set p. n (permitted-opens loads combination set p)
+  all-missing n PR = λ h set p. n (permitted-opens loads combination set p)
+  all-missing n RK = λ h set p. n (permitted-opens loads combination set p)
 
   -- the lines, check by check
   each : (r : Lines) → Says combination OP base loads (r .op) → Says combination OM base loads (r .om) → Says combination SL base loads (r .sl)
@@ -38,9 +42,15 @@ module _ (combination : Combination) (base : Base) (loads : Loads) where
 opens-requires : tie.Need-opens-requires
 opens-requires c κs = search needs
 
+no-lines-requires : tie.Need-no-lines-requires
+no-lines-requires c κs = search needs
+
 returns : tie.Need-returns
-unfolding Opens
-returns c = all-missing (c .before .before .args .combination) (c .before .before .args .base) (c .before .before .args .loads) (refuted (c .before .opens .result) (not-true (c .before .opens .result) (c .if1 .taken)) (c .before .opens .ensures))
+returns c =
+    let opens = c .before .before in
+    let a = opens .before .args in
+    subst⁻¹ (λ (r : Lines). (check : Check) → Says (a .combination) check (a .base) (a .loads) (line check r)) (c .no-lines .ensures)
+    (all-missing (a .combination) (a .base) (a .loads) (refuted (opens .opens .result) (not-true (opens .opens .result) (c .before .if1 .taken)) (opens .opens .ensures)))
 
 walk-requires : tie.Need-walk-requires
 walk-requires c κs =
@@ -81,6 +91,7 @@ worst-lines-spec =
     tie.close
     (tie.spec
     opens-requires
+    no-lines-requires
     returns
     walk-requires
     line-at-requires

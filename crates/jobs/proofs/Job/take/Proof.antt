@@ -1,3 +1,5 @@
+-- A row out of place leaves the job as it stood; one in place gives the job with exactly that row more.
+-- A load row in place has fewer than 16 before it, which is the room that `with_row` asks.
 use mathlib.Core.Path.{_≡_, refl}
 use mathlib.Core.Bool.{true}
 use borrow.Author.Needs.{needs}

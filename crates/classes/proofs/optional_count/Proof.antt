@@ -1,8 +1,9 @@
+-- A permanent row counts 0 and a row of any other class 1, class by class as `optional` has it.
 use borrow.Author.Needs.{needs}
 use mathlib.Core.Path.{sym, ap}
 use Rattle.classes.specs.Classes.{optional}
-use Rattle.classes.proofs.is_optional.Statement.{statement}
-use Rattle.classes.proofs.is_optional.Tie as tie
+use Rattle.classes.proofs.optional_count.Statement.{statement}
+use Rattle.classes.proofs.optional_count.Tie as tie
 
 enum-told : tie.Need-enum-told
 enum-told c = search needs
@@ -32,7 +33,7 @@ returns-4 : tie.Need-returns-4
 unfolding optional
 returns-4 c = sym (ap optional (c .enum-told4 .given .1))
 
-pub is-optional-spec : {M : Type 1} → statement M
-is-optional-spec =
+pub optional-count-spec : {M : Type 1} → statement M
+optional-count-spec =
     tie.close
     (tie.spec enum-told enum-told-2 enum-told-3 enum-told-4 returns returns-2 returns-3 returns-4)

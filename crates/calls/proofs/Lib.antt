@@ -1,0 +1,2 @@
+-- That no two answers of a call are told alike.
+pub mod Telling

@@ -1,0 +1,2 @@
+-- The laws of the refusals' numbers. Other crates' proofs cite them.
+pub mod Numbers
