@@ -1,8 +1,11 @@
 -- What a yes-or-no answer says, and the laws by which callers use one.
-use Prim.Native.Nat.{ℕ}
+use Prim.Native.Nat.{ℕ, _<_, _≤_}
 use native.Mathlib.Omega.{arith}
+use mathlib.Core.Logic.{_⊎_, inl, inr, ⊎-elim}
 use mathlib.Core.Path.{_≡_, refl}
-use mathlib.Core.Bool.{Bool, true, false, not, _&&_}
+use mathlib.Core.Bool.{Bool, true, false, not, _&&_, _||_}
+use lib.Dec.{ltb, leb, eqb}
+use borrow.Author.Tests.{ltb-true, ltb-false, leb-true, leb-false, eqb-true, eqb-false}
 
 -- the answer true says P, and false says that P does not hold
 abbrev pub Decides : Bool → Type 0 → Type 0
@@ -43,6 +46,34 @@ pub decides-both : (P Q : Type 0) (r t : Bool) → Decides r P → Decides t Q �
 decides-both P Q true true p q = (p, q)
 decides-both P Q true false p n = λ w. n (w .1)
 decides-both P Q false t n q = λ w. n (w .0)
+
+-- one of two answers, or both
+pub decides-either : (P Q : Type 0) (r t : Bool) → Decides r P → Decides t Q → Decides (r || t) (P ⊎ Q)
+decides-either P Q true t p q = inl p
+decides-either P Q false true n q = inr q
+decides-either P Q false false n m = λ w. ⊎-elim n m w
+
+-- the tests of numbers
+pub decides-below : (a b : ℕ) → Decides (ltb a b) (a < b)
+decides-below a b = from (ltb a b) (ltb-true a b) (ltb-false a b)
+  where
+    from : (r : Bool) → (r ≡ true → a < b) → (r ≡ false → b ≤ a) → Decides r (a < b)
+    from true f g = f refl
+    from false f g = λ h. let k = g refl in omega arith
+
+pub decides-at-most : (a b : ℕ) → Decides (leb a b) (a ≤ b)
+decides-at-most a b = from (leb a b) (leb-true a b) (leb-false a b)
+  where
+    from : (r : Bool) → (r ≡ true → a ≤ b) → (r ≡ false → b < a) → Decides r (a ≤ b)
+    from true f g = f refl
+    from false f g = λ h. let k = g refl in omega arith
+
+pub decides-equal : (a b : ℕ) → Decides (eqb a b) (a ≡ b)
+decides-equal a b = from (eqb a b) (eqb-true a b) (eqb-false a b)
+  where
+    from : (r : Bool) → (r ≡ true → a ≡ b) → (r ≡ false → a ≡ b → ⊥) → Decides r (a ≡ b)
+    from true f g = f refl
+    from false f g = g refl
 
 -- a flag says that it is set
 pub decides-flag : (r : Bool) → Decides r (r ≡ true)
