@@ -16,23 +16,17 @@ ghost use mathlib.Core.Path.{_≡_};
 ghost use Rattle.sets.specs.Sets.{Bounded};
 ghost use Rattle.table2.specs.Table2.{table2-fill};
 ghost use Rattle.checks.specs.Sized.{Sized};
-ghost use Rattle.answer.specs.Answer.{base-of, refusal, earlier, WholeIs, AnswerIs, told-first};
-
-fn wide(n: u32) -> u64
-    ensures { λ r. ⌜ r ≡ n ⌝ }
-{
-    n as u64
-}
+ghost use Rattle.answer.specs.Answer.{base-of, refusal, WholeIs, AnswerIs, told-first};
 
 // The base of a B row.
 fn base_at(numbers: Numbers) -> Base
     ensures { λ r. ⌜ r ≡ base-of numbers ⌝ }
 {
     Base {
-        width: wide(numbers.n1.size),
-        length: wide(numbers.n2.size),
-        allowable: wide(numbers.n3.size),
-        friction: wide(numbers.n4.size),
+        width: numbers.n1.size as u64,
+        length: numbers.n2.size as u64,
+        allowable: numbers.n3.size as u64,
+        friction: numbers.n4.size as u64,
         rock: river_marks::is_rock(numbers.n5.size),
     }
 }
@@ -66,25 +60,19 @@ fn whole(base: Base, loads: Loads, depth: DepthLine, clear: ClearLine) -> Answer
     verdicts::judged(one, two, three, four, depth, clear)
 }
 
-// The river's refusal, which comes first, or another.
-fn first_of(river: RiverRead, other: u8) -> u8
-    ensures { λ r. ⌜ r ≡ earlier river other ⌝ }
-{
-    match river {
-        RiverRead::Refused(number) => number,
-        RiverRead::Shown(_, _) => other,
-    }
-}
-
 // The river's answer, or the refusal that the loads give where it comes first.
 fn joined(told: loads::Answer, river: RiverRead) -> RiverRead
     ensures { λ r. ⌜ r ≡ told-first told river ⌝ }
 {
-    match told {
-        loads::Answer::OutOfRange => RiverRead::Refused(11),
-        loads::Answer::NoCoefficient => RiverRead::Refused(first_of(river, 15)),
-        loads::Answer::TooMany => RiverRead::Refused(first_of(river, 16)),
-        loads::Answer::Given => river,
+    let other = match told {
+        loads::Answer::OutOfRange => return RiverRead::Refused(11),
+        loads::Answer::NoCoefficient => 15,
+        loads::Answer::TooMany => 16,
+        loads::Answer::Given => return river,
+    };
+    match river {
+        RiverRead::Refused(_) => river,
+        RiverRead::Shown(_, _) => RiverRead::Refused(other),
     }
 }
 

@@ -15,12 +15,11 @@ pub fn is_blank(row: Row) -> bool
     let kind = row.kind;
     let numbers = row.numbers;
     match classes::source_of(kind) {
-        Source::Absent => false,
+        Source::Absent | Source::Written => false,
         Source::Earth => match earth::pressure(numbers) {
             EarthAnswer::OutOfRange => false,
             EarthAnswer::NoCoefficient => true,
             EarthAnswer::Push { thrust: _, arm: _ } => false,
         },
-        Source::Written => false,
     }
 }

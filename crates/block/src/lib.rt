@@ -46,10 +46,11 @@ pub fn put_decimal(out: &mut [u8; 2048], at: usize, n: u64) -> usize
     ensures { λ r. ⌜ page (now (out .exit)) r ≡ puts (page (now (out .entry)) at) (decimal n) ⌝ }
 {
     let digit = 48 + (n % 10) as u8;
-    if n < 10 {
-        return push(out, at, digit);
-    }
-    let end = put_decimal(out, at, n / 10);
+    let end = if n < 10 {
+        at
+    } else {
+        put_decimal(out, at, n / 10)
+    };
     push(out, end, digit)
 }
 

@@ -14,13 +14,14 @@ use Rattle.rows.specs.Form.{BookRow, Form}
 use Rattle.rows.proofs.Forms.{form-one}
 use Rattle.jobs.specs.declared.Job.{Job}
 use Rattle.book.specs.JobBook.{Jobs, count, Loaded, Different, Placed, rows-of, Forms, no-form, form, Begins, JobBook, Shaped, no-job, one-more, Whole, no-whole, one-whole}
-use Rattle.book.specs.Values.{values, places}
+use Rattle.counted.specs.Places.{places}
+use Rattle.book.specs.Values.{values}
 use Rattle.book.specs.Says.{Told, given, refused, Fault, formless, misplaced, surplus, reused, number, Unplaced, Surplus, Reused, Bad, FirstBad, Unfinished, Says, too-long, not-csv, bad-row, unfinished, book, told, jobs-told, BookIs, CountIs}
 use Rattle.refusals.specs.Numbers.{refusal-number}
 use Rattle.refusals.proofs.Numbers.{number-one}
-use Rattle.book.specs.declared.Count.{Count}
-use Rattle.book.specs.declared.Count.the-variants.{Given, Refused}
-use Rattle.book.specs.declared.Book.{Book}
+use Rattle.counted.specs.declared.Count.{Count}
+use Rattle.counted.specs.declared.Count.the-variants.{Given, Refused}
+use Rattle.counted.specs.declared.Book.{Book}
 use Rattle.book.proofs.Steps.{retract, placed-one, step-count, step-keys}
 
 forms-one : {css : List (List Cell)} {rs qs : List BookRow} → Forms css rs → Forms css qs → rs ≡ qs

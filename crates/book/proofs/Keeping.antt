@@ -14,7 +14,8 @@ use Rattle.jobs.specs.Place.{no-job}
 use Rattle.jobs.specs.declared.Job.{Job}
 use Rattle.book.specs.JobBook.{IsA, dry, job, base, Jobs, none, _and_, count, Different, Used, last, before}
 use Rattle.keys.specs.Among.{void-key, Among}
-use Rattle.book.specs.Values.{value, values, held, in-places, places, keys-of, key-places}
+use Rattle.counted.specs.Places.{in-places, places}
+use Rattle.book.specs.Values.{value, values, held, keys-of, key-places}
 use Rattle.book.proofs.Roles.{one-role}
 use Rattle.book.proofs.Steps.{Step, starts, scours, crosses, bears, rebased}
 

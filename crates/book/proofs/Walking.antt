@@ -20,15 +20,16 @@ use Rattle.keys.specs.Among.{Among}
 use Rattle.keys.specs.Begins as beginning
 use Rattle.keys.specs.declared.Beginning.{Beginning}
 use Rattle.keys.specs.declared.Beginning.the-variants.{Free, Barred}
-use Rattle.book.specs.Values.{values, held, places}
+use Rattle.counted.specs.Places.{places}
+use Rattle.book.specs.Values.{values, held}
 use Rattle.book.specs.Says.{refused, Fault, formless, misplaced, surplus, reused, number, Bad, Says, bad-row, unfinished, book, told, jobs-told, BookIs, EndedIs, missing, whole}
 use Rattle.refusals.specs.Numbers.{refusal-number}
 use Rattle.refusals.specs.declared.Refusal.{Refusal}
 use Rattle.refusals.specs.declared.Refusal.the-variants.{TooLong, NotCsv, NoForm, NoPlace, TooMany, UsedKey}
 use Rattle.steps.specs.Step.{Refuses}
-use Rattle.book.specs.declared.Count.{Count}
-use Rattle.book.specs.declared.Count.the-variants.{Given, Refused}
-use Rattle.book.specs.declared.Book.{Book}
+use Rattle.counted.specs.declared.Count.{Count}
+use Rattle.counted.specs.declared.Count.the-variants.{Given, Refused}
+use Rattle.counted.specs.declared.Book.{Book}
 use Rattle.book.proofs.Steps.{Step, starts, scours, crosses, bears, extend, grows}
 use Rattle.book.proofs.Answers.{begins-book}
 use Rattle.book.proofs.Growing.{Grown, place-grows, step-place}

@@ -9,10 +9,11 @@ use Rattle.jobs.specs.declared.Job.{Job}
 use Rattle.refusals.specs.Numbers.{refusal-number}
 use Rattle.refusals.specs.declared.Refusal.the-variants.{NoPlace}
 use Rattle.book.specs.JobBook.{Jobs, count, Loaded, Different, Placed, Begins, JobBook}
-use Rattle.book.specs.Values.{values, places}
-use Rattle.book.specs.declared.Count.{Count}
-use Rattle.book.specs.declared.Count.the-variants.{Given, Refused}
-use Rattle.book.specs.declared.Book.{Book}
+use Rattle.counted.specs.Places.{places}
+use Rattle.book.specs.Values.{values}
+use Rattle.counted.specs.declared.Count.{Count}
+use Rattle.counted.specs.declared.Count.the-variants.{Given, Refused}
+use Rattle.counted.specs.declared.Book.{Book}
 
 -- what a book is told: so many jobs, and these; or a refusal's number, and its row
 pub data Told : Type 0 where

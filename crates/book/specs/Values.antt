@@ -14,6 +14,7 @@ use Rattle.jobs.specs.Place.{no-job}
 use Rattle.jobs.specs.declared.Job.{Job}
 use Rattle.placing.specs.declared.Stage.{Stage}
 use Rattle.placing.specs.declared.Stage.the-variants.{Dry, Scoured, Crossed}
+use Rattle.counted.specs.Places.{in-places}
 use Rattle.book.specs.JobBook.{River, dry, scoured, crossed, Written, job, base, Jobs, none, _and_, job-rows}
 
 abbrev pub stage-of : River → Stage
@@ -50,13 +51,6 @@ value (job b v ls) = record {
 abbrev pub values : Jobs → List Job
 values none = []
 values (js and j) = values js ++ value j ∷ []
-
--- in 64 places, the unused ones blank
-abbrev pub in-places : {A : Type 0} → A → List A → List A
-in-places blank l = l ++ replicate (64 - length l) blank
-
-abbrev pub places : List Job → List Job
-places js = in-places no-job js
 
 -- the last of the jobs, as a value; before the first there is none
 abbrev pub held : Jobs → Job

@@ -4,8 +4,6 @@
 // refused, and nothing is written. What is hard is that the promise leaves no choice: it gives one answer and one state of the
 // buffer for every block, also for one that claims more than its 2,048 bytes.
 use block::Block;
-ghost use mathlib.Core.Path.{_≡_};
-ghost use Prim.Native.Nat.{min};
 ghost use Rattle.block.specs.Block.{held};
 ghost use Rattle.buffer.specs.Written.{Wrote, told};
 
@@ -15,21 +13,15 @@ pub enum Written {
     TooShort,
 }
 
-fn at_most_2048(n: usize) -> usize
-    ensures { λ r. ⌜ r ≡ min n 2048 ⌝ }
-{
-    if n < 2048 { n } else { 2048 }
-}
-
 // A block's text at the start of a lent buffer, if it has room; else nothing.
 pub fn write_block(block: Block, out: &mut [u8]) -> Written
     ensures { λ r. ⌜ Wrote (held block) (now (out .entry)) (now (out .exit)) (told r) ⌝ }
 {
-    let text = block.bytes;
-    let len = at_most_2048(block.len);
+    let len = if block.len < 2048 { block.len } else { 2048 };
     if out.len() < len {
         return Written::TooShort;
     }
+    let text = block.bytes;
     bytes::copy(&text[0..len], out);
     Written::Length(len)
 }

@@ -16,18 +16,12 @@ pub struct Cells {
 pub fn cell(s: &[u8], cells: Cells, k: usize) -> &[u8]
     ensures { λ r. ⌜ CellAt (now (s .entry)) cells k (now r) ⌝ }
 {
-    let from = cells.from;
-    let to = cells.to;
     if k < 10 {
-        let a = from[k];
-        let e = to[k];
-        if a <= e {
-            if e <= s.len() {
-                return &s[a..e];
-            }
-            return &s[0..0];
+        let a = cells.from[k];
+        let e = cells.to[k];
+        if (a <= e) & (e <= s.len()) {
+            return &s[a..e];
         }
-        return &s[0..0];
     }
     &s[0..0]
 }

@@ -3,7 +3,7 @@
 // What is hard is that the search compares figures as numbers: a figure's rank is one number of 64 bits whose order is that of the
 // figures, the worst first, with "none" at one end and "off" at the other, and the figure is read back from it.
 ghost use mathlib.Core.Path.{_≡_};
-ghost use Rattle.checks.specs.Order.{lowest, highest, side, Sound, rank};
+ghost use Rattle.checks.specs.Order.{side, Sound, rank};
 
 // The base: its width along the axis and its length in mm, the allowable pressure in kN/m², the friction in thousandths.
 pub struct Base {
@@ -32,35 +32,20 @@ pub enum Figure {
 // The rank of "none", past every number's. The number of PR or RK is what its rank leaves of this.
 pub const TOP: u64 = 18446744073709551615;
 
-// The figure of OP, OM or SL, where a number is its own rank.
-fn low_figure(r: u64) -> Figure
-    ensures { λ v. ⌜ Sound lowest v × (rank lowest v ≡ r) ⌝ }
-{
-    if r == TOP {
-        return Figure::Nothing;
-    }
-    Figure::Number(r)
-}
-
-// The figure of PR or RK, whose rank falls as the number grows, down to "off".
-fn high_figure(r: u64) -> Figure
-    ensures { λ v. ⌜ Sound highest v × (rank highest v ≡ r) ⌝ }
-{
-    if r == 0 {
-        return Figure::Off;
-    }
-    Figure::Number(TOP - r)
-}
-
-// The figure of a rank.
+// The figure of a rank: for OP, OM and SL a number is its own rank; for PR and RK the rank falls as the number grows, down to "off".
 pub fn figure_at(check: Check, r: u64) -> Figure
     ensures { λ v. ⌜ Sound (side check) v × (rank (side check) v ≡ r) ⌝ }
 {
     match check {
-        Check::OP => low_figure(r),
-        Check::OM => low_figure(r),
-        Check::SL => low_figure(r),
-        Check::PR => high_figure(r),
-        Check::RK => high_figure(r),
+        Check::OP | Check::OM | Check::SL => if r == TOP {
+            Figure::Nothing
+        } else {
+            Figure::Number(r)
+        },
+        Check::PR | Check::RK => if r == 0 {
+            Figure::Off
+        } else {
+            Figure::Number(TOP - r)
+        },
     }
 }

@@ -6,7 +6,7 @@ use sets::Class;
 use sets::Combination;
 use sets::Load;
 ghost use mathlib.Core.Path.{_≡_};
-ghost use Rattle.choices.specs.Stance.{byClass, stanceOf};
+ghost use Rattle.choices.specs.Stance.{stanceOf};
 
 // A row is in no set of the combination, in every one, or free.
 pub enum Stance {
@@ -15,35 +15,24 @@ pub enum Stance {
     Either,
 }
 
-fn by_class(combination: Combination, class: Class) -> Stance
-    ensures { λ r. ⌜ r ≡ byClass combination class ⌝ }
-{
-    match class {
-        Class::Permanent => Stance::Always,
-        Class::Free => Stance::Either,
-        Class::Wind => match combination {
-            Combination::I => Stance::Never,
-            Combination::II => Stance::Either,
-            Combination::III => Stance::Never,
-            Combination::IV => Stance::Either,
-        },
-        Class::Earthquake => match combination {
-            Combination::I => Stance::Never,
-            Combination::II => Stance::Never,
-            Combination::III => Stance::Either,
-            Combination::IV => Stance::Either,
-        },
-    }
-}
-
 // What a row is to the sets of a combination.
 pub fn stance_of(combination: Combination, load: Load) -> Stance
     ensures { λ r. ⌜ r ≡ stanceOf combination load ⌝ }
 {
-    let phase = load.phase;
     let class = load.class;
-    if !phases::acts(combination, phase) {
+    if !phases::acts(combination, load.phase) {
         return Stance::Never;
     }
-    by_class(combination, class)
+    match class {
+        Class::Permanent => Stance::Always,
+        Class::Free => Stance::Either,
+        Class::Wind => match combination {
+            Combination::I | Combination::III => Stance::Never,
+            Combination::II | Combination::IV => Stance::Either,
+        },
+        Class::Earthquake => match combination {
+            Combination::I | Combination::II => Stance::Never,
+            Combination::III | Combination::IV => Stance::Either,
+        },
+    }
 }

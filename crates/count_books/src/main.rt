@@ -1,6 +1,6 @@
 // Counts the jobs of each book that its arguments name. One line a book: its name, the number of its jobs and the
 // length of its first note, or the number and the row of its refusal.
-use book::Count;
+use counted::Count;
 use libc::STDOUT_FILENO;
 
 // Two figures, each behind its name, and the line's end.

@@ -16,13 +16,6 @@ pub record PlainTo (s : List ℕ) (at e : ℕ) : Type 0 where
   pub all : Plain (part at e s)
   pub halts : (b : ℕ) → Textdata b → Begins b (drop e s) → ⊥
 
--- what follows a field that ends at e
-abbrev pub StopAt : List ℕ → ℕ → Ended → Type 0
-StopAt s e (Comma x) = (x ≡ e) × (drop e s ≡ COMMA ∷ drop (e + 1) s)
-StopAt s e (Row x) = (x ≡ e) × (drop e s ≡ CR ∷ LF ∷ drop (e + 2) s)
-StopAt s e End = e ≡ length s
-StopAt s e Bad = Stop (drop e s) → ⊥
-
 -- a field stands from `at` to e
 pub record FieldTo (s : List ℕ) (at e : ℕ) : Type 0 where
   pub from : at ≤ e

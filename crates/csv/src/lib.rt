@@ -5,7 +5,7 @@
 use quoted::Found;
 ghost use Prim.Native.Nat.{_≤_};
 ghost use lib.ListN.{length};
-ghost use Rattle.csv.specs.Answer.{PlainTo, StopAt, FieldAt};
+ghost use Rattle.csv.specs.Answer.{PlainTo, FieldAt};
 
 // What follows the field at a place: a comma or a row's end, with the index at which the field ends; the text's end, which is
 // that index itself; or Bad, where no field stands there that may be followed so.
@@ -22,37 +22,10 @@ fn plain_end(s: &[u8], at: usize) -> usize
     ensures { λ r. ⌜ PlainTo (now (s .entry)) at r ⌝ }
 {
     let mut i = at;
-    while i < s.len() {
-        let b = s[i];
-        let t = quoted::is_text(b);
-        if t {
-            i += 1;
-        } else {
-            return i;
-        }
+    while i < s.len() && quoted::is_text(s[i]) {
+        i += 1;
     }
     i
-}
-
-// What follows a field that ends at e.
-fn stop_at(s: &[u8], e: usize) -> Ended
-    requires { ⌜ e ≤ length (now s) ⌝ }
-    ensures { λ r. ⌜ StopAt (now (s .entry)) e r ⌝ }
-{
-    if s.len() <= e {
-        return Ended::End;
-    }
-    if s[e] == 0x2C {
-        return Ended::Comma(e);
-    }
-    if s[e] == 0x0D {
-        let lf = quoted::byte_is(s, e + 1, 0x0A);
-        if lf {
-            return Ended::Row(e);
-        }
-        return Ended::Bad;
-    }
-    Ended::Bad
 }
 
 // The field that starts at a place: where it ends, and what follows it.
@@ -60,15 +33,22 @@ pub fn field_end(s: &[u8], at: usize) -> Ended
     requires { ⌜ at ≤ length (now s) ⌝ }
     ensures { λ r. ⌜ FieldAt (now (s .entry)) at r ⌝ }
 {
-    let opened = quoted::byte_is(s, at, 0x22);
-    if opened {
-        let found = quoted::closing(s, at + 1);
-        match found {
-            Found::At(i) => stop_at(s, i + 1),
-            Found::Nothing => Ended::Bad,
+    let end = if quoted::byte_is(s, at, 0x22) {
+        match quoted::closing(s, at + 1) {
+            Found::At(i) => i + 1,
+            Found::Nothing => return Ended::Bad,
         }
     } else {
-        let end = plain_end(s, at);
-        stop_at(s, end)
+        plain_end(s, at)
+    };
+    if end == s.len() {
+        return Ended::End;
     }
+    if quoted::byte_is(s, end, 0x2C) {
+        return Ended::Comma(end);
+    }
+    if quoted::byte_is(s, end, 0x0D) & quoted::byte_is(s, end + 1, 0x0A) {
+        return Ended::Row(end);
+    }
+    Ended::Bad
 }

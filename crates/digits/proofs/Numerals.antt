@@ -4,12 +4,15 @@ use native.Mathlib.Numerals.{add-one}
 use native.Mathlib.Decide.{decLt}
 use native.Mathlib.Omega.{arith}
 use mathlib.Core.Path.{_≡_, refl, sym, ap, subst, _∙_}
+use mathlib.Core.Logic.{_⊎_, inl, inr}
+use mathlib.Core.Bool.{Bool, true, false, _&&_, _||_}
 use mathlib.Core.List.{List, [], _∷_, _++_}
 use native.Mathlib.Nat.{lt-of-lt-of-le, pow-le-pow-right}
-use lib.Dec.{lit<}
+use lib.Dec.{lit<, ltb, eqb}
 use lib.ListN.{length, getD, take, length-take, length-append, List·getD-append}
-use lib.Seq.{getD-at, take-suc}
+use lib.Seq.{getD-at, take-suc, take-all}
 use Rattle.rfc4180.proofs.Unique.{heads, tails, conses}
+use Rattle.decides.specs.Decides.{Decides, decided, refuted, decides-either, decides-both, decides-below, decides-equal}
 use Rattle.digits.specs.Numerals.{Numeral, one, more}
 
 pub numeral-some : {s : List ℕ} {n : ℕ} → Numeral s n → 1 ≤ length s
@@ -37,7 +40,7 @@ numeral-head (one h) l e = omega arith
 numeral-head (more {s} {d} g p h) l e =
     numeral-head p g (sym (List·getD-append s ((0x30 + d) ∷ []) 0 0 (numeral-some p)) ∙ e)
 
-pub numeral-zero : {s : List ℕ} {n : ℕ} → Numeral s n → 1 < length s → getD s 0 0 ≡ 0x30 → ⊥
+numeral-zero : {s : List ℕ} {n : ℕ} → Numeral s n → 1 < length s → getD s 0 0 ≡ 0x30 → ⊥
 numeral-zero (one h) l e = omega arith
 numeral-zero (more {s} {d} g p h) l e =
     numeral-head p g (sym (List·getD-append s ((0x30 + d) ∷ []) 0 0 (numeral-some p)) ∙ e)
@@ -49,21 +52,8 @@ numeral-bound (more {s} {d} g p h) =
     let e : length (s ++ (0x30 + d) ∷ []) ≡ suc (length s) = length-append s ((0x30 + d) ∷ []) ∙ add-one (length s) in
     rw e (omega arith)
 
-pub numeral-small : (k : ℕ) {s : List ℕ} {n : ℕ} → Numeral s n → length s ≤ k → n < 10 ^ k
+numeral-small : (k : ℕ) {s : List ℕ} {n : ℕ} → Numeral s n → length s ≤ k → n < 10 ^ k
 numeral-small k p h = lt-of-lt-of-le (numeral-bound p) (pow-le-pow-right (lit< tt) h)
-
-pub numeral-one : (x : ℕ) → 0x30 ≤ x → x ≤ 0x39 → Numeral (x ∷ []) (x - 0x30)
-numeral-one x h k =
-    let e : 0x30 + (x - 0x30) ≡ x = omega arith in
-    subst (λ (y : ℕ). Numeral (y ∷ []) (x - 0x30)) e (one (omega arith))
-
-pub numeral-more : (b : List ℕ) (i v : ℕ) → i < length b → 1 ≤ v → 0x30 ≤ getD b i 0 → getD b i 0 ≤ 0x39 → Numeral (take i b) v → Numeral (take (i + 1) b) (v * 10 + (getD b i 0 - 0x30))
-numeral-more b i v l g h k p =
-    let y = getD b i 0 in
-    let e : 0x30 + (y - 0x30) ≡ y = omega arith in
-    let t : take (i + 1) b ≡ take i b ++ (0x30 + (y - 0x30)) ∷ [] = rw (add-one, take-suc b i 0 l, e) in
-    let w : v * 10 + (y - 0x30) ≡ 10 * v + (y - 0x30) = omega arith in
-    rw (t, w) (more {d = y - 0x30} g p (omega arith))
 
 -- one value
 snoc : (s t : List ℕ) (x y : ℕ) → s ++ x ∷ [] ≡ t ++ y ∷ [] → (s ≡ t) × (x ≡ y)
@@ -84,14 +74,90 @@ numeral-unique (more {s} {d} g p h) (more {s = t} {d = c} f q k) e =
     let z = w .1 in
     omega arith
 
--- the first digit alone
-pub take-first : (b : List ℕ) → 1 ≤ length b → take 1 b ≡ getD b 0 0 ∷ []
-take-first [] h = absurd (omega arith)
-take-first (x ∷ b) h = refl
+-- a number of no worth has a zero in front
+zero-head : {s : List ℕ} {n : ℕ} → Numeral s n → n ≡ 0 → getD s 0 0 ≡ 0x30
+zero-head (one h) e = omega arith
+zero-head (more g p h) e = absurd (omega arith)
 
-pub numeral-first : (b : List ℕ) → 1 ≤ length b → 0x30 ≤ getD b 0 0 → getD b 0 0 ≤ 0x39 → Numeral (take 1 b) (getD b 0 0 - 0x30)
-numeral-first b l h k = rw take-first (numeral-one (getD b 0 0) h k)
+take-head : (s : List ℕ) (i : ℕ) → 0 < i → getD (take i s) 0 0 ≡ getD s 0 0
+take-head s zero h = absurd (omega arith)
+take-head [] (suc i) h = refl
+take-head (x ∷ s) (suc i) h = refl
 
--- at most eight of them leave room for one more
-pub room : (b : List ℕ) (i v : ℕ) → i < length b → length b ≤ 9 → Numeral (take i b) v → v < 100000000
-room b i v h k p = numeral-small 8 p (rw length-take (omega arith))
+-- no byte, or too many for a number
+pub lengths : (n : ℕ) → Decides (eqb n 0 || ltb 9 n) ((n ≡ 0) ⊎ (9 < n))
+lengths n = decides-either (n ≡ 0) (9 < n) (eqb n 0) (ltb 9 n) (decides-equal n 0) (decides-below 9 n)
+
+-- the first i bytes are read: there are none yet, or they are worth v
+pub data Passed (s : List ℕ) (i v : ℕ) : Type 0 where
+  nothing : i ≡ 0 → v ≡ 0 → Passed s i v
+  digits : 1 ≤ i → Numeral (take i s) v → Passed s i v
+
+-- a byte behind them that is no digit, or follows a leading zero
+abbrev Stops : ℕ → ℕ → ℕ → Type 0
+Stops b i v = ((b < 0x30) ⊎ (0x39 < b)) ⊎ ((0 < i) × (v ≡ 0))
+
+abbrev stops : ℕ → ℕ → ℕ → Bool
+stops b i v = (ltb b 0x30 || ltb 0x39 b) || (ltb 0 i && eqb v 0)
+
+stops-decides : (b i v : ℕ) → Decides (stops b i v) (Stops b i v)
+stops-decides b i v =
+    decides-either ((b < 0x30) ⊎ (0x39 < b)) ((0 < i) × (v ≡ 0)) (ltb b 0x30 || ltb 0x39 b) (ltb 0 i && eqb v 0)
+    (decides-either (b < 0x30) (0x39 < b) (ltb b 0x30) (ltb 0x39 b) (decides-below b 0x30) (decides-below 0x39 b))
+    (decides-both (0 < i) (v ≡ 0) (ltb 0 i) (eqb v 0) (decides-below 0 i) (decides-equal v 0))
+
+module _ (s : List ℕ) (i v : ℕ) where
+  pub passed-all : 1 ≤ length s → length s ≤ i → Passed s i v → Numeral s v
+  passed-all h k (nothing a b) = absurd (omega arith)
+  passed-all h k (digits a p) = subst (λ (l : List ℕ). Numeral l v) (take-all i s k) p
+
+  module _ (l : i < length s) where
+    abbrev b : ℕ
+    b = getD s i 0
+
+    -- at most eight digits leave room for one more
+    pub room : length s ≤ 9 → Passed s i v → v < 100000000
+    room h (nothing a e) = omega arith
+    room h (digits a p) = numeral-small 8 p (rw length-take (omega arith))
+
+    pub passed-stops : Passed s i v → stops b i v ≡ true → (n : ℕ) → Numeral s n → ⊥
+    passed-stops p e n q = none p (decided (stops b i v) e (stops-decides b i v))
+      where
+        none : Passed s i v → Stops b i v → ⊥
+        none p (inl (inl h)) = let d = numeral-digit q i l in omega arith
+        none p (inl (inr h)) = let d = numeral-digit q i l in omega arith
+        none (nothing a z) (inr h) = let k = h .0 in omega arith
+        none (digits a p) (inr h) = numeral-zero q (omega arith) (sym (take-head s i a) ∙ zero-head p (h .1))
+
+    -- one more digit
+    module _ (e : stops b i v ≡ false) where
+      goes-on : Stops b i v → ⊥
+      goes-on = refuted (stops b i v) e (stops-decides b i v)
+
+      pub digit : Digit b
+      digit =
+          let f : b < 0x30 → ⊥ = λ h. goes-on (inl (inl h)) in
+          let g : 0x39 < b → ⊥ = λ h. goes-on (inl (inr h)) in
+          omega arith
+
+      abbrev d : ℕ
+      d = b - 0x30
+
+      grown : Passed s i v → Numeral (take i s ++ (0x30 + d) ∷ []) (10 * v + d)
+      grown (nothing a z) =
+          let w : 10 * v + d ≡ d = omega arith in
+          let t : take i s ≡ [] = ap (λ (j : ℕ). take j s) a in
+          let h = digit in
+          rw (t, w) (one {d = d} (omega arith))
+      grown (digits a p) =
+          let f : v ≡ 0 → ⊥ = λ z. goes-on (inr (a, z)) in
+          let h = digit in
+          more {n = v} {d = d} (omega arith) p (omega arith)
+
+      pub passed-more : Passed s i v → Passed s (i + 1) (v * 10 + b - 0x30)
+      passed-more p =
+          let h = digit in
+          let x : 0x30 + d ≡ b = omega arith in
+          let t : take (i + 1) s ≡ take i s ++ (0x30 + d) ∷ [] = rw (add-one, take-suc s i 0 l, x) in
+          let w : v * 10 + b - 0x30 ≡ 10 * v + d = omega arith in
+          digits (omega arith) (rw (t, w) (grown p))

@@ -14,36 +14,18 @@ pub fn digits_of(content: &[u8]) -> Digits
     ensures { λ r. ⌜ DigitsAre (now (content .entry)) r ⌝ }
 {
     let n = content.len();
-    if n == 0 {
+    if (n == 0) | (9 < n) {
         return Digits::NoDigits;
     }
-    if 9 < n {
-        return Digits::NoDigits;
-    }
-    let first = content[0];
-    if first < 0x30 {
-        return Digits::NoDigits;
-    }
-    if 0x39 < first {
-        return Digits::NoDigits;
-    }
-    if first == 0x30 {
-        if n == 1 {
-            return Digits::Worth(0);
-        }
-        return Digits::NoDigits;
-    }
-    let mut worth = (first - 0x30) as u32;
-    let mut i: usize = 1;
+    let mut worth: u32 = 0;
+    let mut i: usize = 0;
     while i < n {
-        let b = content[i];
-        if b < 0x30 {
+        let b = content[i] as u32;
+        // not a digit, or behind a leading zero
+        if (b < 0x30) | (0x39 < b) | ((0 < i) & (worth == 0)) {
             return Digits::NoDigits;
         }
-        if 0x39 < b {
-            return Digits::NoDigits;
-        }
-        worth = worth * 10 + ((b - 0x30) as u32);
+        worth = worth * 10 + b - 0x30;
         i += 1;
     }
     Digits::Worth(worth)

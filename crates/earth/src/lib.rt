@@ -5,9 +5,8 @@
 use kinds::Kind;
 use kinds::Numbers;
 use table2::Coefficient;
-ghost use Prim.Native.Nat.{_≤_};
-ghost use Rattle.table2.specs.Table2.{table2-fill, Small};
-ghost use Rattle.earth.specs.Earth.{Pushed, Pressed, told};
+ghost use Rattle.table2.specs.Table2.{table2-fill};
+ghost use Rattle.earth.specs.Earth.{Pressed, told};
 
 // What an E row is told: the thrust toward +x in kN and its height above the base in mm, or a refusal.
 pub enum EarthAnswer {
@@ -16,27 +15,18 @@ pub enum EarthAnswer {
     Push { thrust: u64, arm: u64 },
 }
 
-// What a fill pushes with.
-fn push_of(found: Coefficient, height: u32, length: u32) -> EarthAnswer
-    requires { ⌜ Small found × (height ≤ 15000) × (length ≤ 60000) ⌝ }
-    ensures { λ r. ⌜ Pushed height length found (told r) ⌝ }
-{
-    match found {
-        Coefficient::Blank => EarthAnswer::NoCoefficient,
-        Coefficient::Value(k) => EarthAnswer::Push {
-            thrust: thrust::thrust_of(k as u64, height as u64, length as u64),
-            arm: thrust::arm_of(height as u64),
-        },
-    }
-}
-
 // The thrust of an E row's fill and its height above the base.
 pub fn pressure(row: Numbers) -> EarthAnswer
     ensures { λ r. ⌜ Pressed table2-fill row (told r) ⌝ }
 {
-    if ranges::is_ranged(Kind::E, row) {
-        let found = table2::look_up(row.n1.size, row.n2.size);
-        return push_of(found, row.n3.size, row.n4.size);
+    if !ranges::is_ranged(Kind::E, row) {
+        return EarthAnswer::OutOfRange;
     }
-    EarthAnswer::OutOfRange
+    match table2::look_up(row.n1.size, row.n2.size) {
+        Coefficient::Blank => EarthAnswer::NoCoefficient,
+        Coefficient::Value(k) => EarthAnswer::Push {
+            thrust: thrust::thrust_of(k as u64, row.n3.size as u64, row.n4.size as u64),
+            arm: thrust::arm_of(row.n3.size as u64),
+        },
+    }
 }

@@ -2,15 +2,20 @@
 use Prim.Native.Nat.{ℕ, suc, _-_, _≤_, _<_, suc-le-suc, zero-le}
 use native.Mathlib.Omega.{arith}
 use mathlib.Core.Path.{_≡_, refl, sym, ap, subst, _∙_}
+use mathlib.Core.Logic.{_⊎_, inl, inr}
+use mathlib.Core.Bool.{Bool, true, false, _&&_}
 use mathlib.Core.List.{List, [], _∷_}
+use lib.Dec.{eqb, ltb}
 use lib.ListN.{length, getD, take, drop}
 use lib.Seq.{take-all}
+use mir.Val.{boolByte}
+use borrow.Author.Tests.{ltb-true, eqb-true, eqb-false}
 use Rattle.rfc4180.proofs.Unique.{tails}
 use Rattle.rfc4180.specs.Rfc4180.{high, Plain, none, text}
 use Rattle.digits.specs.Numerals.{Digited}
 use Rattle.digits.proofs.Numerals.{Digit, numeral-some, numeral-digit, numeral-unique}
 use Rattle.quotes.specs.Content.{Bare}
-use Rattle.fields.specs.Numbers.{positive, negative, IsNumber, is-positive, is-negative, IsEmpty, EntryAt, ContentIs}
+use Rattle.fields.specs.Numbers.{positive, negative, IsNumber, is-positive, is-negative, IsEmpty, EntryAt}
 use Rattle.fields.specs.declared.Entry.{Entry}
 use Rattle.fields.specs.declared.Entered.{Entered}
 use Rattle.fields.specs.declared.Entered.the-variants.{Is, Wrong}
@@ -20,27 +25,45 @@ use Rattle.quotes.proofs.Contents.{bare-field, content-none}
 minus-digits : {s : List ℕ} {n : ℕ} → Digited s n → getD s 0 0 ≡ 0x2D → ⊥
 minus-digits d e = let h = numeral-digit (d .numeral) 0 (numeral-some (d .numeral)) in omega arith
 
+-- whether a content begins with a minus
+abbrev pub Signed : Bool → List ℕ → Type 0
+Signed true b = (0 < length b) × (getD b 0 0 ≡ 0x2D)
+Signed false b = 0 < length b → getD b 0 0 ≡ 0x2D → ⊥
+
+pub sign-told : (b : List ℕ) (m : Bool) → ((0 < length b) × (m ≡ eqb (getD b 0 0) 0x2D)) ⊎ ((length b ≤ 0) × (m ≡ ltb 0 (length b))) → Signed m b
+sign-told b true (inl w) = (w .0, eqb-true _ _ (sym (w .1)))
+sign-told b false (inl w) = λ h. eqb-false _ _ (sym (w .1))
+sign-told b true (inr w) = let h = ltb-true 0 (length b) (sym (w .1)) in absurd (omega arith)
+sign-told b false (inr w) = λ h e. omega arith
+
 behind-first : (b : List ℕ) → 0 < length b → b ≡ getD b 0 0 ∷ take (length b - 1) (drop 1 b)
 behind-first [] h = absurd (omega arith)
 behind-first (x ∷ b) h = ap (λ (l : List ℕ). x ∷ l) (sym (take-all (suc (length b) - 1) b (omega arith)))
 
-module _ (b : List ℕ) (h : 0 < length b) (m : getD b 0 0 ≡ 0x2D) where
-  abbrev behind : List ℕ
-  behind = take (length b - 1) (drop 1 b)
+-- what stands behind the minus, or all of the content
+module _ (b : List ℕ) where
+  abbrev behind : Bool → List ℕ
+  behind m = take (length b - boolByte m) (drop (boolByte m) b)
 
-  minus-first : b ≡ 0x2D ∷ behind
-  minus-first = behind-first b h ∙ ap (λ (x : ℕ). x ∷ behind) m
+  pub sign-within : (m : Bool) → Signed m b → boolByte m ≤ length b
+  sign-within true g = g .0
+  sign-within false g = zero-le
 
-  pub minus-number : (n : ℕ) → Digited behind n → (n ≡ 0 → ⊥) → IsNumber b (negative n)
-  minus-number n d z = is-negative minus-first d (omega arith) refl
+  all-behind : b ≡ behind false
+  all-behind = sym (take-all (length b - 0) b (omega arith))
 
-  pub minus-wrong : ((n : ℕ) → Digited behind n → 1 ≤ n → ⊥) → (e : Entry) → IsNumber b e → ⊥
-  minus-wrong w e (is-positive d q) = minus-digits d m
-  minus-wrong w e (is-negative {n = n} f d l q) = w n (subst (λ (x : List ℕ). Digited x n) (tails (sym f ∙ minus-first)) d) l
+  minus-first : Signed true b → b ≡ 0x2D ∷ behind true
+  minus-first g = behind-first b (g .0) ∙ ap (λ (x : ℕ). x ∷ behind true) (g .1)
 
-pub plus-wrong : (b : List ℕ) → (0 < length b → getD b 0 0 ≡ 0x2D → ⊥) → ((n : ℕ) → Digited b n → ⊥) → (e : Entry) → IsNumber b e → ⊥
-plus-wrong b m w e (is-positive {n} d q) = w n d
-plus-wrong b m w e (is-negative {s} f d l q) = m (rw f (omega arith)) (ap (λ (x : List ℕ). getD x 0 0) f)
+  pub number : (m : Bool) → Signed m b → (n : ℕ) → Digited (behind m) n → m && eqb n 0 ≡ false → IsNumber b (record { filled = true; minus = m; size = n })
+  number true g n d z = is-negative (minus-first g) d (let h = eqb-false n 0 z in omega arith) refl
+  number false g n d z = is-positive {n = n} (subst (λ (x : List ℕ). Digited x n) (sym all-behind) d) refl
+
+  pub no-number : (m : Bool) → Signed m b → ((n : ℕ) → Digited (behind m) n → m && eqb n 0 ≡ true) → (e : Entry) → IsNumber b e → ⊥
+  no-number true g w e (is-positive d q) = minus-digits d (g .1)
+  no-number true g w e (is-negative {n = n} f d l q) = let h = eqb-true n 0 (w n (subst (λ (x : List ℕ). Digited x n) (tails (sym f ∙ minus-first g)) d)) in omega arith
+  no-number false g w e (is-positive {n} d q) = let h = w n (subst (λ (x : List ℕ). Digited x n) all-behind d) in let z : _≡_ {A = ℕ} 0 1 = cc in omega arith
+  no-number false g w e (is-negative f d l q) = g (rw f (omega arith)) (ap (λ (x : List ℕ). getD x 0 0) f)
 
 -- a content is one number at most
 pub number-unique : {s : List ℕ} {a b : Entry} → IsNumber s a → IsNumber s b → a ≡ b
@@ -64,6 +87,11 @@ number-plain e c (is-negative {s} f d l q) = rw f (text {b = 0x2D} (high (omega 
 
 empty-plain : (e : Entry) (c : List ℕ) → IsEmpty c e → Plain c
 empty-plain e c h = rw (h .0) none
+
+-- the answer for a content
+abbrev pub ContentIs : (List ℕ → Entry → Type 0) → List ℕ → Entered → Type 0
+ContentIs F c (Is e) = F c e
+ContentIs F c Wrong = (e : Entry) → F c e → ⊥
 
 -- a field has a form exactly if the stretch between its quotes has it
 entry-field : (F : List ℕ → Entry → Type 0) → ((e : Entry) (c : List ℕ) → F c e → Plain c) → {raw r : List ℕ} → Bare raw r → (a : Entered) → ContentIs F r a → EntryAt F raw a

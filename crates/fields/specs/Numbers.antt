@@ -38,8 +38,3 @@ pub record EntryIn (F : List ℕ → Entry → Type 0) (raw : List ℕ) (e : Ent
 abbrev pub EntryAt : (List ℕ → Entry → Type 0) → List ℕ → Entered → Type 0
 EntryAt F raw (Is e) = EntryIn F raw e
 EntryAt F raw Wrong = (e : Entry) → EntryIn F raw e → ⊥
-
--- the answer for a content
-abbrev pub ContentIs : (List ℕ → Entry → Type 0) → List ℕ → Entered → Type 0
-ContentIs F c (Is e) = F c e
-ContentIs F c Wrong = (e : Entry) → F c e → ⊥

@@ -5,9 +5,7 @@
 // digits or nowhere, and never before a zero.
 use digits::Digits;
 ghost use mathlib.Core.Path.{_≡_};
-ghost use Prim.Native.Nat.{_<_};
-ghost use lib.ListN.{length, getD};
-ghost use Rattle.fields.specs.Numbers.{IsNumber, IsEmpty, absent, ContentIs, EntryAt};
+ghost use Rattle.fields.specs.Numbers.{IsNumber, IsEmpty, absent, EntryAt};
 
 // What a number field holds: nothing, or a number by its sign and size, and never a minus zero.
 pub struct Entry {
@@ -22,51 +20,26 @@ pub enum Entered {
     Wrong,
 }
 
-// The number that a content which begins with a minus is: below zero, and never -0.
-fn below_zero(content: &[u8]) -> Entered
-    requires { ⌜ (0 < length (now content)) × (getD (now content) 0 0 ≡ 0x2D) ⌝ }
-    ensures { λ r. ⌜ ContentIs IsNumber (now (content .entry)) r ⌝ }
-{
-    let d = digits::digits_of(&content[1..content.len()]);
-    let Digits::Worth(size) = d else {
-        return Entered::Wrong;
-    };
-    if size == 0 {
-        return Entered::Wrong;
-    }
-    Entered::Is(Entry {
-        filled: true,
-        minus: true,
-        size,
-    })
-}
-
-// The number that a content is.
-fn number_of(content: &[u8]) -> Entered
-    ensures { λ r. ⌜ ContentIs IsNumber (now (content .entry)) r ⌝ }
-{
-    if 0 < content.len() {
-        if content[0] == 0x2D {
-            return below_zero(content);
-        }
-    }
-    let d = digits::digits_of(content);
-    match d {
-        Digits::Worth(size) => Entered::Is(Entry {
-            filled: true,
-            minus: false,
-            size,
-        }),
-        Digits::NoDigits => Entered::Wrong,
-    }
-}
-
-// The number that a field is.
+// The number that a field is: digits, with a minus before them or not, and never -0.
 pub fn number_at(raw: &[u8]) -> Entered
     ensures { λ r. ⌜ EntryAt IsNumber (now (raw .entry)) r ⌝ }
 {
     let content = quotes::bare(raw);
-    number_of(content)
+    let minus = 0 < content.len() && content[0] == 0x2D;
+    // a minus stands before the digits
+    let from = minus as usize;
+    let d = digits::digits_of(&content[from..]);
+    let Digits::Worth(size) = d else {
+        return Entered::Wrong;
+    };
+    if minus & (size == 0) {
+        return Entered::Wrong;
+    }
+    Entered::Is(Entry {
+        filled: true,
+        minus,
+        size,
+    })
 }
 
 // A field left empty: what it holds.

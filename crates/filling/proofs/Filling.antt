@@ -1,6 +1,7 @@
 -- The table row by row, and how large its rows are; and no second table is meant.
 use mathlib.Core.Path.{_≡_, refl, sym, _∙_, ap, ap₂, subst, subst⁻¹}
 use mathlib.Core.List.{List}
+use mathlib.Core.Logic.{inr}
 use Prim.Native.Nat.{ℕ, zero, suc, _+_, _*_, _/_, _%_, _^_, _≤_, _<_}
 use native.Mathlib.Omega.{arith}
 use native.Mathlib.Numerals.{add-one}
@@ -12,15 +13,16 @@ use Rattle.sets.specs.declared.Combination.{Combination}
 use Rattle.sets.specs.declared.Loads.{Loads}
 use Rattle.sets.specs.declared.Sums.{Sums}
 use Rattle.sets.specs.Sets.{row, Bounded}
-use Rattle.sets.specs.Sums.{noSums, Room}
+use Rattle.sets.specs.Sums.{noSums, add, Room}
 use Rattle.sets.proofs.Adding.{room-none, room-add, room-more, room-row, low-place}
 use Rattle.choices.specs.declared.Stance.{Stance}
 use Rattle.choices.specs.declared.Stance.the-variants.{Never, Always, Either}
 use Rattle.choices.specs.Stance.{next, free, fixedBy, fixed, rowTerms, stanceAt}
 use Rattle.choices.proofs.Choices.{next-le, free-room}
-use Rattle.table_rows.specs.Table.{rowOf, cells}
+use Rattle.table_rows.specs.Table.{rowOf, cells, Puts}
+use Rattle.table_rows.proofs.Rows.{puts-own, puts-others}
 use Rattle.filling.specs.declared.Table.{Table}
-use Rattle.filling.specs.Filling.{Grows, Filled}
+use Rattle.filling.specs.Filling.{Filled}
 
 -- nothing but zeros
 zeros : (n i : ℕ) → _≡_ {A = ℕ} (getD (replicate n 0) i 0) 0
@@ -29,6 +31,54 @@ zeros (suc n) zero = refl
 zeros (suc n) (suc i) = zeros n i
 
 -- ---- the table, one row more
+-- r is the table with one row more
+pub record Grows (table : Table) (stance : Stance) (sums : Sums) (r : Table) : Type 0 where
+  pub count : r .free ≡ next stance (table .free)
+  pub always : r .fixed ≡ fixedBy stance (table .fixed) sums
+  pub own : stance ≡ Either → rowOf (r .terms) (table .free) ≡ sums
+  pub others : (i : ℕ) → i < table .free → rowOf (r .terms) i ≡ rowOf (table .terms) i
+  pub rest : (i : ℕ) → 13 * r .free ≤ i → getD (r .terms) i 0 ≡ getD (table .terms) i 0
+  pub size : length (r .terms) ≡ length (table .terms)
+
+never-not : _≡_ {A = Stance} Never Either → ⊥
+never-not q = let z : _≡_ {A = ℕ} 0 1 = cc in omega arith
+
+always-not : _≡_ {A = Stance} Always Either → ⊥
+always-not q = let z : _≡_ {A = ℕ} 0 1 = cc in omega arith
+
+module _ (table r : Table) (sums : Sums) {a : Stance} where
+  -- a row that is not free writes no terms
+  unwritten : (b : Stance) → (b ≡ Either → ⊥) → a ≡ b → r .terms ≡ table .terms → r .free ≡ next b (table .free) → r .fixed ≡ fixedBy b (table .fixed) sums → Grows table a sums r
+  unwritten b n e t f s =
+      record {
+        count = f ∙ ap (λ (k : Stance). next k (table .free)) (sym e);
+        always = s ∙ ap (λ (k : Stance). fixedBy k (table .fixed) sums) (sym e);
+        own = λ d. absurd (n (sym e ∙ d));
+        others = λ i h. ap (λ (l : List ℕ). rowOf l i) t;
+        rest = λ i h. ap (λ (l : List ℕ). getD l i 0) t;
+        size = ap length t;
+      }
+
+  pub grows-never : a ≡ Never → r .terms ≡ table .terms → r .free ≡ table .free → r .fixed ≡ table .fixed → Grows table a sums r
+  unfolding next fixedBy
+  grows-never = unwritten Never never-not
+
+  pub grows-always : a ≡ Always → r .terms ≡ table .terms → r .free ≡ table .free → r .fixed ≡ add (table .fixed) sums → Grows table a sums r
+  unfolding next fixedBy
+  grows-always = unwritten Always always-not
+
+  pub grows-free : a ≡ Either → Puts (table .terms) (table .free) sums (r .terms) → r .free ≡ table .free + 1 → r .fixed ≡ table .fixed → Grows table a sums r
+  unfolding next fixedBy
+  grows-free e p f s =
+      record {
+        count = f ∙ add-one _ ∙ ap (λ (k : Stance). next k (table .free)) (sym e);
+        always = s ∙ ap (λ (k : Stance). fixedBy k (table .fixed) sums) (sym e);
+        own = λ _. puts-own p;
+        others = puts-others p;
+        rest = λ i h. p .others i (inr (omega arith));
+        size = p .size;
+      }
+
 module _ (combination : Combination) (width : ℕ) (loads : Loads) where
   pub filled-none : (table : Table) → table .terms ≡ replicate 208 0 → table .free ≡ 0 → table .fixed ≡ noSums → Filled combination width loads 0 table
   unfolding free fixed

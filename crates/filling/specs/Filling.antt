@@ -4,21 +4,10 @@ use Prim.Native.Nat.{ℕ, _*_, _≤_, _<_}
 use lib.ListN.{getD, length}
 use Rattle.sets.specs.declared.Combination.{Combination}
 use Rattle.sets.specs.declared.Loads.{Loads}
-use Rattle.sets.specs.declared.Sums.{Sums}
-use Rattle.choices.specs.declared.Stance.{Stance}
 use Rattle.choices.specs.declared.Stance.the-variants.{Either}
-use Rattle.choices.specs.Stance.{next, free, fixedBy, fixed, rowTerms, stanceAt}
+use Rattle.choices.specs.Stance.{free, fixed, rowTerms, stanceAt}
 use Rattle.table_rows.specs.Table.{rowOf}
 use Rattle.filling.specs.declared.Table.{Table}
-
--- r is the table with one row more
-pub record Grows (table : Table) (stance : Stance) (sums : Sums) (r : Table) : Type 0 where
-  pub count : r .free ≡ next stance (table .free)
-  pub always : r .fixed ≡ fixedBy stance (table .fixed) sums
-  pub own : stance ≡ Either → rowOf (r .terms) (table .free) ≡ sums
-  pub others : (i : ℕ) → i < table .free → rowOf (r .terms) i ≡ rowOf (table .terms) i
-  pub rest : (i : ℕ) → 13 * r .free ≤ i → getD (r .terms) i 0 ≡ getD (table .terms) i 0
-  pub size : length (r .terms) ≡ length (table .terms)
 
 -- the table of the first n rows: each free one at the place that is the number of free rows before it, and 0 past the last
 pub record Filled (combination : Combination) (width : ℕ) (loads : Loads) (n : ℕ) (table : Table) : Type 0 where

@@ -6,47 +6,15 @@ use choices::Stance;
 use sets::Combination;
 use sets::Loads;
 use sets::Sums;
-ghost use Prim.Native.Nat.{_<_, _≤_};
+ghost use Prim.Native.Nat.{_≤_};
 ghost use Rattle.sets.specs.Sets.{Bounded};
-ghost use Rattle.sets.specs.Sums.{Room};
-ghost use Rattle.filling.specs.Filling.{Grows, Filled};
+ghost use Rattle.filling.specs.Filling.{Filled};
 
 // The rows of a combination: the terms of its free rows, 13 numbers each, how many they are, and the sums of the rows in every set.
 pub struct Table {
     pub terms: [u64; 208],
     pub free: usize,
     pub fixed: Sums,
-}
-
-// The table with one row more.
-fn grown(table: Table, stance: Stance, sums: Sums) -> Table
-    requires { ⌜ table .free < 16 ⌝ }
-    requires { ⌜ Room 64 (table .fixed) ⌝ }
-    requires { ⌜ Room 64 sums ⌝ }
-    ensures { λ r. ⌜ Grows table stance sums r ⌝ }
-{
-    let terms = table.terms;
-    let free = table.free;
-    let fixed = table.fixed;
-    match stance {
-        Stance::Never => table,
-        Stance::Always => {
-            let more = sets::add_sums(fixed, sums);
-            Table {
-                terms,
-                free,
-                fixed: more,
-            }
-        }
-        Stance::Either => {
-            let next = table_rows::put_row(terms, free, sums);
-            Table {
-                terms: next,
-                free: free + 1,
-                fixed,
-            }
-        }
-    }
 }
 
 // The table of a combination.
@@ -56,23 +24,28 @@ pub fn fill(combination: Combination, width: u64, loads: Loads) -> Table
     ensures { λ r. ⌜ Filled combination width loads (loads .count) r ⌝ }
 {
     let count = loads.count;
-    let terms = [0u64; 208];
-    let fixed = sets::no_sums();
-    let mut table = Table {
-        terms,
-        free: 0,
-        fixed,
-    };
+    let mut terms = [0u64; 208];
+    let mut free: usize = 0;
+    let mut fixed = sets::no_sums();
     let mut place: u64 = 1;
     let mut i: usize = 0;
     while i < count {
         let load = loads.loads[i];
         let stance = choices::stance_of(combination, load);
         let sums = row_terms::terms_of(width, load, place);
-        let next = grown(table, stance, sums);
-        table = next;
+        match stance {
+            Stance::Never => {}
+            Stance::Always => {
+                fixed = sets::add_sums(fixed, sums);
+            }
+            Stance::Either => {
+                let next = table_rows::put_row(terms, free, sums);
+                terms = next;
+                free = free + 1;
+            }
+        }
         place = 2 * place;
         i = i + 1;
     }
-    table
+    Table { terms, free, fixed }
 }

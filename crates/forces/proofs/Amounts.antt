@@ -1,23 +1,28 @@
 -- An amount by its sign and size: zero has no sign, the sizes multiply, and what a row's columns hold bounds what it exerts.
 use mathlib.Core.Path.{_≡_, refl, sym, _∙_, ap}
-use mathlib.Core.Bool.{Bool, true, false, cond}
+use mathlib.Core.Bool.{Bool, true, false, not, _&&_, cond}
 use Prim.Native.Nat.{ℕ, zero, suc, _*_}
+use native.Mathlib.Omega.{arith}
 use native.Mathlib.Nat.{zero-mul}
+use borrow.Author.Tests.{eqb-true}
+use lib.Dec.{eqb}
 use lib.IntN.{ℤ, pos, negsuc, negℤ, natAbs, _*ℤ_}
 use Rattle.fields.specs.declared.Entry.{Entry}
 use Rattle.ranges.specs.Range.{value}
 use Rattle.signed.specs.Whole.{signed, amount}
 
-pub amount-zero : (minus : Bool) (size : ℕ) → size ≡ 0 → record { minus = false; size = 0 } ≡ amount (signed minus size)
+pub amount-is : (minus : Bool) (size : ℕ) → record { minus = minus && not (eqb size 0); size = size } ≡ amount (signed minus size)
 unfolding signed amount
-amount-zero true size e = rw e
-amount-zero false size e = rw e
-
-pub amount-some : (minus : Bool) (size : ℕ) → (size ≡ 0 → ⊥) → record { minus = minus; size = size } ≡ amount (signed minus size)
-unfolding signed amount
-amount-some true zero n = absurd (n refl)
-amount-some true (suc size) n = refl
-amount-some false size n = refl
+amount-is true zero = refl
+amount-is true (suc size) = rw (eqb-suc size)
+  where
+    eqb-suc : (n : ℕ) → eqb (suc n) 0 ≡ false
+    eqb-suc n = from (eqb (suc n) 0) (eqb-true (suc n) 0)
+      where
+        from : (r : Bool) → (r ≡ true → suc n ≡ 0) → r ≡ false
+        from true f = let e = f refl in absurd (omega arith)
+        from false f = refl
+amount-is false size = refl
 
 -- an entry's number by its sign and size
 pub value-signed : (e : Entry) → signed (e .minus) (e .size) ≡ value e

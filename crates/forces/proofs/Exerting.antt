@@ -4,6 +4,10 @@ use mathlib.Core.Bool.{Bool, true, false}
 use Prim.Native.Nat.{ℕ, _*_, _≤_}
 use native.Mathlib.Omega.{arith}
 use native.Mathlib.Nat.{le-trans, mul-le-mul}
+use mathlib.Core.Logic.{⊎-elim}
+use mathlib.Core.List.{[], _∷_}
+use types.Run.{OneOf}
+use denote.Enum.Declared.{tagOf}
 use lib.Dec.{lit≤}
 use lib.IntN.{_*ℤ_}
 use Rattle.fields.specs.declared.Entry.{Entry}
@@ -15,7 +19,10 @@ use Rattle.kinds.specs.Table.{load-columns}
 use Rattle.ranges.specs.Range.{Around, InColumns, Ranged, value}
 use Rattle.table2.specs.declared.Coefficient.{Coefficient}
 use Rattle.table2.specs.Table2.{Small}
-use Rattle.earth.specs.Earth.{Told, refused, Pushed, blank, Pressed, out-of-range, in-range}
+use Rattle.earth.specs.declared.EarthAnswer.{EarthAnswer}
+use Rattle.earth.specs.declared.EarthAnswer.the-variants.{OutOfRange, NoCoefficient, Push}
+use Rattle.earth.proofs.EarthAnswer.{the-type}
+use Rattle.earth.specs.Earth.{Told, told, refused, Pushed, blank, Pressed, out-of-range, in-range}
 use Rattle.earth.specs.Earth as earth
 use Rattle.earth.proofs.Bounds.{pressed-modest}
 use Rattle.signed.specs.declared.Amount.{Amount}
@@ -84,6 +91,12 @@ pressed-not (in-range q s) e r = pushed-not s e
 
 pub in-range-not : {fill : ℕ → ℕ → Coefficient} {row : Numbers} → Pressed fill row (refused 11) → Ranged E row → ⊥
 in-range-not p r = pressed-not p refl r
+
+-- an E row in range that asks at no blank place has a push
+pub pushes : {fill : ℕ → ℕ → Coefficient} {row : Numbers} (a : EarthAnswer) → OneOf (0 ∷ 1 ∷ []) (tagOf the-type a) → Pressed fill row (told a) → Ranged E row → (Pressed fill row (refused 15) → ⊥) → ⊥
+pushes OutOfRange h p r n = in-range-not p r
+pushes NoCoefficient h p r n = n p
+pushes (Push thrust arm) h p r n = ⊎-elim (λ (e : _≡_ {A = ℕ} 2 0). omega arith) (λ (e : _≡_ {A = ℕ} 2 1). omega arith) h
 
 -- ---- how large a load is
 earth-bounded : {H y : ℕ} {load : Load} → H ≤ 300000 → H * y ≤ 3000000000 → EarthLoad H y load → BoundedLoad load

@@ -22,13 +22,10 @@ ghost use Rattle.forces.specs.Exerts.{OwnForces, EarthLoad, Exerts};
 fn amount_of(minus: bool, size: u64) -> Amount
     ensures { λ r. ⌜ r ≡ amount (signed minus size) ⌝ }
 {
-    if size == 0 {
-        return Amount {
-            minus: false,
-            size: 0,
-        };
+    Amount {
+        minus: minus & (size != 0),
+        size,
     }
-    Amount { minus, size }
 }
 
 // The load of an earth pressure.
@@ -49,32 +46,21 @@ fn earth_load(class: Class, phase: u32, thrust: u64, arm: u64) -> Load
     }
 }
 
-fn wide(n: u32) -> u64
-    ensures { λ r. ⌜ r ≡ n ⌝ }
-{
-    n as u64
-}
-
 // The load of a row's own numbers.
-fn own_load(class: Class, phase: u32, numbers: Numbers) -> Load
+fn own_load(class: Class, numbers: Numbers) -> Load
     requires { ⌜ (numbers .n3 .size ≤ 50000) × (numbers .n4 .size ≤ 60000) × (numbers .n4 .minus ≡ false) ⌝ }
-    ensures { λ r. ⌜ (r .class ≡ class) × (r .phase ≡ phase) × OwnForces numbers r ⌝ }
+    ensures { λ r. ⌜ (r .class ≡ class) × (r .phase ≡ numbers .n5 .size) × OwnForces numbers r ⌝ }
 {
-    let n1 = numbers.n1;
-    let n2 = numbers.n2;
-    let n3 = numbers.n3;
-    let n4 = numbers.n4;
-    let v = amount_of(n1.minus, wide(n1.size));
-    let x = amount_of(n2.minus, wide(n2.size));
-    let h = amount_of(n3.minus, wide(n3.size));
-    let twist = amount_of(n3.minus, wide(n3.size) * wide(n4.size));
     Load {
         class,
-        phase,
-        v,
-        x,
-        h,
-        twist,
+        phase: numbers.n5.size,
+        v: amount_of(numbers.n1.minus, numbers.n1.size as u64),
+        x: amount_of(numbers.n2.minus, numbers.n2.size as u64),
+        h: amount_of(numbers.n3.minus, numbers.n3.size as u64),
+        twist: amount_of(
+            numbers.n3.minus,
+            numbers.n3.size as u64 * numbers.n4.size as u64,
+        ),
     }
 }
 
@@ -87,14 +73,17 @@ pub fn exert(row: Row) -> Load
     let kind = row.kind;
     let numbers = row.numbers;
     let class = classes::class_of(kind);
-    let phase = numbers.n5.size;
     match classes::source_of(kind) {
-        Source::Absent => earth_load(class, phase, 0, 0),
+        Source::Absent => earth_load(class, numbers.n5.size, 0, 0),
         Source::Earth => match earth::pressure(numbers) {
-            EarthAnswer::OutOfRange => earth_load(class, phase, 0, 0),
-            EarthAnswer::NoCoefficient => earth_load(class, phase, 0, 0),
-            EarthAnswer::Push { thrust, arm } => earth_load(class, phase, thrust, arm),
+            EarthAnswer::OutOfRange | EarthAnswer::NoCoefficient => earth_load(
+                class,
+                numbers.n5.size,
+                0,
+                0,
+            ),
+            EarthAnswer::Push { thrust, arm } => earth_load(class, numbers.n5.size, thrust, arm),
         },
-        Source::Written => own_load(class, phase, numbers),
+        Source::Written => own_load(class, numbers),
     }
 }

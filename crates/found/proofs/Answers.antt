@@ -3,8 +3,8 @@ use Prim.Native.Nat.{ℕ}
 use native.Mathlib.Omega.{arith}
 use mathlib.Core.Path.{_≡_, sym, _∙_}
 use Rattle.refusals.specs.declared.Refusal.{Refusal}
-use Rattle.book.specs.declared.Count.{Count}
-use Rattle.book.specs.declared.Count.the-variants.{Given, Refused}
+use Rattle.counted.specs.declared.Count.{Count}
+use Rattle.counted.specs.declared.Count.the-variants.{Given, Refused}
 use Rattle.found.specs.FoundAt.{FoundIs, refused, at-none, past, within}
 use Rattle.found.specs.declared.Found.{Found}
 use Rattle.found.specs.declared.Found.the-variants.{There, Book, NoPlace}

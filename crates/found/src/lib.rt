@@ -2,7 +2,7 @@
 //
 // What is hard is only the order: the place is looked at behind the book's own refusal, 1 to 6, and never instead of it, since only a
 // book that is given has jobs to count.
-use book::Count;
+use counted::Count;
 use refusals::Refusal;
 ghost use Rattle.found.specs.FoundAt.{FoundIs};
 

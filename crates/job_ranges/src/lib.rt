@@ -39,5 +39,9 @@ pub fn rows_ranged(job: Job) -> bool
     let base = ranges::is_ranged(Kind::B, job.base);
     let scour = ranges::is_ranged(Kind::S, job.scour);
     let clearance = ranges::is_ranged(Kind::C, job.clearance);
-    base & (scour | !has_scour(stage)) & (clearance | !has_clearance(stage))
+    match stage {
+        Stage::Unbegun | Stage::Dry => base,
+        Stage::Scoured => base & scour,
+        Stage::Crossed => base & scour & clearance,
+    }
 }

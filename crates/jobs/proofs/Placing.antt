@@ -12,9 +12,17 @@ use Rattle.placing.specs.Fits.{Fits}
 use Rattle.placing.specs.declared.Stage.{Stage}
 use Rattle.placing.proofs.Placing.{fits-map}
 use Rattle.jobs.specs.Place.{InPlace, with-row}
-use Rattle.jobs.specs.Taking.{told, answer-to, Says}
+use Rattle.jobs.specs.Taking.{told, Says}
 use Rattle.jobs.specs.declared.Job.{Job}
 use Rattle.jobs.specs.declared.Took.{Took}
+use Rattle.jobs.specs.declared.Took.the-variants.{Started, Joined}
+
+-- a B row starts a job, and any other joins one
+abbrev pub answer-to : Role → Took
+answer-to Base = Started
+answer-to Scour = Joined
+answer-to Clearance = Joined
+answer-to Load = Joined
 
 -- a load row in place has less than 16 before it
 pub bears-few : (x : Role) (s : Stage) (count : ℕ) (same : Type 0) → Fits x s count same → x ≡ Load → count < 16

@@ -10,11 +10,24 @@ use Rattle.keys.specs.Keyed.{no-row}
 use Rattle.keys.specs.declared.Keyed.{Keyed}
 use Rattle.jobs.specs.declared.Job.{Job}
 use Rattle.placing.specs.Fits.{Fits}
+use Rattle.placing.specs.declared.Stage.{Stage}
 use Rattle.placing.specs.declared.Stage.the-variants.{Unbegun, Dry, Scoured, Crossed}
 
 -- a row is in place behind the rows that the job has
 abbrev pub InPlace : Job → Keyed → Type 0
 InPlace j r = Fits (role (r .row .kind)) (j .stage) (j .count) (j .key ≡ r .key)
+
+-- a job at a stage, with a row for its base and no other rows
+abbrev pub based : Stage → Keyed → Job
+based s r = record {
+  stage = s;
+  key = r .key;
+  base = r .row .numbers;
+  scour = blank-numbers;
+  clearance = blank-numbers;
+  count = 0;
+  loads = replicate 16 (no-row .row);
+}
 
 -- no job yet, with no rows in it
 abbrev pub no-job : Job

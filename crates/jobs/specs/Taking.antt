@@ -2,8 +2,7 @@
 use Prim.Native.Nat.{ℕ}
 use mathlib.Core.Path.{_≡_}
 use Rattle.kinds.specs.Table.{role}
-use Rattle.kinds.specs.declared.Role.{Role}
-use Rattle.kinds.specs.declared.Role.the-variants.{Base, Scour, Clearance, Load}
+use Rattle.kinds.specs.declared.Role.the-variants.{Base}
 use Rattle.keys.specs.declared.Keyed.{Keyed}
 use Rattle.jobs.specs.Place.{InPlace, grown}
 use Rattle.jobs.specs.declared.Job.{Job}
@@ -21,13 +20,6 @@ abbrev pub told : Took → Told
 told Started = starts
 told Joined = joins
 told OutOfPlace = refused 4
-
--- a B row starts a job, and any other joins one
-abbrev pub answer-to : Role → Took
-answer-to Base = Started
-answer-to Scour = Joined
-answer-to Clearance = Joined
-answer-to Load = Joined
 
 -- exactly when, and the job that comes of it: taken, with exactly that row more; refused, and the job as it stood
 abbrev pub Says : Job → Keyed → Told → Job → Type 0

@@ -14,9 +14,9 @@ use placing::Stage;
 ghost use mathlib.Core.Path.{_≡_};
 ghost use Prim.Native.Nat.{_<_};
 ghost use Rattle.kinds.specs.Table.{role};
-ghost use Rattle.kinds.specs.declared.Role.the-variants.{Base, Scour, Clearance, Load};
-ghost use Rattle.jobs.specs.Place.{no-job, with-row};
-ghost use Rattle.jobs.specs.Taking.{answer-to, TakenIs};
+ghost use Rattle.kinds.specs.declared.Role.the-variants.{Base, Load};
+ghost use Rattle.jobs.specs.Place.{based, no-job, with-row};
+ghost use Rattle.jobs.specs.Taking.{TakenIs};
 
 // A job as it stands: its key, and the numbers of its rows, blank where it has none.
 pub struct Job {
@@ -42,112 +42,40 @@ pub struct Taken {
     pub job: Job,
 }
 
+// A job at a stage, with a row for its base and no other rows.
+fn fresh(stage: Stage, row: Keyed) -> Job
+    ensures { λ r. ⌜ r ≡ based stage row ⌝ }
+{
+    let key = row.key;
+    let base = row.row.numbers;
+    let none = keys::blank_row();
+    let blank = none.row;
+    let numbers = blank.numbers;
+    Job {
+        stage,
+        key,
+        base,
+        scour: numbers,
+        clearance: numbers,
+        count: 0,
+        loads: [blank; 16],
+    }
+}
+
 // No job yet.
 pub fn blank_job() -> Job
     ensures { λ r. ⌜ r ≡ no-job ⌝ }
 {
     let none = keys::blank_row();
-    let key = none.key;
-    let row = none.row;
-    let numbers = row.numbers;
-    Job {
-        stage: Stage::Unbegun,
-        key,
-        base: numbers,
-        scour: numbers,
-        clearance: numbers,
-        count: 0,
-        loads: [row; 16],
-    }
+    fresh(Stage::Unbegun, none)
 }
 
-// A job of one row, its B row.
-fn begun(row: Keyed) -> Job
-    ensures { λ r. ⌜ r ≡ with-row Base no-job row ⌝ }
+// What a row is to its job.
+fn role_of(row: Keyed) -> Role
+    ensures { λ r. ⌜ r ≡ role (row .row .kind) ⌝ }
 {
-    let none = blank_job();
-    let key = row.key;
-    let base = row.row.numbers;
-    let numbers = none.scour;
-    let loads = none.loads;
-    Job {
-        stage: Stage::Dry,
-        key,
-        base,
-        scour: numbers,
-        clearance: numbers,
-        count: 0,
-        loads,
-    }
-}
-
-fn scoured(job: Job, row: Keyed) -> Job
-    ensures { λ r. ⌜ r ≡ with-row Scour job row ⌝ }
-{
-    let key = job.key;
-    let base = job.base;
-    let scour = row.row.numbers;
-    let clearance = job.clearance;
-    let loads = job.loads;
-    Job {
-        stage: Stage::Scoured,
-        key,
-        base,
-        scour,
-        clearance,
-        count: job.count,
-        loads,
-    }
-}
-
-fn crossed(job: Job, row: Keyed) -> Job
-    ensures { λ r. ⌜ r ≡ with-row Clearance job row ⌝ }
-{
-    let key = job.key;
-    let base = job.base;
-    let scour = job.scour;
-    let clearance = row.row.numbers;
-    let loads = job.loads;
-    Job {
-        stage: Stage::Crossed,
-        key,
-        base,
-        scour,
-        clearance,
-        count: job.count,
-        loads,
-    }
-}
-
-fn borne(job: Job, row: Keyed) -> Job
-    requires { ⌜ job .count < 16 ⌝ }
-    ensures { λ r. ⌜ r ≡ with-row Load job row ⌝ }
-{
-    let mut next = job;
-    let at = job.count;
     let load = row.row;
-    next.loads[at] = load;
-    next.count = at + 1;
-    next
-}
-
-// The job with exactly this row more.
-fn with_row(role: Role, job: Job, row: Keyed) -> Job
-    requires { ⌜ (role ≡ Load → job .count < 16) ⌝ }
-    ensures { λ r. ⌜ r ≡ with-row role job row ⌝ }
-{
-    match role {
-        Role::Base => begun(row),
-        Role::Scour => scoured(job, row),
-        Role::Clearance => crossed(job, row),
-        Role::Load => borne(job, row),
-    }
-}
-
-// What a row of a kind is to its job.
-fn role_of(kind: Kind) -> Role
-    ensures { λ r. ⌜ r ≡ role kind ⌝ }
-{
+    let kind = load.kind;
     match kind {
         Kind::B => Role::Base,
         Kind::S => Role::Scour,
@@ -167,15 +95,41 @@ fn role_of(kind: Kind) -> Role
     }
 }
 
-// A B row starts a job, and any other joins one.
-fn answer_to(role: Role) -> Took
-    ensures { λ r. ⌜ r ≡ answer-to role ⌝ }
+// The job with exactly this row more, which is no B row.
+fn joined(role: Role, job: Job, row: Keyed) -> Job
+    requires { ⌜ (role ≡ Base → ⊥) × (role ≡ Load → job .count < 16) ⌝ }
+    ensures { λ r. ⌜ r ≡ with-row role job row ⌝ }
 {
+    let mut stage = job.stage;
+    let mut scour = job.scour;
+    let mut clearance = job.clearance;
+    let mut count = job.count;
+    let mut loads = job.loads;
     match role {
-        Role::Base => Took::Started,
-        Role::Scour => Took::Joined,
-        Role::Clearance => Took::Joined,
-        Role::Load => Took::Joined,
+        Role::Scour => {
+            stage = Stage::Scoured;
+            scour = row.row.numbers;
+        }
+        Role::Clearance => {
+            stage = Stage::Crossed;
+            clearance = row.row.numbers;
+        }
+        Role::Base | Role::Load => {
+            let load = row.row;
+            loads[count] = load;
+            count += 1;
+        }
+    }
+    let key = job.key;
+    let base = job.base;
+    Job {
+        stage,
+        key,
+        base,
+        scour,
+        clearance,
+        count,
+        loads,
     }
 }
 
@@ -184,22 +138,26 @@ impl Job {
     pub fn take(self, row: Keyed) -> Taken
         ensures { λ r. ⌜ TakenIs self row r ⌝ }
     {
-        let load = row.row;
-        let kind = load.kind;
-        let role = role_of(kind);
+        let role = role_of(row);
         let stage = self.stage;
         let key = self.key;
         let other = row.key;
         let same = keys::same_key(key, other);
         let good = placing::fits(role, stage, self.count, same);
-        if !good {
-            return Taken {
-                answer: Took::OutOfPlace,
-                job: self,
-            };
+        let mut answer = Took::OutOfPlace;
+        let mut job = self;
+        if good {
+            match role {
+                Role::Base => {
+                    answer = Took::Started;
+                    job = fresh(Stage::Dry, row);
+                }
+                Role::Scour | Role::Clearance | Role::Load => {
+                    answer = Took::Joined;
+                    job = joined(role, self, row);
+                }
+            }
         }
-        let answer = answer_to(role);
-        let job = with_row(role, self, row);
         Taken { answer, job }
     }
 }

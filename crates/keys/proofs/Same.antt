@@ -1,20 +1,33 @@
--- Names and keys by their bytes.
-use Prim.Native.Nat.{ℕ, _<_}
+-- Keys by the bytes and the lengths of their two names.
+use Prim.Native.Nat.{ℕ}
 use mathlib.Core.Path.{_≡_, ap}
-use mathlib.Core.Bool.{Bool, true, false}
-use mathlib.Core.List.{List}
+use mathlib.Core.Bool.{Bool, _&&_}
 use lib.ListN.{getD}
-use Rattle.decides.specs.Decides.{Decides}
-use Rattle.names.specs.declared.Name.{Name}
+use lib.Dec.{eqb}
+use Rattle.decides.specs.Decides.{Decides, decides-same, decides-both, decides-equal}
 use Rattle.keys.specs.declared.Key.{Key}
 
-abbrev pub Agree : List ℕ → List ℕ → ℕ → Type 0
-Agree a b i = (j : ℕ) → j < i → getD a j 0 ≡ getD b j 0
+both : (x y z w : ℕ) → Decides (eqb x y && eqb z w) ((x ≡ y) × (z ≡ w))
+both x y z w = decides-both (x ≡ y) (z ≡ w) (eqb x y) (eqb z w) (decides-equal x y) (decides-equal z w)
 
-pub name-decides : (a b : Name) → a .len ≡ b .len → (r : Bool) → Decides r (a .bytes ≡ b .bytes) → Decides r (a ≡ b)
-name-decides a b l true h = λ i. record { len = l i; bytes = h i }
-name-decides a b l false h = λ e. h (ap (λ (n : Name). n .bytes) e)
+module _ (a b : Key) where
+  -- the letters of both names at a place
+  abbrev pub Alike : ℕ → Type 0
+  Alike i = (getD (a .member .bytes) i 0 ≡ getD (b .member .bytes) i 0) × (getD (a .job .bytes) i 0 ≡ getD (b .job .bytes) i 0)
 
-pub key-decides : (a b : Key) → a .member ≡ b .member → (r : Bool) → Decides r (a .job ≡ b .job) → Decides r (a ≡ b)
-key-decides a b m true h = λ i. record { member = m i; job = h i }
-key-decides a b m false h = λ e. h (ap (λ (k : Key). k .job) e)
+  abbrev pub alike : ℕ → Bool
+  alike i = eqb (getD (a .member .bytes) i 0) (getD (b .member .bytes) i 0) && eqb (getD (a .job .bytes) i 0) (getD (b .job .bytes) i 0)
+
+  pub alike-decides : (i : ℕ) → Decides (alike i) (Alike i)
+  alike-decides i = both (getD (a .member .bytes) i 0) (getD (b .member .bytes) i 0) (getD (a .job .bytes) i 0) (getD (b .job .bytes) i 0)
+
+  pub alike-of : (i : ℕ) → a ≡ b → Alike i
+  alike-of i e = (ap (λ (x : Key). getD (x .member .bytes) i 0) e, ap (λ (x : Key). getD (x .job .bytes) i 0) e)
+
+  -- with the same letters, the lengths decide
+  pub key-decides : a .member .bytes ≡ b .member .bytes → a .job .bytes ≡ b .job .bytes → Decides (eqb (a .member .len) (b .member .len) && eqb (a .job .len) (b .job .len)) (a ≡ b)
+  key-decides m j =
+      decides-same (eqb (a .member .len) (b .member .len) && eqb (a .job .len) (b .job .len))
+      (λ w. λ i. record { member = record { len = w .0 i; bytes = m i }; job = record { len = w .1 i; bytes = j i } })
+      (λ e. (ap (λ (x : Key). x .member .len) e, ap (λ (x : Key). x .job .len) e))
+      (both (a .member .len) (b .member .len) (a .job .len) (b .job .len))

@@ -9,11 +9,8 @@ use kinds::Row;
 use names::Name;
 use refusals::Refusal;
 ghost use mathlib.Core.Path.{_≡_};
-ghost use Prim.Native.Nat.{_≤_};
 ghost use Rattle.decides.specs.Decides.{Decides};
-ghost use Rattle.kinds.specs.Table.{blank-numbers};
 ghost use Rattle.keys.specs.Keyed.{no-row};
-ghost use Rattle.keys.specs.Among.{Among};
 ghost use Rattle.keys.specs.Begins.{BeginsIs};
 
 // Member and job, together the key.
@@ -34,27 +31,20 @@ pub enum Beginning {
     Barred(Refusal),
 }
 
-// No numbers: what stands where there is no row.
-fn no_numbers() -> Numbers
-    ensures { λ r. ⌜ r ≡ blank-numbers ⌝ }
+// No row: what stands where there is none.
+pub fn blank_row() -> Keyed
+    ensures { λ r. ⌜ r ≡ no-row ⌝ }
 {
+    let name = names::blank_name();
     let none = fields::blank_entry();
-    Numbers {
+    let numbers = Numbers {
         n1: none,
         n2: none,
         n3: none,
         n4: none,
         n5: none,
         n6: none,
-    }
-}
-
-// No row: what stands where there is none.
-pub fn blank_row() -> Keyed
-    ensures { λ r. ⌜ r ≡ no-row ⌝ }
-{
-    let name = names::blank_name();
-    let numbers = no_numbers();
+    };
     let row = Row {
         kind: Kind::B,
         numbers,
@@ -66,61 +56,23 @@ pub fn blank_row() -> Keyed
     Keyed { key, row }
 }
 
-fn same_bytes(a: [u8; 12], b: [u8; 12]) -> bool
+// Whether two keys are one.
+pub fn same_key(a: Key, b: Key) -> bool
     ensures { λ r. ⌜ Decides r (a ≡ b) ⌝ }
 {
+    let m = a.member.bytes;
+    let n = b.member.bytes;
+    let j = a.job.bytes;
+    let k = b.job.bytes;
     let mut i: usize = 0;
     while i < 12 {
-        if a[i] == b[i] {
+        if (m[i] == n[i]) & (j[i] == k[i]) {
             i += 1;
         } else {
             return false;
         }
     }
-    true
-}
-
-fn same_name(a: Name, b: Name) -> bool
-    ensures { λ r. ⌜ Decides r (a ≡ b) ⌝ }
-{
-    let x = a.bytes;
-    let y = b.bytes;
-    if a.len == b.len {
-        return same_bytes(x, y);
-    }
-    false
-}
-
-// Whether two keys are one.
-pub fn same_key(a: Key, b: Key) -> bool
-    ensures { λ r. ⌜ Decides r (a ≡ b) ⌝ }
-{
-    let m = a.member;
-    let n = b.member;
-    let j = a.job;
-    let k = b.job;
-    let same = same_name(m, n);
-    if same {
-        return same_name(j, k);
-    }
-    false
-}
-
-// Whether a key is among the first n.
-fn is_used(keys: [Key; 64], n: usize, key: Key) -> bool
-    requires { ⌜ n ≤ 64 ⌝ }
-    ensures { λ r. ⌜ Decides r (Among keys n key) ⌝ }
-{
-    let mut i: usize = 0;
-    while i < n {
-        let k = keys[i];
-        let same = same_key(k, key);
-        if same {
-            return true;
-        }
-        i += 1;
-    }
-    false
+    (a.member.len == b.member.len) & (a.job.len == b.job.len)
 }
 
 // Whether a job with this key begins behind n jobs with theirs: a book has at most 64, and none with a key used before.
@@ -130,9 +82,14 @@ pub fn begins(keys: [Key; 64], n: usize, key: Key) -> Beginning
     if 64 <= n {
         return Beginning::Barred(Refusal::TooMany);
     }
-    let used = is_used(keys, n, key);
-    if used {
-        return Beginning::Barred(Refusal::UsedKey);
+    let mut i: usize = 0;
+    while i < n {
+        let used = keys[i];
+        let same = same_key(used, key);
+        if same {
+            return Beginning::Barred(Refusal::UsedKey);
+        }
+        i += 1;
     }
     Beginning::Free
 }

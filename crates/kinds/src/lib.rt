@@ -4,7 +4,7 @@
 // to its job, and where its phase stands. What is hard is only that the code's copy of the columns is the definition's.
 use fields::Entry;
 ghost use mathlib.Core.Path.{_≡_};
-ghost use Rattle.kinds.specs.Table.{columns, load-columns};
+ghost use Rattle.kinds.specs.Table.{columns};
 
 // The kinds of a row: the base, the two river rows, earth pressure, and the load rows that give their own forces.
 pub enum Kind {
@@ -66,80 +66,61 @@ pub struct Row {
     pub numbers: Numbers,
 }
 
-fn base_columns() -> Columns
-    ensures { λ r. ⌜ r ≡ columns Kind.B ⌝ }
-{
-    Columns {
-        n1: Column::Filled(500, 30000),
-        n2: Column::Filled(500, 60000),
-        n3: Column::Filled(1, 10000),
-        n4: Column::Filled(1, 1000),
-        n5: Column::Filled(0, 1),
-        n6: Column::Empty,
-    }
-}
+// The columns of each kind, as the table gives them (document 01, the job book); the last are those of every row that gives its own forces.
+const BASE_COLUMNS: Columns = Columns {
+    n1: Column::Filled(500, 30000),
+    n2: Column::Filled(500, 60000),
+    n3: Column::Filled(1, 10000),
+    n4: Column::Filled(1, 1000),
+    n5: Column::Filled(0, 1),
+    n6: Column::Empty,
+};
 
-fn scour_columns() -> Columns
-    ensures { λ r. ⌜ r ≡ columns Kind.S ⌝ }
-{
-    Columns {
-        n1: Column::Filled(1, 50000000),
-        n2: Column::Filled(1, 3000000),
-        n3: Column::Filled(100, 3000),
-        n4: Column::Filled(1000, 1300000),
-        n5: Column::Filled(1, 5),
-        n6: Column::Filled(0, 200000),
-    }
-}
+const SCOUR_COLUMNS: Columns = Columns {
+    n1: Column::Filled(1, 50000000),
+    n2: Column::Filled(1, 3000000),
+    n3: Column::Filled(100, 3000),
+    n4: Column::Filled(1000, 1300000),
+    n5: Column::Filled(1, 5),
+    n6: Column::Filled(0, 200000),
+};
 
-fn clearance_columns() -> Columns
-    ensures { λ r. ⌜ r ≡ columns Kind.C ⌝ }
-{
-    Columns {
-        n1: Column::Filled(0, 10000),
-        n2: Column::Filled(1, 100000),
-        n3: Column::Filled(1, 100000),
-        n4: Column::Signed(500000, 9000000),
-        n5: Column::Signed(500000, 9000000),
-        n6: Column::Empty,
-    }
-}
+const CLEARANCE_COLUMNS: Columns = Columns {
+    n1: Column::Filled(0, 10000),
+    n2: Column::Filled(1, 100000),
+    n3: Column::Filled(1, 100000),
+    n4: Column::Signed(500000, 9000000),
+    n5: Column::Signed(500000, 9000000),
+    n6: Column::Empty,
+};
 
-fn earth_columns() -> Columns
-    ensures { λ r. ⌜ r ≡ columns Kind.E ⌝ }
-{
-    Columns {
-        n1: Column::Filled(1, 5),
-        n2: Column::Filled(1, 5),
-        n3: Column::Filled(1, 15000),
-        n4: Column::Filled(1, 60000),
-        n5: Column::Filled(0, 2),
-        n6: Column::Empty,
-    }
-}
+const EARTH_COLUMNS: Columns = Columns {
+    n1: Column::Filled(1, 5),
+    n2: Column::Filled(1, 5),
+    n3: Column::Filled(1, 15000),
+    n4: Column::Filled(1, 60000),
+    n5: Column::Filled(0, 2),
+    n6: Column::Empty,
+};
 
-fn force_columns() -> Columns
-    ensures { λ r. ⌜ r ≡ load-columns ⌝ }
-{
-    Columns {
-        n1: Column::Signed(50000, 50000),
-        n2: Column::Signed(30000, 30000),
-        n3: Column::Signed(50000, 50000),
-        n4: Column::Filled(0, 60000),
-        n5: Column::Filled(0, 2),
-        n6: Column::Empty,
-    }
-}
+const FORCE_COLUMNS: Columns = Columns {
+    n1: Column::Signed(50000, 50000),
+    n2: Column::Signed(30000, 30000),
+    n3: Column::Signed(50000, 50000),
+    n4: Column::Filled(0, 60000),
+    n5: Column::Filled(0, 2),
+    n6: Column::Empty,
+};
 
 // The columns of a kind.
 pub fn columns_of(kind: Kind) -> Columns
     ensures { λ r. ⌜ r ≡ columns kind ⌝ }
 {
     match kind {
-        Kind::B => base_columns(),
-        Kind::S => scour_columns(),
-        Kind::C => clearance_columns(),
-        Kind::E => earth_columns(),
+        Kind::B => BASE_COLUMNS,
+        Kind::S => SCOUR_COLUMNS,
+        Kind::C => CLEARANCE_COLUMNS,
+        Kind::E => EARTH_COLUMNS,
         Kind::DL
         | Kind::EP
         | Kind::LL
@@ -150,6 +131,6 @@ pub fn columns_of(kind: Kind) -> Columns
         | Kind::TM
         | Kind::EX
         | Kind::WL
-        | Kind::SF => force_columns(),
+        | Kind::SF => FORCE_COLUMNS,
     }
 }

@@ -22,10 +22,7 @@ pub fn meets_regime(q: u64, w: u64) -> bool
     requires { ⌜ (q ≤ 50000000) × (w ≤ 1300000) ⌝ }
     ensures { λ r. ⌜ Decides r (RegimeMet q w) ⌝ }
 {
-    if REGIME * q <= 10_000_000 * (w * w) {
-        return true;
-    }
-    false
+    REGIME * q <= 10_000_000 * (w * w)
 }
 
 // 4.6.3: Lacey's depth where the regime width is met.

@@ -1,6 +1,5 @@
 -- Document 01, the job book: the kind that a field is.
 use Prim.Native.Nat.{ℕ}
-use mathlib.Core.Path.{_≡_}
 use mathlib.Core.List.{List}
 use Rattle.rfc4180.specs.Rfc4180.{Field}
 use Rattle.kinds.specs.Table.{letters}
@@ -12,8 +11,3 @@ use Rattle.letters.specs.declared.KindRead.the-variants.{Known, Unknown}
 abbrev pub KindAt : List ℕ → KindRead → Type 0
 KindAt raw (Known k) = Field raw (letters k)
 KindAt raw Unknown = (k : Kind) → Field raw (letters k) → ⊥
-
--- the answer for a content
-abbrev pub KindIs : List ℕ → KindRead → Type 0
-KindIs c (Known k) = c ≡ letters k
-KindIs c Unknown = (k : Kind) → c ≡ letters k → ⊥

@@ -18,23 +18,19 @@ pub enum ClearanceAnswer {
     Given { minus: bool, size: u64, needed: u64 },
 }
 
-// A level as an amount.
-fn amount_of(level: Entry) -> Amount
-    ensures { λ r. ⌜ (r .minus ≡ level .minus) × (r .size ≡ level .size) ⌝ }
-{
-    Amount {
-        minus: level.minus,
-        size: level.size as u64,
-    }
-}
-
 // Underside - flood - afflux by its sign and size, beside the clearance needed.
 pub fn clearance_under(underside: Entry, flood: Entry, afflux: u64, needed: u64) -> ClearanceAnswer
     requires { ⌜ afflux ≤ 60000000000000 ⌝ }
     ensures { λ r. ⌜ Answers (λ t. t ≡ given (value underside -ℤ value flood -ℤ pos afflux) needed) r ⌝ }
 {
-    let upper = signed::parts_of(amount_of(underside));
-    let lower = signed::parts_of(amount_of(flood));
+    let upper = signed::parts_of(Amount {
+        minus: underside.minus,
+        size: underside.size as u64,
+    });
+    let lower = signed::parts_of(Amount {
+        minus: flood.minus,
+        size: flood.size as u64,
+    });
     let height = upper.above + lower.below;
     let depth = upper.below + lower.above + afflux;
     let clearance = signed::difference(height, depth);

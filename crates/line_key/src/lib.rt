@@ -12,11 +12,8 @@ fn put_name(out: &mut [u8; 2048], at: usize, name: Name) -> usize
     ensures { λ r. ⌜ Adds (now (out .entry)) at (name-bytes name) 12 (now (out .exit)) r ⌝ }
 {
     let bytes = name.bytes;
-    let len = name.len;
-    if len < 12 {
-        return block::put(out, at, &bytes[0..len]);
-    }
-    block::put(out, at, &bytes)
+    let len = if name.len < 12 { name.len } else { 12 };
+    block::put(out, at, &bytes[0..len])
 }
 
 // Member and job, each with the comma behind it.

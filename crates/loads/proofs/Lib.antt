@@ -1,3 +1,4 @@
 pub mod Answering
+mod Asking
 pub mod Laying
 pub mod Loaded

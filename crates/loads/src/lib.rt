@@ -26,6 +26,14 @@ pub struct Taken {
     pub loads: Loads,
 }
 
+// What 11, 15 and 16 ask of rows: whether every number is in its range, whether Table 2 is filled for each that asks it, and how many
+// rows are optional.
+struct Asked {
+    ranged: bool,
+    filled: bool,
+    optional: u64,
+}
+
 // No loads.
 fn no_loads() -> Loads
     ensures { λ r. ⌜ r ≡ noLoads ⌝ }
@@ -45,54 +53,31 @@ fn rows_of(count: usize) -> usize
     count
 }
 
-// Whether every number of the first n rows is in its range.
-fn all_ranged(rows: [Row; 16], n: usize) -> bool
+// What 11, 15 and 16 ask of the first n rows.
+fn asked_of(rows: [Row; 16], n: usize) -> Asked
     requires { ⌜ n ≤ 16 ⌝ }
-    ensures { λ r. ⌜ Decides r (AllRanged rows n) ⌝ }
+    ensures { λ r. ⌜ Decides (r .ranged) (AllRanged rows n) ⌝ }
+    ensures { λ r. ⌜ Decides (r .filled) (NoneBlank table2-fill rows n) ⌝ }
+    ensures { λ r. ⌜ r .optional ≡ optionals rows n ⌝ }
 {
+    let mut ranged = true;
+    let mut filled = true;
+    let mut optional: u64 = 0;
     let mut i: usize = 0;
     while i < n {
         let row = rows[i];
         let kind = row.kind;
         let numbers = row.numbers;
-        if !ranges::is_ranged(kind, numbers) {
-            return false;
-        }
+        ranged = ranged & ranges::is_ranged(kind, numbers);
+        filled = filled & !blanks::is_blank(row);
+        optional = optional + classes::optional_count(classes::class_of(kind));
         i = i + 1;
     }
-    true
-}
-
-// Whether Table 2 is blank for none of the first n rows.
-fn none_blank(rows: [Row; 16], n: usize) -> bool
-    requires { ⌜ n ≤ 16 ⌝ }
-    ensures { λ r. ⌜ Decides r (NoneBlank table2-fill rows n) ⌝ }
-{
-    let mut i: usize = 0;
-    while i < n {
-        let row = rows[i];
-        if blanks::is_blank(row) {
-            return false;
-        }
-        i = i + 1;
+    Asked {
+        ranged,
+        filled,
+        optional,
     }
-    true
-}
-
-// How many of the first n rows are optional.
-fn optional_rows(rows: [Row; 16], n: usize) -> u64
-    requires { ⌜ n ≤ 16 ⌝ }
-    ensures { λ r. ⌜ r ≡ optionals rows n ⌝ }
-{
-    let mut many: u64 = 0;
-    let mut i: usize = 0;
-    while i < n {
-        let row = rows[i];
-        let kind = row.kind;
-        many = many + classes::optional_count(classes::class_of(kind));
-        i = i + 1;
-    }
-    many
 }
 
 // The loads of the first n rows.
@@ -119,20 +104,21 @@ pub fn loads_of(rows: [Row; 16], count: usize) -> Taken
     ensures { λ r. ⌜ Answers table2-fill rows count r ⌝ }
 {
     let n = rows_of(count);
+    let asked = asked_of(rows, n);
     let none = no_loads();
-    if !all_ranged(rows, n) {
+    if !asked.ranged {
         return Taken {
             answer: Answer::OutOfRange,
             loads: none,
         };
     }
-    if !none_blank(rows, n) {
+    if !asked.filled {
         return Taken {
             answer: Answer::NoCoefficient,
             loads: none,
         };
     }
-    if 12 < optional_rows(rows, n) {
+    if 12 < asked.optional {
         return Taken {
             answer: Answer::TooMany,
             loads: none,

@@ -1,11 +1,14 @@
 -- A rank and a set as one weight: which of two comes first, that the worse of a mark and of a set is one, and how it is offered.
 use mathlib.Core.Path.{_≡_, refl, sym, _∙_, ap₂, subst}
-use mathlib.Core.Logic.{inl, inr, ⊎-elim}
-use mathlib.Core.Bool.{Bool, true, false, true≢false}
+use mathlib.Core.Logic.{_⊎_, inl, inr, ⊎-elim}
+use mathlib.Core.Bool.{Bool, true, false, true≢false, _&&_, _||_}
 use Prim.Native.Nat.{ℕ, zero, suc, _+_, _*_, _≤_, _<_}
 use native.Mathlib.Omega.{arith}
-use native.Mathlib.Nat.{le-antisymm, le-refl}
+use native.Mathlib.Nat.{le-antisymm, le-refl, le-of-lt}
+use native.Mathlib.Decide.{decLe}
+use lib.Dec.{eqb, ltb}
 use lib.Count.{ones, ones-le}
+use Rattle.decides.specs.Decides.{Decides, decides-same, decides-both, decides-either, decides-below, decides-equal}
 use Rattle.checks.specs.declared.Figure.{Figure}
 use Rattle.checks.specs.Order.{Side, Ranks}
 use Rattle.checks.proofs.Ranking.{ranks-one}
@@ -38,6 +41,51 @@ weight-rank m n s t h p q = omega (arith, place-low s p, place-low t q)
 pub weight-place : (m n s t : ℕ) → m ≡ n → place s ≤ place t → weight m s ≤ weight n t
 unfolding weight
 weight-place m n s t e h = omega arith
+
+-- The set s comes before t: t is none, or s has fewer rows, or as many and the smaller number.
+abbrev Before : ℕ → ℕ → Type 0
+Before s t = ((t ≡ 0) ⊎ (ones s < ones t)) ⊎ ((ones s ≡ ones t) × (s < t))
+
+module _ (s : ℕ) (p : 0 < s) (h : s < 65536) where
+  earlier : (t : ℕ) → t < 65536 → Before s t → place s < place t
+  earlier zero k w = omega (arith, place-none, some-low s p h)
+  earlier (suc t) k (inl (inl e)) = absurd (omega arith)
+  earlier (suc t) k (inl (inr e)) = omega (arith, place-some s p, place-some (suc t) (omega arith))
+  earlier (suc t) k (inr e) = omega (arith, place-some s p, place-some (suc t) (omega arith), e .0, e .1)
+
+  before : (t : ℕ) → t < 65536 → place s < place t → Before s t
+  before zero k l = inl (inl refl)
+  before (suc t) k l = go (decLe (suc (ones s)) (ones (suc t)))
+    where
+      go : Dec (suc (ones s) ≤ ones (suc t)) → Before s (suc t)
+      go (yes f) = inl (inr f)
+      go (no f) = inr (omega (arith, place-some s p, place-some (suc t) (omega arith)), omega (arith, place-some s p, place-some (suc t) (omega arith)))
+
+  pub before-decides : (t : ℕ) → t < 65536 → Decides ((eqb t 0 || ltb (ones s) (ones t)) || (eqb (ones s) (ones t) && ltb s t)) (place s < place t)
+  before-decides t k =
+      let fewer = decides-either (t ≡ 0) (ones s < ones t) (eqb t 0) (ltb (ones s) (ones t)) (decides-equal t 0) (decides-below (ones s) (ones t)) in
+      let tied = decides-both (ones s ≡ ones t) (s < t) (eqb (ones s) (ones t)) (ltb s t) (decides-equal (ones s) (ones t)) (decides-below s t) in
+      decides-same ((eqb t 0 || ltb (ones s) (ones t)) || (eqb (ones s) (ones t) && ltb s t)) (earlier t k) (before t k)
+      (decides-either ((t ≡ 0) ⊎ (ones s < ones t)) ((ones s ≡ ones t) × (s < t)) (eqb t 0 || ltb (ones s) (ones t)) (eqb (ones s) (ones t) && ltb s t) fewer tied)
+
+-- The rank n with the set s comes before the rank m with the set t: by the place where the ranks are one, or by a lower rank.
+abbrev pub First : ℕ → ℕ → ℕ → ℕ → Type 0
+First n m s t = ((n ≡ m) × (place s < place t)) ⊎ (n < m)
+
+module _ (n m s t : ℕ) (p : s < 65536) (q : t < 65536) where
+  pub first-weighs : First n m s t → weight n s ≤ weight m t
+  first-weighs w = ⊎-elim (λ e. weight-place n m s t (e .0) (le-of-lt (e .1))) (λ h. weight-rank n m s t h p q) w
+
+  pub last-weighs : (First n m s t → ⊥) → weight m t ≤ weight n s
+  last-weighs f = go (decLe (suc m) n)
+    where
+      go : Dec (suc m ≤ n) → weight m t ≤ weight n s
+      go (yes h) = weight-rank m n t s h q p
+      go (no h) =
+          let over : n < m → ⊥ = λ k. f (inr k) in
+          let e : n ≡ m = omega (arith, over) in
+          let later : place s < place t → ⊥ = λ k. f (inl (e, k)) in
+          weight-place m n t s (sym e) (omega (arith, later))
 
 -- ---- the worse of two
 pub worse-of-new : (b : Mark) (n s : ℕ) → weight n s ≤ weightOf b → WorseOf b n s (record { rank = n; set = s })

@@ -17,21 +17,9 @@ fn fewer(s: u64, t: u64) -> bool
     requires { ⌜ (0 < s) × (s < 65536) × (t < 65536) ⌝ }
     ensures { λ r. ⌜ Decides r (place s < place t) ⌝ }
 {
-    if t == 0 {
-        return true;
-    }
     let p = u64::count_ones(s);
     let q = u64::count_ones(t);
-    if p < q {
-        return true;
-    }
-    if q < p {
-        return false;
-    }
-    if s < t {
-        return true;
-    }
-    false
+    (t == 0) | (p < q) | ((p == q) & (s < t))
 }
 
 // The worse of the worst so far and of one set more: the lower rank, and of equal ranks the set that comes first.
@@ -39,15 +27,10 @@ pub fn worse(worst: Mark, rank: u64, set: u64) -> Mark
     requires { ⌜ (0 < set) × (set < 65536) × (worst .set < 65536) ⌝ }
     ensures { λ r. ⌜ WorseOf worst rank set r ⌝ }
 {
-    let last = worst.rank;
-    if rank < last {
-        return Mark { rank, set };
+    let first_of_tie = (rank == worst.rank) && fewer(set, worst.set);
+    if first_of_tie | (rank < worst.rank) {
+        Mark { rank, set }
+    } else {
+        worst
     }
-    if last < rank {
-        return worst;
-    }
-    if fewer(set, worst.set) {
-        return Mark { rank, set };
-    }
-    worst
 }

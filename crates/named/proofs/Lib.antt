@@ -2,3 +2,4 @@
 pub mod Unique
 pub mod Weights
 pub mod Weighing
+mod Factors

@@ -8,15 +8,12 @@ use checks::TOP;
 use marks::Mark;
 use sets::Balance;
 use sets::Sums;
-ghost use mathlib.Core.Path.{_≡_};
-ghost use mathlib.Core.Bool.{true};
-ghost use Prim.Native.Nat.{_*_, _-_, _^_, _<_, _≤_};
+ghost use Prim.Native.Nat.{_^_, _<_, _≤_};
 ghost use Rattle.sets.specs.Sums.{Room};
 ghost use Rattle.checks.specs.Sized.{Sized};
-ghost use Rattle.pressure.specs.Pressure.{Presses};
 ghost use Rattle.ranks.specs.Figures.{Tips, Slides, Leans};
 ghost use Rattle.checks.specs.Order.{lowest, highest};
-ghost use Rattle.marks.specs.Marks.{Offered, Offers};
+ghost use Rattle.marks.specs.Marks.{Offers};
 ghost use Rattle.named.specs.Weighs.{Low, Weighs};
 
 // The worst so far of each check.
@@ -28,7 +25,8 @@ pub struct Worst {
     pub rk: Mark,
 }
 
-// Up to here a figure so far may be multiplied out to see, with no division, that a set is plainly no worse.
+// Up to here a figure so far may be multiplied out to see, with no division, that a set is plainly no worse. The tests of SL and RK are
+// strict, and so fail by themselves where N is 0.
 const PLAIN: u64 = 16777216;
 
 // OP's or OM's worst so far, the factor against overturning about one edge, with one set more; `on` says whether it is weighed.
@@ -40,15 +38,16 @@ fn tipped(on: bool, worst: Mark, balance: Balance, set: u64) -> Mark
     if !on {
         return worst;
     }
-    let last = worst.rank;
-    let over = balance.overturning;
-    let held = 100 * balance.resisting;
-    if last < PLAIN {
-        if over * (last + 1) <= held {
+    if worst.rank < PLAIN {
+        if balance.overturning * (worst.rank + 1) <= 100 * balance.resisting {
             return worst;
         }
     }
-    marks::worse(worst, ranks::tip_rank(balance.resisting, over), set)
+    marks::worse(
+        worst,
+        ranks::tip_rank(balance.resisting, balance.overturning),
+        set,
+    )
 }
 
 // SL's worst so far, the factor against sliding, with one set more.
@@ -60,64 +59,32 @@ fn slid(on: bool, worst: Mark, friction: u64, n: u64, h: u64, set: u64) -> Mark
     if !on {
         return worst;
     }
-    let last = worst.rank;
-    if 0 < n {
-        if last < PLAIN {
-            if 10 * h * (last + 1) <= friction * n {
-                return worst;
-            }
+    if worst.rank < PLAIN {
+        if 10 * h * (worst.rank + 1) < friction * n {
+            return worst;
         }
     }
     marks::worse(worst, ranks::slide_rank(friction, n, h), set)
 }
 
-// PR's worst so far, the pressure under the base, with one set more.
-fn pressed(worst: Mark, base: Base, n: u64, m: u64, set: u64) -> Mark
-    requires { ⌜ Sized base ⌝ }
-    requires { ⌜ (n ≤ 2 ^ 20) × (m ≤ 2 ^ 40) ⌝ }
-    requires { ⌜ (0 < set) × (set < 65536) × (worst .set < 65536) ⌝ }
-    ensures { λ r. ⌜ (r .set < 65536) × Offered highest (Presses (base .width) (base .length) n m) worst set r ⌝ }
-{
-    marks::worse(
-        worst,
-        pressure::press_rank(base.width, base.length, n, m),
-        set,
-    )
-}
-
-// Whether RK of a set is plainly below the figure shown; `full` is N times B.
-fn plainly(m: u64, shown: u64, full: u64) -> bool
-    requires { ⌜ (m ≤ 2 ^ 40) × (shown < 2 ^ 24) × (full ≤ 2 ^ 36) ⌝ }
-    ensures { λ r. ⌜ (r ≡ true → (0 < shown) × (1000 * m ≤ (shown - 1) * (2 * full))) ⌝ }
-{
-    if shown == 0 {
-        return false;
-    }
-    if 1000 * m <= (shown - 1) * (2 * full) {
-        return true;
-    }
-    false
-}
-
 // RK's worst so far, how far from the middle of a base on rock N falls, with one set more.
-fn leaned(on: bool, worst: Mark, base: Base, n: u64, m: u64, set: u64) -> Mark
-    requires { ⌜ Sized base ⌝ }
+fn leaned(on: bool, worst: Mark, width: u64, n: u64, m: u64, set: u64) -> Mark
+    requires { ⌜ (0 < width) × (width ≤ 30000) ⌝ }
     requires { ⌜ (n ≤ 2 ^ 20) × (m ≤ 2 ^ 40) ⌝ }
     requires { ⌜ (0 < set) × (set < 65536) × (worst .set < 65536) ⌝ }
-    ensures { λ r. ⌜ Offers on highest (Leans (base .width) n m) worst set r ⌝ }
+    ensures { λ r. ⌜ Offers on highest (Leans width n m) worst set r ⌝ }
 {
     if !on {
         return worst;
     }
     let shown = TOP - worst.rank;
-    if 0 < n {
-        if shown < PLAIN {
-            if plainly(m, shown, n * base.width) {
-                return worst;
-            }
+    if shown < PLAIN {
+        let full = 2 * (n * width);
+        if 1000 * m + full < shown * full {
+            return worst;
         }
     }
-    marks::worse(worst, ranks::lean_rank(base.width, n, m), set)
+    marks::worse(worst, ranks::lean_rank(width, n, m), set)
 }
 
 // The worst so far of every check with one set more: PR always, OP, OM and SL too where the combination serves (I to III), RK on rock.
@@ -128,22 +95,18 @@ pub fn weigh(serves: bool, rock: bool, base: Base, sums: Sums, worst: Worst) -> 
     requires { ⌜ Low worst ⌝ }
     ensures { λ r. ⌜ Weighs serves rock base sums worst r ⌝ }
 {
-    let set = sums.set;
-    let plus = sums.plus;
-    let minus = sums.minus;
-    let n = signed::excess(sums.v.above, sums.v.below);
-    let h = signed::distance(sums.h.above, sums.h.below);
-    let m = signed::distance(sums.m.above, sums.m.below);
-    let op = worst.op;
-    let om = worst.om;
-    let sl = worst.sl;
-    let pr = worst.pr;
-    let rk = worst.rk;
+    let n = gaps::excess(sums.v.above, sums.v.below);
+    let h = gaps::distance(sums.h.above, sums.h.below);
+    let m = gaps::distance(sums.m.above, sums.m.below);
     Worst {
-        op: tipped(serves, op, plus, set),
-        om: tipped(serves, om, minus, set),
-        sl: slid(serves, sl, base.friction, n, h, set),
-        pr: pressed(pr, base, n, m, set),
-        rk: leaned(rock, rk, base, n, m, set),
+        op: tipped(serves, worst.op, sums.plus, sums.set),
+        om: tipped(serves, worst.om, sums.minus, sums.set),
+        sl: slid(serves, worst.sl, base.friction, n, h, sums.set),
+        pr: marks::worse(
+            worst.pr,
+            pressure::press_rank(base.width, base.length, n, m),
+            sums.set,
+        ),
+        rk: leaned(rock, worst.rk, base.width, n, m, sums.set),
     }
 }

@@ -17,16 +17,12 @@ fn opened_by(combination: Combination, class: Class, phase: u32) -> bool
     match combination {
         Combination::I => true,
         Combination::II => match class {
-            Class::Permanent => false,
-            Class::Free => false,
             Class::Wind => true,
-            Class::Earthquake => false,
+            Class::Permanent | Class::Free | Class::Earthquake => false,
         },
         Combination::III => match class {
-            Class::Permanent => false,
-            Class::Free => false,
-            Class::Wind => false,
             Class::Earthquake => true,
+            Class::Permanent | Class::Free | Class::Wind => false,
         },
         Combination::IV => phase == 1,
     }
@@ -37,13 +33,11 @@ pub fn opens(combination: Combination, loads: Loads) -> bool
     requires { ⌜ loads .count ≤ 16 ⌝ }
     ensures { λ r. ⌜ Decides r (Opens combination loads) ⌝ }
 {
-    let count = loads.count;
     let mut i: usize = 0;
-    while i < count {
+    while i < loads.count {
         let load = loads.loads[i];
         let class = load.class;
-        let phase = load.phase;
-        if opened_by(combination, class, phase) {
+        if opened_by(combination, class, load.phase) {
             return true;
         }
         i = i + 1;

@@ -4,43 +4,26 @@
 // through the choices of the free rows and does not ask it. What is hard is that a set may name rows that the job has not.
 use sets::Combination;
 use sets::Loads;
-ghost use Prim.Native.Nat.{ℕ, _^_, _<_, _≤_};
 ghost use Rattle.decides.specs.Decides.{Decides};
-ghost use Rattle.sets.specs.Sets.{RowFits, Permitted, row, bit, Bounded};
+ghost use Rattle.sets.specs.Sets.{Permitted, Bounded};
 
-// Whether every row may stand in the set as its bit says, and the set has no row past the last.
-fn rows_fit(combination: Combination, loads: Loads, set: u64) -> bool
-    requires { ⌜ loads .count ≤ 16 ⌝ }
-    ensures { λ r. ⌜ Decides r ((set < 2 ^ loads .count) × ((i : ℕ) → i < loads .count → RowFits combination (row loads i) (bit set i))) ⌝ }
-{
-    let count = loads.count;
-    let mut i: usize = 0;
-    let mut rest = set;
-    while i < count {
-        let load = loads.loads[i];
-        if !phases::row_fits(combination, load, rest % 2) {
-            return false;
-        }
-        rest = rest / 2;
-        i = i + 1;
-    }
-    if rest == 0 {
-        return true;
-    }
-    false
-}
-
-// Whether a combination permits a set. Its sums count its wind and earthquake rows, whatever the width.
+// Whether a combination permits a set: every row may stand in it as its bit says, it has no row past the last, some row opens the
+// combination, and its wind and earthquake rows may act together. Its sums count those, whatever the width.
 pub fn permitted(combination: Combination, loads: Loads, set: u64) -> bool
     requires { ⌜ Bounded loads ⌝ }
     ensures { λ r. ⌜ Decides r (Permitted combination loads set) ⌝ }
 {
-    if !rows_fit(combination, loads, set) {
-        return false;
+    let mut fits = true;
+    let mut i: usize = 0;
+    let mut rest = set;
+    while i < loads.count {
+        let load = loads.loads[i];
+        fits = fits & phases::row_fits(combination, load, rest % 2);
+        rest = rest / 2;
+        i = i + 1;
     }
-    if !openings::opens(combination, loads) {
-        return false;
-    }
+    let opened = openings::opens(combination, loads);
     let sums = set_sums::sums_of(0, loads, set);
-    permits::admits(combination, sums.winds, sums.quakes, set)
+    let admitted = permits::admits(combination, sums.winds, sums.quakes, set);
+    fits & (rest == 0) & opened & admitted
 }

@@ -5,33 +5,20 @@
 use sets::Class;
 use sets::Combination;
 use sets::Load;
-ghost use mathlib.Core.Path.{_≡_};
 ghost use Prim.Native.Nat.{_<_};
 ghost use Rattle.decides.specs.Decides.{Decides};
-ghost use Rattle.sets.specs.Sets.{ownPhase, Acts, RowFits};
-
-fn own_phase(combination: Combination) -> u32
-    ensures { λ r. ⌜ r ≡ ownPhase combination ⌝ }
-{
-    match combination {
-        Combination::I => 0,
-        Combination::II => 0,
-        Combination::III => 0,
-        Combination::IV => 1,
-    }
-}
+ghost use Rattle.sets.specs.Sets.{Acts, RowFits};
 
 // Whether a row of a phase acts in a combination.
 pub fn acts(combination: Combination, phase: u32) -> bool
     ensures { λ r. ⌜ Decides r (Acts combination phase) ⌝ }
 {
-    if phase == own_phase(combination) {
-        return true;
-    }
-    if phase == 2 {
-        return true;
-    }
-    false
+    let own: u32 = match combination {
+        Combination::I => 0,
+        Combination::II | Combination::III => 0,
+        Combination::IV => 1,
+    };
+    (phase == own) | (phase == 2)
 }
 
 // Whether a row may stand in a set as its bit says.
@@ -39,15 +26,11 @@ pub fn row_fits(combination: Combination, load: Load, held: u64) -> bool
     requires { ⌜ held < 2 ⌝ }
     ensures { λ r. ⌜ Decides r (RowFits combination load held) ⌝ }
 {
-    let phase = load.phase;
     let class = load.class;
-    if held == 1 {
-        return acts(combination, phase);
-    }
+    let acting = acts(combination, load.phase);
     match class {
-        Class::Permanent => !acts(combination, phase),
-        Class::Free => true,
-        Class::Wind => true,
-        Class::Earthquake => true,
+        Class::Permanent => (held == 1) == acting,
+        Class::Free => (held == 0) | acting,
+        Class::Wind | Class::Earthquake => (held == 0) | acting,
     }
 }

@@ -6,8 +6,8 @@ use Rattle.jobs.specs.declared.Job.{Job}
 use Rattle.book.specs.JobBook.{Jobs, JobBook}
 use Rattle.book.specs.Values.{values}
 use Rattle.notes.specs.Notes.{RowIn}
-use Rattle.book.specs.declared.Count.{Count}
-use Rattle.book.specs.declared.Count.the-variants.{Given, Refused}
+use Rattle.counted.specs.declared.Count.{Count}
+use Rattle.counted.specs.declared.Count.the-variants.{Given, Refused}
 use Rattle.book.proofs.Answers.{says-one, told-one, refused-none, book-one}
 use Rattle.notes.proofs.Answers.{row-one}
 use Rattle.placed.specs.JobAt.{nothing, JobAt, no-book, no-place, there}

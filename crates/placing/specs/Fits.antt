@@ -6,7 +6,7 @@ use mathlib.Core.Logic.{_⊎_}
 use Rattle.kinds.specs.declared.Role.{Role}
 use Rattle.kinds.specs.declared.Role.the-variants.{Base, Scour, Clearance, Load}
 use Rattle.placing.specs.declared.Stage.{Stage}
-use Rattle.placing.specs.declared.Stage.the-variants.{Unbegun, Dry, Scoured, Crossed}
+use Rattle.placing.specs.declared.Stage.the-variants.{Unbegun, Dry, Scoured}
 
 -- a row of this role is in place in a job at this stage with so many load rows; `same` says that it has the job's key.
 -- A B row: behind no job, or one with a load row. S: right behind B. C: right behind S. A load row: up to 16 of them
@@ -15,10 +15,3 @@ Fits Base stage count same = (stage ≡ Unbegun) ⊎ (1 ≤ count)
 Fits Scour stage count same = (stage ≡ Dry) × (count ≡ 0) × same
 Fits Clearance stage count same = (stage ≡ Scoured) × (count ≡ 0) × same
 Fits Load stage count same = (stage ≡ Unbegun → ⊥) × (count < 16) × same
-
--- how far a job has come, as a number
-abbrev pub stage-level : Stage → ℕ
-stage-level Unbegun = 0
-stage-level Dry = 1
-stage-level Scoured = 2
-stage-level Crossed = 3

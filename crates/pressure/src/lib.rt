@@ -9,6 +9,8 @@ ghost use Rattle.pressure.specs.Pressure.{Presses};
 
 // The mm² of 1 m²: lengths are in mm, and the pressure in kN/m².
 const SQUARE_METRE: u64 = 1_000_000;
+// The rule of a base pressed in part has four of them.
+const FOUR_SQUARE_METRES: u64 = 4 * SQUARE_METRE;
 
 // The rank of PR: "off" first, then the rule of a base pressed whole, then that of one pressed in part.
 pub fn press_rank(width: u64, length: u64, n: u64, m: u64) -> u64
@@ -18,10 +20,10 @@ pub fn press_rank(width: u64, length: u64, n: u64, m: u64) -> u64
 {
     let full = n * width;
     if full <= m {
-        return 0;
+        0
+    } else if 3 * m <= full {
+        TOP - rounding::up(SQUARE_METRE * (full + 3 * m), width * width * length)
+    } else {
+        TOP - rounding::up(FOUR_SQUARE_METRES * (n * n), 3 * length * (full - m))
     }
-    if 3 * m <= full {
-        return TOP - rounding::up(SQUARE_METRE * (full + 3 * m), width * width * length);
-    }
-    TOP - rounding::up(4 * SQUARE_METRE * (n * n), 3 * length * (full - m))
 }

@@ -7,6 +7,7 @@ use native.Mathlib.Omega.{arith}
 use lib.ListN.{length}
 use Rattle.keys.specs.declared.Key.{Key}
 use Rattle.sets.specs.declared.Combination.{Combination}
+use Rattle.sets.specs.declared.Combination.the-variants.{I, II, III, IV}
 use Rattle.checks.specs.declared.Check.{Check}
 use Rattle.checks.specs.declared.Figure.{Figure}
 use Rattle.lines.specs.declared.Line.{Line}
@@ -15,13 +16,13 @@ use Rattle.lines.specs.declared.DepthLine.{DepthLine}
 use Rattle.lines.specs.declared.DepthLine.the-variants as depth
 use Rattle.lines.specs.declared.ClearLine.{ClearLine}
 use Rattle.lines.specs.declared.ClearLine.the-variants as clear
-use Rattle.lines.specs.Lines.{SC, CL, PrintedLine, value-of, signed-value, check-line, depth-line, clear-line, verdict-line, later-lines, unless-refused, Alone, lines-of}
+use Rattle.lines.specs.Lines.{LineName, SC, CL, PrintedLine, value-of, signed-value, check-line, depth-line, clear-line, verdict-line, later-lines, unless-refused, Alone, lines-of}
 use Rattle.block.specs.declared.Block.{Block}
 use Rattle.block.specs.Decimal.{decimal}
 use Rattle.block.specs.Block.{field, puts, Put}
 use Rattle.line_key.specs.Text.{key-text}
 use Rattle.line_fields.specs.Text.{HYPHEN, combination-text, check-text, name-text, value-text, cell-text, ending}
-use Rattle.printing.specs.Text.{line-text, texts, text}
+use Rattle.printing.specs.Text.{line-text, river-line, texts, text}
 use Rattle.printing.specs.Room.{line-room}
 use Rattle.block.proofs.Pages.{spelled, then-put, put-as, put-nothing}
 use Rattle.lines.specs.declared.Verdict.{Verdict}
@@ -52,6 +53,17 @@ no-line b key ls n e = rw e (put-nothing b n)
 
 -- ---- one line
 
+combination-short : (of : Combination) → length (combination-text of) ≤ 3
+unfolding combination-text
+combination-short I = omega arith
+combination-short II = omega arith
+combination-short III = omega arith
+combination-short IV = omega arith
+
+-- the letters of a combination
+pub combination-put : (b r : Block) (of : Combination) (t : List ℕ) → t ≡ combination-text of → r ≡ puts b t → Put b (combination-text of) 3 r
+combination-put b r of t e f = record { is = f ∙ ap (puts b) e; short = combination-short of }
+
 module _ (key : Key) (b₀ b₁ b₂ b₃ b₄ b₅ : Block) where
   pub check-printed : (b₆ b₇ : Block) (of : Combination) (by : Check) (l : Line) (figure : Figure) (limit set : ℕ) (passes : Bool)
       → l ≡ line.Shown figure limit set passes
@@ -73,43 +85,33 @@ module _ (key : Key) (b₀ b₁ b₂ b₃ b₄ b₅ : Block) where
       (then-put b₄ b₅ b₇ _ _ _ _ (p₅ .0)
       (then-put b₅ b₆ b₇ _ _ _ _ (p₆ .0) p₇))))))
 
-  pub depth-printed : (b₆ : Block) (l : DepthLine) (needed found : ℕ) (passes : Bool)
-      → l ≡ depth.Shown needed found passes
+  pub river-printed : (b₆ : Block) (name : LineName) (below : Bool) (size limit : ℕ) (passes : Bool)
       → Put b₀ (key-text key) 26 b₁
-      → b₂ ≡ puts b₁ (name-text SC)
-      → Put b₂ (field (decimal needed)) (1 + length (decimal needed)) b₃ × (length (decimal needed) ≤ 20)
-      → Put b₃ (field (decimal found)) (1 + length (decimal found)) b₄ × (length (decimal found) ≤ 20)
-      → b₅ ≡ puts b₄ (field [])
-      → Put b₅ (ending passes) 4 b₆
-      → Put b₀ (texts key (depth-line l)) 75 b₆
-  unfolding depth-line line-text name-text value-text cell-text
-  depth-printed b₆ l needed found passes e p₁ p₂ p₃ p₄ p₅ p₆ =
-      rw e
-      (put-as b₀ b₆ _ _ _ _ (texts-one key _) (omega (arith, p₃ .1, p₄ .1))
-      (then-put b₀ b₁ b₆ _ _ _ _ p₁
-      (then-put b₁ b₂ b₆ _ _ 2 _ (spelled _ _ _ _ _ refl p₂ tt)
-      (then-put b₂ b₃ b₆ _ _ _ _ (p₃ .0)
-      (then-put b₃ b₄ b₆ _ _ _ _ (p₄ .0)
-      (then-put b₄ b₅ b₆ _ _ 1 _ (spelled _ _ _ _ _ refl p₅ tt) p₆))))))
-
-  pub clear-printed : (b₆ : Block) (l : ClearLine) (below : Bool) (size needed : ℕ) (passes : Bool)
-      → l ≡ clear.Shown below size needed passes
-      → Put b₀ (key-text key) 26 b₁
-      → b₂ ≡ puts b₁ (name-text CL)
+      → Put b₁ (name-text name) 2 b₂
       → Put b₂ (field (value-text (signed-value below size))) 22 b₃
-      → Put b₃ (field (decimal needed)) (1 + length (decimal needed)) b₄ × (length (decimal needed) ≤ 20)
+      → Put b₃ (field (decimal limit)) (1 + length (decimal limit)) b₄ × (length (decimal limit) ≤ 20)
       → b₅ ≡ puts b₄ (field [])
       → Put b₅ (ending passes) 4 b₆
-      → Put b₀ (texts key (clear-line l)) 76 b₆
-  unfolding clear-line line-text name-text cell-text
-  clear-printed b₆ l below size needed passes e p₁ p₂ p₃ p₄ p₅ p₆ =
-      rw e
-      (put-as b₀ b₆ _ _ _ _ (texts-one key _) (omega (arith, p₄ .1))
+      → Put b₀ (line-text key (river-line name below size limit passes)) 76 b₆
+  unfolding line-text cell-text
+  river-printed b₆ name below size limit passes p₁ p₂ p₃ p₄ p₅ p₆ =
+      put-as b₀ b₆ _ _ _ _ refl (omega (arith, p₄ .1))
       (then-put b₀ b₁ b₆ _ _ _ _ p₁
-      (then-put b₁ b₂ b₆ _ _ 2 _ (spelled _ _ _ _ _ refl p₂ tt)
+      (then-put b₁ b₂ b₆ _ _ _ _ p₂
       (then-put b₂ b₃ b₆ _ _ _ _ p₃
       (then-put b₃ b₄ b₆ _ _ _ _ (p₄ .0)
-      (then-put b₄ b₅ b₆ _ _ 1 _ (spelled _ _ _ _ _ refl p₅ tt) p₆))))))
+      (then-put b₄ b₅ b₆ _ _ 1 _ (spelled _ _ _ _ _ refl p₅ tt) p₆)))))
+
+-- SC and CL, where they are shown
+pub depth-printed : (key : Key) (b r : Block) (l : DepthLine) (needed found : ℕ) (passes : Bool) → l ≡ depth.Shown needed found passes
+    → Put b (line-text key (river-line SC false needed found passes)) 76 r → Put b (texts key (depth-line l)) 76 r
+unfolding depth-line signed-value
+depth-printed key b r l needed found passes e p = rw e (put-as b r _ _ _ _ (texts-one key _) (omega arith) p)
+
+pub clear-printed : (key : Key) (b r : Block) (l : ClearLine) (below : Bool) (size needed : ℕ) (passes : Bool) → l ≡ clear.Shown below size needed passes
+    → Put b (line-text key (river-line CL below size needed passes)) 76 r → Put b (texts key (clear-line l)) 76 r
+unfolding clear-line
+clear-printed key b r l below size needed passes e p = rw e (put-as b r _ _ _ _ (texts-one key _) (omega arith) p)
 
 pub alone-holds : (verdict : Verdict) (r : Bool) → r ≡ true → Alone r verdict → (later : List PrintedLine) → unless-refused verdict later ≡ []
 alone-holds verdict true e h = h

@@ -1,4 +1,4 @@
--- A job's lines fit: 20 lines of at most 84 bytes, SC and CL in 151 and VERDICT in 42 make 1,873.
+-- A job's lines fit: 20 lines of at most 84 bytes, SC and CL in 152 and VERDICT in 42 make 1,874.
 use Prim.Native.Nat.{_+_, _≤_}
 use native.Mathlib.Omega.{arith}
 use Rattle.lines.specs.declared.Line.{Line}

@@ -16,10 +16,6 @@ line-room (Shown figure limit set passes) = 79 + length (decimal set)
 unfoldable pub lines-room : Lines → ℕ
 lines-room lines = line-room (lines .op) + (line-room (lines .om) + (line-room (lines .sl) + (line-room (lines .pr) + line-room (lines .rk))))
 
--- from combination III on, with SC, 75, and CL, 76
-unfoldable pub from-third-room : Lines → Lines → ℕ
-from-third-room three four = lines-room three + (lines-room four + (75 + 76))
-
--- of all lines behind VERDICT
+-- of all lines behind VERDICT, with SC and CL, 76 each
 unfoldable pub answer-room : Answer → ℕ
-answer-room answer = lines-room (answer .one) + (lines-room (answer .two) + (lines-room (answer .three) + (lines-room (answer .four) + (75 + 76))))
+answer-room answer = lines-room (answer .one) + (lines-room (answer .two) + (lines-room (answer .three) + (lines-room (answer .four) + 152)))

@@ -1,15 +1,12 @@
 -- Document 01, The printed answer: the bytes of a line, and of a job's lines.
 use Prim.Native.Nat.{ℕ}
+use mathlib.Core.Bool.{Bool}
 use mathlib.Core.List.{List, [], _∷_, _++_}
 use Rattle.keys.specs.declared.Key.{Key}
-use Rattle.lines.specs.Lines.{PrintedLine, combination-lines, depth-line, clear-line, lines-of}
+use Rattle.lines.specs.Lines.{LineName, holds, empty, PrintedLine, mark-of, signed-value, lines-of}
 use Rattle.block.specs.Block.{field, line-end}
 use Rattle.line_key.specs.Text.{key-text}
 use Rattle.line_fields.specs.Text.{name-text, value-text, cell-text, mark-text}
-use Rattle.sets.specs.declared.Combination.the-variants.{III, IV}
-use Rattle.lines.specs.declared.Lines.{Lines}
-use Rattle.lines.specs.declared.DepthLine.{DepthLine}
-use Rattle.lines.specs.declared.ClearLine.{ClearLine}
 use Rattle.lines.specs.declared.Answer.{Answer}
 
 -- "Seven fields: member, job, line, value, limit, set, Y or N."
@@ -23,14 +20,15 @@ line-text key line =
     ++ (field (mark-text (line .mark))
     ++ line-end)))))
 
+-- the line SC or CL: a value that may be below zero, a limit, and no set
+abbrev pub river-line : LineName → Bool → ℕ → ℕ → Bool → PrintedLine
+river-line name below size limit passes =
+    record { name = name; value = signed-value below size; limit = holds limit; set = empty; mark = mark-of passes }
+
 -- one line behind the other
 unfoldable pub texts : Key → List PrintedLine → List ℕ
 texts key [] = []
 texts key (line ∷ later) = line-text key line ++ texts key later
-
--- the lines from combination III on
-unfoldable pub from-third : Lines → Lines → DepthLine → ClearLine → List PrintedLine
-from-third three four depth clear = combination-lines III three ++ (combination-lines IV four ++ (depth-line depth ++ clear-line clear))
 
 -- the text of a job's answer
 unfoldable pub text : Key → Answer → List ℕ

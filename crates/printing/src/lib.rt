@@ -4,7 +4,6 @@
 // hard is that nothing is cut: each says how many bytes it puts at most, and the sum is below 2,048 where the set numbers are those of
 // at most 16 load rows; and that what a line says is read back from its text (`proofs/`).
 use block::Block;
-use checks::Check;
 use checks::Figure;
 use keys::Key;
 use lines::Answer;
@@ -13,50 +12,17 @@ use lines::DepthLine;
 use lines::Line;
 use lines::Lines;
 use lines::Verdict;
-use sets::Combination;
 ghost use mathlib.Core.Path.{_≡_};
-ghost use mathlib.Core.List.{_∷_};
-ghost use Prim.Native.Nat.{_+_, _≤_};
+ghost use mathlib.Core.List.{[], _∷_, _++_};
+ghost use Prim.Native.Nat.{_≤_};
 ghost use lib.ListN.{length};
-ghost use Rattle.lines.specs.Lines.{combination-lines, later-lines, Numbered, value-of, verdict-line, check-line, depth-line, clear-line};
+ghost use Rattle.sets.specs.declared.Combination.{Combination};
+ghost use Rattle.checks.specs.declared.Check.{Check};
+ghost use Rattle.lines.specs.Lines.{LineName, combination-lines, later-lines, Numbered, value-of, verdict-line, check-line, depth-line, clear-line};
 ghost use Rattle.block.specs.Block.{Adds, block-of, field};
-ghost use Rattle.line_fields.specs.Text.{HYPHEN, combination-text, check-text, value-text, ending};
-ghost use Rattle.printing.specs.Text.{texts, from-third, text, line-text};
-ghost use Rattle.printing.specs.Room.{lines-room, from-third-room, answer-room, line-room};
-
-// I, II, III or IV: each begins with I.
-fn put_combination(out: &mut [u8; 2048], at: usize, combination: Combination) -> usize
-    ensures { λ r. ⌜ Adds (now (out .entry)) at (combination-text combination) 3 (now (out .exit)) r ⌝ }
-{
-    let end = block::push(out, at, b'I');
-    match combination {
-        Combination::I => end,
-        Combination::II => block::push(out, end, b'I'),
-        Combination::III => block::put(out, end, b"II"),
-        Combination::IV => block::push(out, end, b'V'),
-    }
-}
-
-// A hyphen and the letters of the check.
-fn check_letters(check: Check) -> [u8; 3]
-    ensures { λ r. ⌜ r ≡ HYPHEN ∷ check-text check ⌝ }
-{
-    match check {
-        Check::OP => [b'-', b'O', b'P'],
-        Check::OM => [b'-', b'O', b'M'],
-        Check::SL => [b'-', b'S', b'L'],
-        Check::PR => [b'-', b'P', b'R'],
-        Check::RK => [b'-', b'R', b'K'],
-    }
-}
-
-// A hyphen and the check.
-fn put_check(out: &mut [u8; 2048], at: usize, check: Check) -> usize
-    ensures { λ r. ⌜ Adds (now (out .entry)) at (HYPHEN ∷ check-text check) 3 (now (out .exit)) r ⌝ }
-{
-    let letters = check_letters(check);
-    block::put(out, at, &letters)
-}
+ghost use Rattle.line_fields.specs.Text.{combination-text, check-text, name-text, value-text, ending};
+ghost use Rattle.printing.specs.Text.{texts, text, line-text, river-line};
+ghost use Rattle.printing.specs.Room.{lines-room, answer-room, line-room};
 
 // The value of a check.
 fn put_figure(out: &mut [u8; 2048], at: usize, figure: Figure) -> usize
@@ -73,10 +39,8 @@ fn put_figure(out: &mut [u8; 2048], at: usize, figure: Figure) -> usize
 fn put_ending(out: &mut [u8; 2048], at: usize, passes: bool) -> usize
     ensures { λ r. ⌜ Adds (now (out .entry)) at (ending passes) 4 (now (out .exit)) r ⌝ }
 {
-    if passes {
-        return block::put(out, at, b",Y\r\n");
-    }
-    block::put(out, at, b",N\r\n")
+    let letter = if passes { b'Y' } else { b'N' };
+    block::put(out, at, &[b',', letter, b'\r', b'\n'])
 }
 
 // VERDICT, which every job has.
@@ -89,16 +53,18 @@ fn put_verdict(out: &mut [u8; 2048], at: usize, key: Key, verdict: Verdict) -> u
     block::put(out, end, b",,,\r\n")
 }
 
-// The line of a check in a combination, if there is one.
+// The line of a check in a combination, if there is one: each is given by its letters.
 fn put_line(
     out: &mut [u8; 2048],
     at: usize,
     key: Key,
-    combination: Combination,
-    check: Check,
+    combination: &[u8],
+    first: u8,
+    second: u8,
     line: Line,
 ) -> usize
-    ensures { λ r. ⌜ Adds (now (out .entry)) at (texts key (check-line combination check line)) (line-room line) (now (out .exit)) r ⌝ }
+    ensures { λ r. ⌜ ((of : Combination) (by : Check) → now (combination .entry) ≡ combination-text of → first ∷ second ∷ [] ≡ check-text by
+        → Adds (now (out .entry)) at (texts key (check-line of by line)) (line-room line) (now (out .exit)) r) ⌝ }
 {
     match line {
         Line::Missing => at,
@@ -109,8 +75,8 @@ fn put_line(
             passes,
         } => {
             let end = line_key::put_key(out, at, key);
-            let end = put_combination(out, end, combination);
-            let end = put_check(out, end, check);
+            let end = block::put(out, end, combination);
+            let end = block::put(out, end, &[b'-', first, second]);
             let end = put_figure(out, end, figure);
             let end = block::put_number(out, end, limit);
             let end = block::put_number(out, end, set);
@@ -119,118 +85,95 @@ fn put_line(
     }
 }
 
-// SC, if there is one.
-fn put_depth(out: &mut [u8; 2048], at: usize, key: Key, line: DepthLine) -> usize
-    ensures { λ r. ⌜ Adds (now (out .entry)) at (texts key (depth-line line)) 75 (now (out .exit)) r ⌝ }
+// SC or CL, given by its letters: a value that may be below zero, a limit, and no set.
+fn put_river_line(
+    out: &mut [u8; 2048],
+    at: usize,
+    key: Key,
+    first: u8,
+    second: u8,
+    minus: bool,
+    size: u64,
+    limit: u64,
+    passes: bool,
+) -> usize
+    ensures { λ r. ⌜ ((name : LineName) → first ∷ second ∷ [] ≡ name-text name
+        → Adds (now (out .entry)) at (line-text key (river-line name minus size limit passes)) 76 (now (out .exit)) r) ⌝ }
 {
-    match line {
+    let end = line_key::put_key(out, at, key);
+    let end = block::put(out, end, &[first, second]);
+    let end = line_fields::put_signed(out, end, minus, size);
+    let end = block::put_number(out, end, limit);
+    let end = block::push(out, end, b',');
+    put_ending(out, end, passes)
+}
+
+// SC, if there is one, and CL, if there is one.
+fn put_river(out: &mut [u8; 2048], at: usize, key: Key, depth: DepthLine, clear: ClearLine) -> usize
+    ensures { λ r. ⌜ Adds (now (out .entry)) at (texts key (depth-line depth ++ clear-line clear)) 152 (now (out .exit)) r ⌝ }
+{
+    let end = match depth {
         DepthLine::Missing => at,
         DepthLine::Shown {
             needed,
             found,
             passes,
-        } => {
-            let end = line_key::put_key(out, at, key);
-            let end = block::put(out, end, b"SC");
-            let end = block::put_number(out, end, needed);
-            let end = block::put_number(out, end, found);
-            let end = block::push(out, end, b',');
-            put_ending(out, end, passes)
-        }
-    }
-}
-
-// CL, if there is one.
-fn put_clear(out: &mut [u8; 2048], at: usize, key: Key, line: ClearLine) -> usize
-    ensures { λ r. ⌜ Adds (now (out .entry)) at (texts key (clear-line line)) 76 (now (out .exit)) r ⌝ }
-{
-    match line {
-        ClearLine::Missing => at,
+        } => put_river_line(out, at, key, b'S', b'C', false, needed, found, passes),
+    };
+    match clear {
+        ClearLine::Missing => end,
         ClearLine::Shown {
             minus,
             size,
             needed,
             passes,
-        } => {
-            let end = line_key::put_key(out, at, key);
-            let end = block::put(out, end, b"CL");
-            let end = line_fields::put_signed(out, end, minus, size);
-            let end = block::put_number(out, end, needed);
-            let end = block::push(out, end, b',');
-            put_ending(out, end, passes)
-        }
+        } => put_river_line(out, end, key, b'C', b'L', minus, size, needed, passes),
     }
 }
 
-// The lines of a combination.
-fn put_lines(
-    out: &mut [u8; 2048],
-    at: usize,
-    key: Key,
-    combination: Combination,
-    lines: Lines,
-) -> usize
-    ensures { λ r. ⌜ Adds (now (out .entry)) at (texts key (combination-lines combination lines)) (lines-room lines) (now (out .exit)) r ⌝ }
+// The lines of a combination, which is given by its letters.
+fn put_lines(out: &mut [u8; 2048], at: usize, key: Key, combination: &[u8], lines: Lines) -> usize
+    ensures { λ r. ⌜ ((of : Combination) → now (combination .entry) ≡ combination-text of
+        → Adds (now (out .entry)) at (texts key (combination-lines of lines)) (lines-room lines) (now (out .exit)) r) ⌝ }
 {
     let op = lines.op;
-    let end = put_line(out, at, key, combination, Check::OP, op);
+    let end = put_line(out, at, key, combination, b'O', b'P', op);
     let om = lines.om;
-    let end = put_line(out, end, key, combination, Check::OM, om);
+    let end = put_line(out, end, key, combination, b'O', b'M', om);
     let sl = lines.sl;
-    let end = put_line(out, end, key, combination, Check::SL, sl);
+    let end = put_line(out, end, key, combination, b'S', b'L', sl);
     let pr = lines.pr;
-    let end = put_line(out, end, key, combination, Check::PR, pr);
+    let end = put_line(out, end, key, combination, b'P', b'R', pr);
     let rk = lines.rk;
-    put_line(out, end, key, combination, Check::RK, rk)
-}
-
-// The lines of III and IV, then SC and CL.
-fn put_from_third(
-    out: &mut [u8; 2048],
-    at: usize,
-    key: Key,
-    three: Lines,
-    four: Lines,
-    depth: DepthLine,
-    clear: ClearLine,
-) -> usize
-    ensures { λ r. ⌜ Adds (now (out .entry)) at (texts key (from-third three four depth clear)) (from-third-room three four) (now (out .exit)) r ⌝ }
-{
-    let end = put_lines(out, at, key, Combination::III, three);
-    let end = put_lines(out, end, key, Combination::IV, four);
-    let end = put_depth(out, end, key, depth);
-    put_clear(out, end, key, clear)
+    put_line(out, end, key, combination, b'R', b'K', rk)
 }
 
 // The lines after VERDICT.
 fn put_later(out: &mut [u8; 2048], at: usize, key: Key, answer: Answer) -> usize
     ensures { λ r. ⌜ Adds (now (out .entry)) at (texts key (later-lines answer)) (answer-room answer) (now (out .exit)) r ⌝ }
 {
-    let end = put_lines(out, at, key, Combination::I, answer.one);
-    let end = put_lines(out, end, key, Combination::II, answer.two);
+    let end = put_lines(out, at, key, b"I", answer.one);
+    let end = put_lines(out, end, key, b"II", answer.two);
+    let end = put_lines(out, end, key, b"III", answer.three);
+    let end = put_lines(out, end, key, b"IV", answer.four);
     let depth = answer.depth;
     let clear = answer.clear;
-    put_from_third(out, end, key, answer.three, answer.four, depth, clear)
+    put_river(out, end, key, depth, clear)
 }
 
-// All lines: of a refused job VERDICT alone.
-fn put_answer(out: &mut [u8; 2048], at: usize, key: Key, answer: Answer) -> usize
-    ensures { λ r. ⌜ Adds (now (out .entry)) at (text key answer) (42 + answer-room answer) (now (out .exit)) r ⌝ }
-{
-    let verdict = answer.verdict;
-    let end = put_verdict(out, at, key, verdict);
-    if lines::stands_alone(verdict) {
-        return end;
-    }
-    put_later(out, end, key, answer)
-}
-
-// The bytes of a job's lines. Where its set numbers are those of at most 16 load rows they fit, and nothing is cut.
+// The bytes of a job's lines, of a refused job those of VERDICT alone. Where its set numbers are those of at most 16 load rows they
+// fit, and nothing is cut.
 pub fn answer_text(key: Key, answer: Answer) -> Block
     ensures { λ r. ⌜ r ≡ block-of (text key answer) ⌝ }
     ensures whole { λ _. ⌜ (Numbered answer → length (text key answer) ≤ 2048) ⌝ }
 {
     let mut bytes = [0u8; 2048];
-    let len = put_answer(&mut bytes, 0, key, answer);
+    let verdict = answer.verdict;
+    let end = put_verdict(&mut bytes, 0, key, verdict);
+    let len = if lines::stands_alone(verdict) {
+        end
+    } else {
+        put_later(&mut bytes, end, key, answer)
+    };
     Block { bytes, len }
 }

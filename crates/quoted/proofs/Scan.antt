@@ -3,7 +3,9 @@ use Prim.Native.Nat.{ℕ, _+_, _≤_, _<_}
 use native.Mathlib.Omega.{arith}
 use mathlib.Core.Path.{_≡_, sym, _∙_}
 use mathlib.Core.List.{List, [], _∷_, _++_, append-assoc}
+use lib.Dec.{eqb}
 use lib.ListN.{length, getD, drop}
+use Rattle.decides.specs.Decides.{Decides, decides-same, decides-equal}
 use Rattle.rfc4180.specs.Rfc4180.{DQUOTE, Inside, Escaped, empty, byte, quotes}
 use Rattle.rfc4180.specs.Part.{part}
 use Rattle.quoted.specs.Closing.{Begins, EscapedTo}
@@ -19,6 +21,11 @@ quotes-snoc : {s c : List ℕ} → Escaped s c → Escaped (s ++ DQUOTE ∷ DQUO
 quotes-snoc empty = quotes empty
 quotes-snoc (byte k p) = byte k (quotes-snoc p)
 quotes-snoc (quotes p) = quotes (quotes-snoc p)
+
+-- what stands from a place of the text on begins with the byte that is there
+pub begins-decides : (s : List ℕ) (i b : ℕ) → i < length s → Decides (eqb (getD s i 0) b) (Begins b (drop i s))
+begins-decides s i b h =
+    decides-same (eqb (getD s i 0) b) (λ e. record { behind = _; begins = begins-at s i b h e }) (λ g. begins-is s i b (g .behind) (g .begins)) (decides-equal (getD s i 0) b)
 
 -- what stands between quotes from `at` up to i, with its content
 pub record Escape (s : List ℕ) (at i : ℕ) : Type 0 where

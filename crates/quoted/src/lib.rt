@@ -4,7 +4,7 @@
 // is hard is to say that no other end is one, and that where none is found there is none.
 ghost use Prim.Native.Nat.{_≤_};
 ghost use lib.ListN.{length, drop};
-ghost use Rattle.rfc4180.specs.Rfc4180.{Textdata, Inside};
+ghost use Rattle.rfc4180.specs.Rfc4180.{Textdata};
 ghost use Rattle.decides.specs.Decides.{Decides};
 ghost use Rattle.quoted.specs.Closing.{Begins, ClosedAt};
 
@@ -18,35 +18,7 @@ pub enum Found {
 pub fn is_text(b: u8) -> bool
     ensures { λ r. ⌜ Decides r (Textdata b) ⌝ }
 {
-    if b < 0x20 {
-        return false;
-    }
-    if 0x7E < b {
-        return false;
-    }
-    if b == 0x22 {
-        return false;
-    }
-    if b == 0x2C {
-        return false;
-    }
-    true
-}
-
-// A byte that stands for itself between quotes.
-fn is_inside(b: u8) -> bool
-    ensures { λ r. ⌜ Decides r (Inside b) ⌝ }
-{
-    if b == 0x2C {
-        return true;
-    }
-    if b == 0x0D {
-        return true;
-    }
-    if b == 0x0A {
-        return true;
-    }
-    is_text(b)
+    (0x20 <= b) & (b <= 0x7E) & (b != 0x22) & (b != 0x2C)
 }
 
 // Whether the byte b stands at i.
@@ -54,10 +26,7 @@ pub fn byte_is(s: &[u8], i: usize, b: u8) -> bool
     ensures { λ r. ⌜ Decides r (Begins b (drop i (now (s .entry)))) ⌝ }
 {
     if i < s.len() {
-        if s[i] == b {
-            return true;
-        }
-        return false;
+        return s[i] == b;
     }
     false
 }
@@ -71,19 +40,15 @@ pub fn closing(s: &[u8], at: usize) -> Found
     while i < s.len() {
         let b = s[i];
         if b == 0x22 {
-            let two = byte_is(s, i + 1, 0x22);
-            if two {
+            if byte_is(s, i + 1, 0x22) {
                 i += 2;
             } else {
                 return Found::At(i);
             }
+        } else if (b == 0x2C) | (b == 0x0D) | (b == 0x0A) | is_text(b) {
+            i += 1;
         } else {
-            let t = is_inside(b);
-            if t {
-                i += 1;
-            } else {
-                return Found::Nothing;
-            }
+            return Found::Nothing;
         }
     }
     Found::Nothing

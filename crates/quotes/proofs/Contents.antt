@@ -3,6 +3,9 @@ use Prim.Native.Nat.{ℕ, _+_, _-_, _≤_, _<_}
 use native.Mathlib.Omega.{arith}
 use mathlib.Core.Path.{_≡_, refl, sym, ap, subst, _∙_}
 use mathlib.Core.List.{List, [], _∷_, _++_}
+use mathlib.Core.Bool.{Bool, true, false, _&&_}
+use borrow.Author.Tests.{eqb-true, eq-eqb}
+use lib.Dec.{eqb}
 use lib.ListN.{length, getD, drop, length-append}
 use lib.Seq.{getD-at}
 use Rattle.rfc4180.specs.Rfc4180.{DQUOTE, Plain, none, text, is-text, Escaped, empty, byte, quotes, Field, plain, quoted}
@@ -54,23 +57,29 @@ pub nothing : (l : List ℕ) → length l ≡ 0 → l ≡ []
 nothing [] h = refl
 nothing (b ∷ l) h = absurd (omega arith)
 
+both : (a b : Bool) → a && b ≡ true → (a ≡ true) × (b ≡ true)
+both true true e = (refl, refl)
+both true false e = let z : _≡_ {A = ℕ} 0 1 = cc in absurd (omega arith)
+both false b e = let z : _≡_ {A = ℕ} 0 1 = cc in absurd (omega arith)
+
 -- by the bytes at both ends
 module _ (raw : List ℕ) where
-  pub bare-between : 2 ≤ length raw → getD raw 0 0 ≡ DQUOTE → getD raw (length raw - 1) 0 ≡ DQUOTE → Bare raw (part 1 (length raw - 1) raw)
-  bare-between h a e =
+  pub bare-between : 2 ≤ length raw → eqb (getD raw 0 0) DQUOTE && eqb (getD raw (length raw - 1) 0) DQUOTE ≡ true → Bare raw (part 1 (length raw - 1) raw)
+  bare-between h t =
       let n = length raw - 1 in
-      let front : raw ≡ DQUOTE ∷ drop 1 raw = at-index raw 0 (omega arith) ∙ ap (λ (b : ℕ). b ∷ drop 1 raw) a in
+      let ends = both _ _ t in
+      let front : raw ≡ DQUOTE ∷ drop 1 raw = at-index raw 0 (omega arith) ∙ ap (λ (b : ℕ). b ∷ drop 1 raw) (eqb-true _ _ (ends .0)) in
       let back : drop n raw ≡ DQUOTE ∷ [] =
-      at-index raw n (omega arith) ∙ ap (λ (b : ℕ). b ∷ drop (n + 1) raw) e ∙ ap (λ (l : List ℕ). DQUOTE ∷ l) (past raw (n + 1) (omega arith)) in
+      at-index raw n (omega arith) ∙ ap (λ (b : ℕ). b ∷ drop (n + 1) raw) (eqb-true _ _ (ends .1)) ∙ ap (λ (l : List ℕ). DQUOTE ∷ l) (past raw (n + 1) (omega arith)) in
       between (front ∙ ap (λ (l : List ℕ). DQUOTE ∷ l) (part-rest raw 1 n (omega arith) ∙ ap (λ (l : List ℕ). part 1 n raw ++ l) back))
 
   pub bare-short : length raw < 2 → Bare raw raw
   bare-short h = all refl (λ s e. omega (arith, ap length e, length-append s (DQUOTE ∷ [])))
 
-  pub bare-unopened : (getD raw 0 0 ≡ DQUOTE → ⊥) → Bare raw raw
-  bare-unopened n = all refl (λ s e. n (ap (λ (l : List ℕ). getD l 0 0) e))
-
-  pub bare-unclosed : (getD raw (length raw - 1) 0 ≡ DQUOTE → ⊥) → Bare raw raw
-  bare-unclosed n = all refl (λ s e.
+  pub bare-open : eqb (getD raw 0 0) DQUOTE && eqb (getD raw (length raw - 1) 0) DQUOTE ≡ false → Bare raw raw
+  bare-open f = all refl (λ s e.
       let k : length (DQUOTE ∷ s) ≡ length raw - 1 = omega (arith, ap length e, length-append s (DQUOTE ∷ [])) in
-      n (ap (λ (l : List ℕ). getD l (length raw - 1) 0) e ∙ getD-at (DQUOTE ∷ s) DQUOTE [] 0 (length raw - 1) k))
+      let opens = eq-eqb _ _ (ap (λ (l : List ℕ). getD l 0 0) e) in
+      let closes = eq-eqb _ _ (ap (λ (l : List ℕ). getD l (length raw - 1) 0) e ∙ getD-at (DQUOTE ∷ s) DQUOTE [] 0 (length raw - 1) k) in
+      let z : _≡_ {A = ℕ} 0 1 = cc in
+      omega arith)

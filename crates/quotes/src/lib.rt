@@ -12,14 +12,10 @@ pub fn bare(raw: &[u8]) -> &[u8]
 {
     let n = raw.len();
     if 2 <= n {
-        if raw[0] == 0x22 {
-            let e = n - 1;
-            if raw[e] == 0x22 {
-                return &raw[1..e];
-            }
-            return raw;
+        let e = n - 1;
+        if (raw[0] == 0x22) & (raw[e] == 0x22) {
+            return &raw[1..e];
         }
-        return raw;
     }
     raw
 }

@@ -1,9 +1,48 @@
--- The ranges of a row, from the answers for its columns.
-use mathlib.Core.Bool.{Bool, _&&_}
-use Rattle.decides.specs.Decides.{Decides, decides-same, decides-both}
-use Rattle.ranges.specs.Range.{InRange, InColumns}
+-- The range of an entry by its tests, and the ranges of a row from the answers for its columns.
+use Prim.Native.Nat.{ℕ, _≤_}
+use mathlib.Core.Path.{_≡_, refl}
+use mathlib.Core.Logic.{_⊎_, inl, inr}
+use mathlib.Core.Bool.{Bool, true, false, not, _&&_, cond}
+use lib.Dec.{leb}
+use Rattle.decides.specs.Decides.{Decides, not-both, decides-same, decides-both, decides-at-most}
+use Rattle.fields.specs.declared.Entry.{Entry}
+use Rattle.ranges.specs.Range.{Between, Around, InRange, InColumns}
+use Rattle.kinds.specs.declared.Column.{Column}
+use Rattle.kinds.specs.declared.Column.the-variants.{Filled, Signed}
 use Rattle.kinds.specs.declared.Columns.{Columns}
 use Rattle.kinds.specs.declared.Numbers.{Numbers}
+
+abbrev entry : Bool → Bool → ℕ → Entry
+entry filled minus size = record { filled = filled; minus = minus; size = size }
+
+between : (low high : ℕ) (filled minus : Bool) (size : ℕ)
+    → Decides (((filled && not minus) && leb low size) && leb size high) (Between low high (entry filled minus size))
+between low high false minus size = λ w. not-both (w .filled) refl
+between low high true true size = λ w. not-both refl (w .plain)
+between low high true false size =
+    decides-same (leb low size && leb size high) (λ w. record { filled = refl; plain = refl; from = w .0; to = w .1 }) (λ w. (w .from, w .to))
+    (decides-both (low ≤ size) (size ≤ high) (leb low size) (leb size high) (decides-at-most low size) (decides-at-most size high))
+
+around : (below above : ℕ) (filled minus : Bool) (size : ℕ) → Decides (filled && leb size (cond minus below above)) (Around below above (entry filled minus size))
+around below above false minus size = λ w. not-both (w .filled) refl
+around below above true true size =
+    decides-same (leb size below) (λ h. record { filled = refl; under = λ e. h; over = λ e. absurd (not-both refl e) }) (λ w. w .under refl) (decides-at-most size below)
+around below above true false size =
+    decides-same (leb size above) (λ h. record { filled = refl; under = λ e. absurd (not-both e refl); over = λ e. h }) (λ w. w .over refl) (decides-at-most size above)
+
+-- the sign says which of two limits is asked
+asked : (minus : Bool) (limit below above : ℕ) → ((minus ≡ true) × (limit ≡ below)) ⊎ ((minus ≡ false) × (limit ≡ above)) → limit ≡ cond minus below above
+asked minus limit below above (inl w) = rw (w .0) (w .1)
+asked minus limit below above (inr w) = rw (w .0) (w .1)
+
+-- the tests of an entry, for a column that asks for a number
+module _ (k : Column) (e : Entry) where
+  pub filled-decides : (low high : ℕ) → k ≡ Filled low high → Decides (((e .filled && not (e .minus)) && leb low (e .size)) && leb (e .size) high) (InRange k e)
+  filled-decides low high q = rw q (between low high (e .filled) (e .minus) (e .size))
+
+  pub signed-decides : (below above limit : ℕ) → k ≡ Signed below above → ((e .minus ≡ true) × (limit ≡ below)) ⊎ ((e .minus ≡ false) × (limit ≡ above))
+      → Decides (e .filled && leb (e .size) limit) (InRange k e)
+  signed-decides below above limit q l = rw (q, asked (e .minus) limit below above l) (around below above (e .filled) (e .minus) (e .size))
 
 module _ (k : Columns) (n : Numbers) where
   abbrev Two : Type 0

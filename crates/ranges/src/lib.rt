@@ -6,49 +6,7 @@ use kinds::Column;
 use kinds::Kind;
 use kinds::Numbers;
 ghost use Rattle.decides.specs.Decides.{Decides};
-ghost use Rattle.ranges.specs.Range.{Between, Around, InRange, Ranged};
-
-fn is_between(low: u32, high: u32, entry: Entry) -> bool
-    ensures { λ r. ⌜ Decides r (Between low high entry) ⌝ }
-{
-    let filled = entry.filled;
-    let minus = entry.minus;
-    let size = entry.size;
-    if !filled {
-        return false;
-    }
-    if minus {
-        return false;
-    }
-    if size < low {
-        return false;
-    }
-    if high < size {
-        return false;
-    }
-    true
-}
-
-fn is_around(below: u32, above: u32, entry: Entry) -> bool
-    ensures { λ r. ⌜ Decides r (Around below above entry) ⌝ }
-{
-    let filled = entry.filled;
-    let minus = entry.minus;
-    let size = entry.size;
-    if !filled {
-        return false;
-    }
-    if minus {
-        if below < size {
-            return false;
-        }
-        return true;
-    }
-    if above < size {
-        return false;
-    }
-    true
-}
+ghost use Rattle.ranges.specs.Range.{InRange, Ranged};
 
 // Whether an entry is in the range of its column.
 pub fn is_in_range(column: Column, entry: Entry) -> bool
@@ -56,8 +14,14 @@ pub fn is_in_range(column: Column, entry: Entry) -> bool
 {
     match column {
         Column::Empty => true,
-        Column::Filled(low, high) => is_between(low, high, entry),
-        Column::Signed(below, above) => is_around(below, above, entry),
+        Column::Filled(low, high) => entry.filled
+            & !entry.minus
+            & (low <= entry.size)
+            & (entry.size <= high),
+        Column::Signed(below, above) => {
+            let limit = if entry.minus { below } else { above };
+            entry.filled & (entry.size <= limit)
+        }
     }
 }
 

@@ -3,8 +3,8 @@
 //
 // A book is refused by its length before its form, and by its form before its rows. What is hard is the note: it is the
 // tenth cell of a row of the text, and the forms of the book's rows say the same of it.
-use book::Book;
-use book::Count;
+use counted::Book;
+use counted::Count;
 use refusals::Refusal;
 ghost use Rattle.book.specs.Says.{BookIs, CountIs};
 ghost use Rattle.book.specs.Notes.{NoteIs};
@@ -14,11 +14,11 @@ pub fn read_book(book: &[u8]) -> Book
     ensures { λ r. ⌜ BookIs (now (book .entry)) r ⌝ }
 {
     if 65536 < book.len() {
-        return book::refused(Refusal::TooLong, 0);
+        return counted::refused(Refusal::TooLong, 0);
     }
     let good = texts::is_csv(book);
     if !good {
-        return book::refused(Refusal::NotCsv, 0);
+        return counted::refused(Refusal::NotCsv, 0);
     }
     book::read_rows(book)
 }

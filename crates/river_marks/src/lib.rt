@@ -10,21 +10,12 @@ ghost use Rattle.river_marks.specs.Marks.{AtLeast};
 pub fn is_rock(strata: u32) -> bool
     ensures { λ r. ⌜ Decides r (strata ≡ 1) ⌝ }
 {
-    if strata == 1 {
-        return true;
-    }
-    false
+    strata == 1
 }
 
 // CL needs value >= limit.
 pub fn is_clear(minus: bool, size: u64, needed: u64) -> bool
     ensures { λ r. ⌜ Decides r (AtLeast minus size needed) ⌝ }
 {
-    if minus {
-        return false;
-    }
-    if size < needed {
-        return false;
-    }
-    true
+    !minus & (needed <= size)
 }

@@ -1,12 +1,14 @@
 -- What is found of a cell's stretch holds of the cell's content: the stretch is a field, and a field has one content.
 use Prim.Native.Nat.{ℕ, _+_, _<_}
 use native.Mathlib.Omega.{arith}
-use mathlib.Core.Path.{_≡_, sym, subst, _∙_}
-use mathlib.Core.Bool.{Bool, true, false}
+use mathlib.Core.Path.{_≡_, refl, sym, subst, _∙_}
+use mathlib.Core.Bool.{Bool, true, false, _&&_}
 use mathlib.Core.List.{List, _∷_}
+use lib.Dec.{eqb}
 use lib.ListN.{length, drop}
 use Rattle.rfc4180.specs.Rfc4180.{Cell, Field, File}
 use Rattle.rfc4180.proofs.Unique.{content-unique}
+use Rattle.decides.specs.Decides.{Decides, decides-both, decides-equal, decides-flag}
 use Rattle.cells.specs.Cells.{offset, RowAt, CellAt}
 use Rattle.cells.specs.declared.Cells.{Cells}
 use Rattle.cells.proofs.Fields.{row-fields}
@@ -15,8 +17,6 @@ use Rattle.fields.specs.Numbers.{EntryAt}
 use Rattle.names.specs.declared.Name.{Name}
 use Rattle.names.specs.declared.NameRead.{NameRead}
 use Rattle.fields.specs.declared.Entry.{Entry}
-use Rattle.fields.specs.declared.Entered.{Entered}
-use Rattle.fields.specs.declared.Entered.the-variants.{Is, Wrong}
 use Rattle.kinds.specs.Table.{columns, letters}
 use Rattle.kinds.specs.Form.{Means}
 use Rattle.letters.specs.Form.{KindAt}
@@ -28,10 +28,9 @@ use Rattle.kinds.specs.declared.Numbers.{Numbers}
 use Rattle.letters.proofs.Letters.{letters-one}
 use Rattle.rows.specs.Form.{BookRow, raw, content, Six, Form}
 use Rattle.keys.specs.Keyed.{no-row}
-use Rattle.rows.specs.Answer.{TenAt, three-are, formed, FormedAt, RowSeen}
-use Rattle.rows.specs.declared.ThreeRead.{ThreeRead}
-use Rattle.rows.specs.declared.ThreeRead.the-variants.{All, NotAll}
-use Rattle.rows.specs.declared.Formed.{Formed}
+use Rattle.rows.specs.Answer.{TenAt, entered, numbers-are, RowSeen}
+use Rattle.rows.specs.declared.EntryRead.{EntryRead}
+use Rattle.rows.specs.declared.RowRead.{RowRead}
 use Rattle.keys.specs.declared.Keyed.{Keyed}
 
 module _ {s : List ℕ} {c : Cells} {cs : List Cell} (t : TenAt s c cs) where
@@ -52,10 +51,12 @@ module _ {s : List ℕ} {c : Cells} {cs : List Cell} (t : TenAt s c cs) where
         let e = content-unique (w .field) cell-field in
         subst (λ (l : List ℕ). ContentNamed true l (n .name)) e (w .is, w .held)
 
-    pub cell-no-name : (n : NameRead) → n .good ≡ false → NameAt r n → (m : Name) → ContentNamed true (content cs k) m → ⊥
-    cell-no-name n g p m w =
-        let q = subst (λ (b : Bool). named b r (n .name)) g p in
-        q .0 m (record { content = content cs k; field = cell-field; is = w .0; held = w .1 })
+    pub cell-good : (n : NameRead) → NameAt r n → (m : Name) → ContentNamed true (content cs k) m → n .good ≡ true
+    cell-good n p m w = go (n .good) p
+      where
+        go : (b : Bool) → named b r (n .name) → b ≡ true
+        go true q = refl
+        go false q = absurd (q .0 m (record { content = content cs k; field = cell-field; is = w .0; held = w .1 }))
 
     pub cell-kind : (kind : Kind) → KindAt r (Known kind) → content cs k ≡ letters kind
     cell-kind kind p = content-unique cell-field p
@@ -63,48 +64,64 @@ module _ {s : List ℕ} {c : Cells} {cs : List Cell} (t : TenAt s c cs) where
     pub cell-no-kind : KindAt r Unknown → (kind : Kind) → content cs k ≡ letters kind → ⊥
     cell-no-kind p kind e = p kind (subst (λ (l : List ℕ). Field r l) e cell-field)
 
-    module _ (column : Column) {q : Entered} where
-      pub cell-entry : {x : Entry} → q ≡ Is x → EntryAt (Means column) r q → Means column (content cs k) x
-      cell-entry {x} e p =
-          let w = subst (EntryAt (Means column) r) e p in
-          subst (λ (l : List ℕ). Means column l x) (content-unique (w .field) cell-field) (w .is)
+    module _ (column : Column) (x : EntryRead) (p : EntryAt (Means column) r (entered (x .good) (x .entry))) where
+      pub cell-entry : x .good ≡ true → Means column (content cs k) (x .entry)
+      cell-entry e =
+          let w = subst (λ (b : Bool). EntryAt (Means column) r (entered b (x .entry))) e p in
+          subst (λ (l : List ℕ). Means column l (x .entry)) (content-unique (w .field) cell-field) (w .is)
 
-      pub cell-no-entry : q ≡ Wrong → EntryAt (Means column) r q → (x : Entry) → Means column (content cs k) x → ⊥
-      cell-no-entry e p x m = subst (EntryAt (Means column) r) e p x (record { content = content cs k; field = cell-field; is = m })
+      pub cell-filled : (y : Entry) → Means column (content cs k) y → x .good ≡ true
+      cell-filled y m = go (x .good) p
+        where
+          go : (b : Bool) → EntryAt (Means column) r (entered b (x .entry)) → b ≡ true
+          go true q = refl
+          go false q = absurd (q y (record { content = content cs k; field = cell-field; is = m }))
 
--- six numbers are three and three
-module _ {found wanted : Columns} (e : found ≡ wanted) (cs : List Cell) (n : Numbers) where
-  abbrev Left : ThreeRead → Type 0
-  Left r = three-are r 3 (found .n1) (found .n2) (found .n3) cs
+-- six flags by one
+module _ (a b c d e f : Bool) where
+  abbrev Two : Type 0
+  Two = (a ≡ true) × (b ≡ true)
 
-  abbrev Right : ThreeRead → Type 0
-  Right r = three-are r 6 (found .n4) (found .n5) (found .n6) cs
+  abbrev Three : Type 0
+  Three = Two × (c ≡ true)
 
-  pub six-of : {l r : ThreeRead} → l ≡ All (n .n1) (n .n2) (n .n3) → r ≡ All (n .n4) (n .n5) (n .n6) → Left l → Right r → Six wanted cs n
-  six-of p q v w =
-      let a = subst Left p v in
-      let b = subst Right q w in
-      subst (λ (d : Columns). Six d cs n) e (record { n1 = a .first; n2 = a .second; n3 = a .third; n4 = b .first; n5 = b .second; n6 = b .third })
+  abbrev Four : Type 0
+  Four = Three × (d ≡ true)
 
-  module _ (h : Six wanted cs n) where
-    abbrev six : Six found cs n
-    six = subst (λ (d : Columns). Six d cs n) (sym e) h
+  abbrev Five : Type 0
+  Five = Four × (e ≡ true)
 
-    pub no-left : {l : ThreeRead} → l ≡ NotAll → Left l → ⊥
-    no-left p v = subst Left p v (n .n1) (n .n2) (n .n3) (record { first = six .n1; second = six .n2; third = six .n3 })
+  abbrev All : Type 0
+  All = Five × (f ≡ true)
 
-    pub no-right : {r : ThreeRead} → r ≡ NotAll → Right r → ⊥
-    no-right p v = subst Right p v (n .n4) (n .n5) (n .n6) (record { first = six .n4; second = six .n5; third = six .n6 })
+  abbrev all : Bool
+  all = ((((a && b) && c) && d) && e) && f
 
--- no row
-pub unformed-is : (cs : List Cell) (r : Formed) → (r .good ≡ false) × (r .row ≡ no-row) → ((q : BookRow) → Form cs q → ⊥) → formed (r .good) cs (r .row)
-unformed-is cs r e h = subst (λ (b : Bool). formed b cs (r .row)) (sym (e .0)) (h, e .1)
+  all-set : Decides all All
+  all-set =
+      decides-both Five (f ≡ true) ((((a && b) && c) && d) && e) f
+      (decides-both Four (e ≡ true) (((a && b) && c) && d) e
+      (decides-both Three (d ≡ true) ((a && b) && c) d
+      (decides-both Two (c ≡ true) (a && b) c
+      (decides-both (a ≡ true) (b ≡ true) a b (decides-flag a) (decides-flag b)) (decides-flag c)) (decides-flag d)) (decides-flag e)) (decides-flag f)
+
+  -- the six numbers are good if each of them is
+  pub six-by : (n : Numbers) (kind : Kind) (cs : List Cell) (k : Columns) → k ≡ columns kind → (All → Six k cs n) → ((m : Numbers) → Six k cs m → All) → numbers-are all n kind cs
+  six-by n kind cs k z some none = go all all-set
+    where
+      go : (r : Bool) → Decides r All → numbers-are r n kind cs
+      go true h = subst (λ (j : Columns). Six j cs n) z (some h)
+      go false h = λ m s. h (none m (subst (λ (j : Columns). Six j cs m) (sym z) s))
 
 -- numbers that the columns of the one kind do not give
-pub no-numbers : (kind : Kind) (cs : List Cell) → content cs 2 ≡ letters kind → ((n : Numbers) → Six (columns kind) cs n → ⊥) → (q : BookRow) → Form cs q → ⊥
+no-numbers : (kind : Kind) (cs : List Cell) → content cs 2 ≡ letters kind → ((n : Numbers) → Six (columns kind) cs n → ⊥) → (q : BookRow) → Form cs q → ⊥
 no-numbers kind cs e h q f =
     h (q .keyed .row .numbers)
     (subst (λ (k : Kind). Six (columns k) cs (q .keyed .row .numbers)) (letters-one (q .keyed .row .kind) kind (sym (f .kind) ∙ e)) (f .numbers))
+
+pub numbers-good : (kind : Kind) (cs : List Cell) → content cs 2 ≡ letters kind → (g : Bool) (n : Numbers) → numbers-are g n kind cs → (q : BookRow) → Form cs q → g ≡ true
+numbers-good kind cs e true n h q f = refl
+numbers-good kind cs e false n h q f = absurd (no-numbers kind cs e h q f)
 
 module _ {s : List ℕ} {start : ℕ} {r : Cells} (h : RowAt s start r) (cs : List Cell) (css : List (List Cell)) (q : File (drop start s) (cs ∷ css)) where
   ten-at : r .count ≡ 10 → TenAt s r cs
@@ -113,12 +130,26 @@ module _ {s : List ℕ} {start : ℕ} {r : Cells} (h : RowAt s start r) (cs : Li
       let t : length cs ≡ 10 = sym (i .count) ∙ n in
       record { ten = t; place = λ k. start + offset cs k; stands = λ k l. i .stretches k l (omega arith); field = λ k l. row-fields q k (omega arith) }
 
-  pub seen-ten : r .count ≡ 10 → (f : Formed) → FormedAt s r f → RowSeen s start cs css (record { good = f .good; row = f .row; next = r .next })
-  seen-ten n f a =
+  pub seen-row : r .count ≡ 10 → (k : Keyed) → (TenAt s r cs → Form cs (record { keyed = k; note = raw cs 9 })) → RowSeen s start cs css (record { good = true; row = k; next = r .next })
+  seen-row n k f =
       let i = h cs css q in
-      record { means = a cs (ten-at n); behind = i .behind; on = i .on; rest = i .rest }
+      record { means = f (ten-at n); behind = i .behind; on = i .on; rest = i .rest }
 
-  pub seen-not-ten : (r .count ≡ 10 → ⊥) → (k : Keyed) → k ≡ no-row → RowSeen s start cs css (record { good = false; row = k; next = r .next })
-  seen-not-ten n k e =
+  pub seen-none : (u : RowRead) → (u .good ≡ false) × (u .row ≡ no-row) × (u .next ≡ r .next) → (r .count ≡ 10 → TenAt s r cs → (b : BookRow) → Form cs b → ⊥) → RowSeen s start cs css u
+  seen-none u e n =
       let i = h cs css q in
-      record { means = (λ b f. n (i .count ∙ f .ten), e); behind = i .behind; on = i .on; rest = i .rest }
+      let p : u ≡ record { good = false; row = no-row; next = r .next } = λ t. record { good = e .0 t; row = e .1 t; next = e .2 t } in
+      let none : (b : BookRow) → Form cs b → ⊥ = λ b f. let m : r .count ≡ 10 = i .count ∙ f .ten in n m (ten-at m) b f in
+      subst (RowSeen s start cs css) (sym p) (record { means = (none, refl); behind = i .behind; on = i .on; rest = i .rest })
+
+-- the test of a row's cells
+abbrev passes : ℕ → Bool → Bool → Bool → Bool
+passes n a b c = ((eqb n 10 && a) && b) && c
+
+pub passed : (n : ℕ) (a b c : Bool) → Decides (passes n a b c) ((((n ≡ 10) × (a ≡ true)) × (b ≡ true)) × (c ≡ true))
+passed n a b c =
+    decides-both (((n ≡ 10) × (a ≡ true)) × (b ≡ true)) (c ≡ true) ((eqb n 10 && a) && b) c
+    (decides-both ((n ≡ 10) × (a ≡ true)) (b ≡ true) (eqb n 10 && a) b
+    (decides-both (n ≡ 10) (a ≡ true) (eqb n 10) a (decides-equal n 10) (decides-flag a))
+    (decides-flag b))
+    (decides-flag c)

@@ -8,19 +8,15 @@ use Rattle.rfc4180.specs.Rfc4180.{Cell, Field, File, Rest}
 use Rattle.cells.specs.Cells.{no-cell, Stretch, offset}
 use Rattle.cells.specs.declared.Cells.{Cells}
 use Rattle.fields.specs.declared.Entry.{Entry}
+use Rattle.fields.specs.declared.Entered.{Entered}
+use Rattle.fields.specs.declared.Entered.the-variants.{Is, Wrong}
 use Rattle.kinds.specs.Table.{columns}
-use Rattle.kinds.specs.Form.{Means}
-use Rattle.kinds.specs.declared.Column.{Column}
 use Rattle.kinds.specs.declared.Kind.{Kind}
 use Rattle.kinds.specs.declared.Numbers.{Numbers}
 use Rattle.rows.specs.Form.{BookRow, raw, content, Six, Form}
 use Rattle.keys.specs.Keyed.{no-row}
 use Rattle.keys.specs.declared.Keyed.{Keyed}
-use Rattle.rows.specs.declared.ThreeRead.{ThreeRead}
-use Rattle.rows.specs.declared.ThreeRead.the-variants.{All, NotAll}
 use Rattle.rows.specs.declared.NumbersRead.{NumbersRead}
-use Rattle.rows.specs.declared.NumbersRead.the-variants.{Are, Wrong}
-use Rattle.rows.specs.declared.Formed.{Formed}
 use Rattle.rows.specs.declared.RowRead.{RowRead}
 
 -- the ten cells of a row stand where these places say
@@ -30,35 +26,23 @@ pub record TenAt (s : List ℕ) (c : Cells) (cs : List Cell) : Type 0 where
   pub stands : (k : ℕ) → k < 10 → Stretch s (place k) (getD (c .from) k 0) (getD (c .to) k 0) (getD cs k no-cell)
   pub field : (k : ℕ) → k < 10 → Field (raw cs k) (content cs k)
 
--- three numbers side by side, the first of them in the cell k
-pub record Three (k : ℕ) (a b c : Column) (cs : List Cell) (x y z : Entry) : Type 0 where
-  pub first : Means a (content cs k) x
-  pub second : Means b (content cs (k + 1)) y
-  pub third : Means c (content cs (k + 2)) z
-
--- the three; or that one of their cells has none by its column
-abbrev pub three-are : ThreeRead → ℕ → Column → Column → Column → List Cell → Type 0
-three-are (All x y z) k a b c cs = Three k a b c cs x y z
-three-are NotAll k a b c cs = (x y z : Entry) → Three k a b c cs x y z → ⊥
-
-abbrev pub ThreeAre : List ℕ → Cells → ℕ → Column → Column → Column → ThreeRead → Type 0
-ThreeAre s p k a b c r = (cs : List Cell) → TenAt s p cs → three-are r k a b c cs
+-- what a field was read to hold, as its column asks
+abbrev pub entered : Bool → Entry → Entered
+entered true x = Is x
+entered false x = Wrong
 
 -- the six numbers; or that the cells have none by the columns of the kind
-abbrev pub numbers-are : NumbersRead → Kind → List Cell → Type 0
-numbers-are (Are n) kind cs = Six (columns kind) cs n
-numbers-are Wrong kind cs = (n : Numbers) → Six (columns kind) cs n → ⊥
+abbrev pub numbers-are : Bool → Numbers → Kind → List Cell → Type 0
+numbers-are true n kind cs = Six (columns kind) cs n
+numbers-are false n kind cs = (m : Numbers) → Six (columns kind) cs m → ⊥
 
 abbrev pub NumbersAre : List ℕ → Cells → Kind → NumbersRead → Type 0
-NumbersAre s c kind r = (cs : List Cell) → TenAt s c cs → numbers-are r kind cs
+NumbersAre s c kind r = (cs : List Cell) → TenAt s c cs → numbers-are (r .good) (r .numbers) kind cs
 
 -- the row that the cells mean; or that they mean none, and no row
 abbrev pub formed : Bool → List Cell → Keyed → Type 0
 formed true cs k = Form cs (record { keyed = k; note = raw cs 9 })
 formed false cs k = ((r : BookRow) → Form cs r → ⊥) × (k ≡ no-row)
-
-abbrev pub FormedAt : List ℕ → Cells → Formed → Type 0
-FormedAt s c r = (cs : List Cell) → TenAt s c cs → formed (r .good) cs (r .row)
 
 -- of the row that starts at a place: what it means, and where the next one starts
 pub record RowSeen (s : List ℕ) (start : ℕ) (cs : List Cell) (css : List (List Cell)) (r : RowRead) : Type 0 where

@@ -14,28 +14,24 @@ use kinds::Row;
 use letters::KindRead;
 ghost use mathlib.Core.Path.{_≡_};
 ghost use mathlib.Core.Bool.{false};
-ghost use Prim.Native.Nat.{_≤_, _<_};
+ghost use Prim.Native.Nat.{_≤_};
 ghost use lib.ListN.{length, drop};
 ghost use Rattle.rfc4180.specs.Rfc4180.{Readable};
 ghost use Rattle.fields.specs.Numbers.{EntryAt};
 ghost use Rattle.kinds.specs.Form.{Means};
 ghost use Rattle.keys.specs.Keyed.{no-row};
-ghost use Rattle.rows.specs.Answer.{ThreeAre, NumbersAre, FormedAt, SeenAt};
+ghost use Rattle.rows.specs.Answer.{entered, NumbersAre, SeenAt};
 
-enum ThreeRead {
-    All(Entry, Entry, Entry),
-    NotAll,
-}
-
-enum NumbersRead {
-    Are(Numbers),
-    Wrong,
-}
-
-// A row; or none, where the cells mean none.
-struct Formed {
+// A number or an empty field; or neither, where a field holds neither by its column.
+struct EntryRead {
     good: bool,
-    row: Keyed,
+    entry: Entry,
+}
+
+// The numbers of a row; or none, where one of its fields holds none.
+struct NumbersRead {
+    good: bool,
+    numbers: Numbers,
 }
 
 // A row or none, and where the next row starts, or the text's end.
@@ -46,34 +42,24 @@ pub struct RowRead {
 }
 
 // What a field holds in a column.
-fn entry_at(column: Column, raw: &[u8]) -> Entered
-    ensures { λ r. ⌜ EntryAt (Means column) (now (raw .entry)) r ⌝ }
+fn entry_at(column: Column, raw: &[u8]) -> EntryRead
+    ensures { λ r. ⌜ EntryAt (Means column) (now (raw .entry)) (entered (r .good) (r .entry)) ⌝ }
 {
-    match column {
+    let read = match column {
         Column::Empty => fields::empty_at(raw),
-        Column::Filled(_, _) => fields::number_at(raw),
-        Column::Signed(_, _) => fields::number_at(raw),
+        _ => fields::number_at(raw),
+    };
+    match read {
+        Entered::Is(entry) => EntryRead { good: true, entry },
+        Entered::Wrong => {
+            let entry = Entry {
+                filled: false,
+                minus: false,
+                size: 0,
+            };
+            EntryRead { good: false, entry }
+        }
     }
-}
-
-// The numbers of three fields side by side, each by its column.
-fn three_of(s: &[u8], places: Cells, first: usize, a: Column, b: Column, c: Column) -> ThreeRead
-    requires { ⌜ first < 8 ⌝ }
-    ensures { λ r. ⌜ ThreeAre (now (s .entry)) places first a b c r ⌝ }
-{
-    let x = entry_at(a, cells::cell(s, places, first));
-    let Entered::Is(one) = x else {
-        return ThreeRead::NotAll;
-    };
-    let y = entry_at(b, cells::cell(s, places, first + 1));
-    let Entered::Is(two) = y else {
-        return ThreeRead::NotAll;
-    };
-    let z = entry_at(c, cells::cell(s, places, first + 2));
-    let Entered::Is(three) = z else {
-        return ThreeRead::NotAll;
-    };
-    ThreeRead::All(one, two, three)
 }
 
 // The six numbers of a row of a kind.
@@ -82,66 +68,44 @@ fn numbers_of(s: &[u8], places: Cells, kind: Kind) -> NumbersRead
 {
     let columns = kinds::columns_of(kind);
     let c1 = columns.n1;
+    let e1 = entry_at(c1, cells::cell(s, places, 3));
+    let n1 = e1.entry;
     let c2 = columns.n2;
+    let e2 = entry_at(c2, cells::cell(s, places, 4));
+    let n2 = e2.entry;
     let c3 = columns.n3;
-    let left = three_of(s, places, 3, c1, c2, c3);
-    let ThreeRead::All(n1, n2, n3) = left else {
-        return NumbersRead::Wrong;
-    };
+    let e3 = entry_at(c3, cells::cell(s, places, 5));
+    let n3 = e3.entry;
     let c4 = columns.n4;
+    let e4 = entry_at(c4, cells::cell(s, places, 6));
+    let n4 = e4.entry;
     let c5 = columns.n5;
+    let e5 = entry_at(c5, cells::cell(s, places, 7));
+    let n5 = e5.entry;
     let c6 = columns.n6;
-    let right = three_of(s, places, 6, c4, c5, c6);
-    let ThreeRead::All(n4, n5, n6) = right else {
-        return NumbersRead::Wrong;
-    };
-    NumbersRead::Are(Numbers {
+    let e6 = entry_at(c6, cells::cell(s, places, 8));
+    let n6 = e6.entry;
+    let numbers = Numbers {
         n1,
         n2,
         n3,
         n4,
         n5,
         n6,
-    })
+    };
+    let good = e1.good & e2.good & e3.good & e4.good & e5.good & e6.good;
+    NumbersRead { good, numbers }
 }
 
-fn unformed() -> Formed
-    ensures { λ r. ⌜ (r .good ≡ false) × (r .row ≡ no-row) ⌝ }
+// No row, and where the next one starts.
+fn unread(next: usize) -> RowRead
+    ensures { λ r. ⌜ (r .good ≡ false) × (r .row ≡ no-row) × (r .next ≡ next) ⌝ }
 {
     let row = keys::blank_row();
-    Formed { good: false, row }
-}
-
-// The row that ten cells mean.
-fn row_of(s: &[u8], places: Cells) -> Formed
-    ensures { λ r. ⌜ FormedAt (now (s .entry)) places r ⌝ }
-{
-    let member_read = names::name_at(cells::cell(s, places, 0));
-    let good = member_read.good;
-    let member = member_read.name;
-    if !good {
-        return unformed();
-    }
-    let job_read = names::name_at(cells::cell(s, places, 1));
-    let good = job_read.good;
-    let job = job_read.name;
-    if !good {
-        return unformed();
-    }
-    let kind_read = letters::kind_at(cells::cell(s, places, 2));
-    let KindRead::Known(kind) = kind_read else {
-        return unformed();
-    };
-    let numbers_read = numbers_of(s, places, kind);
-    let NumbersRead::Are(numbers) = numbers_read else {
-        return unformed();
-    };
-    let key = Key { member, job };
-    let row = Row { kind, numbers };
-    let keyed = Keyed { key, row };
-    Formed {
-        good: true,
-        row: keyed,
+    RowRead {
+        good: false,
+        row,
+        next,
     }
 }
 
@@ -152,18 +116,26 @@ pub fn read_row(s: &[u8], start: usize) -> RowRead
     ensures { λ r. ⌜ SeenAt (now (s .entry)) start r ⌝ }
 {
     let places = places::row_at(s, start);
-    let next = places.next;
-    let count = places.count;
-    if count == 10 {
-        let formed = row_of(s, places);
-        let good = formed.good;
-        let row = formed.row;
-        return RowRead { good, row, next };
+    let kind_read = letters::kind_at(cells::cell(s, places, 2));
+    let KindRead::Known(kind) = kind_read else {
+        return unread(places.next);
+    };
+    let numbers_read = numbers_of(s, places, kind);
+    let member_read = names::name_at(cells::cell(s, places, 0));
+    let job_read = names::name_at(cells::cell(s, places, 1));
+    // of a row that has not ten fields these are read for nothing
+    if (places.count == 10) & member_read.good & job_read.good & numbers_read.good {
+        let member = member_read.name;
+        let job = job_read.name;
+        let key = Key { member, job };
+        let numbers = numbers_read.numbers;
+        let row = Row { kind, numbers };
+        let keyed = Keyed { key, row };
+        return RowRead {
+            good: true,
+            row: keyed,
+            next: places.next,
+        };
     }
-    let row = keys::blank_row();
-    RowRead {
-        good: false,
-        row,
-        next,
-    }
+    unread(places.next)
 }

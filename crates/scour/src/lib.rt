@@ -23,12 +23,14 @@ pub fn scour_of(q: u64, z: u64, f: u64, w: u64, reach: u64) -> ScourAnswer
         return ScourAnswer::LargeCatchment;
     }
     let qf = discharge::foundation_discharge(q, z);
-    if lacey::meets_regime(q, w) {
-        return ScourAnswer::Needed(lacey::depth_needed(lacey::regime_depth(qf, f), reach));
-    }
-    let intensity = rounding::up(1000 * qf, w);
-    if 50000 < intensity {
-        return ScourAnswer::TooIntense;
-    }
-    ScourAnswer::Needed(lacey::depth_needed(lacey::constricted_depth(intensity, f), reach))
+    let depth = if lacey::meets_regime(q, w) {
+        lacey::regime_depth(qf, f)
+    } else {
+        let intensity = rounding::up(1000 * qf, w);
+        if 50000 < intensity {
+            return ScourAnswer::TooIntense;
+        }
+        lacey::constricted_depth(intensity, f)
+    };
+    ScourAnswer::Needed(lacey::depth_needed(depth, reach))
 }

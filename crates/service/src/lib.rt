@@ -12,8 +12,7 @@ pub fn serves(combination: Combination) -> bool
     ensures { λ r. ⌜ Decides r (Service combination) ⌝ }
 {
     match combination {
-        Combination::I => true,
-        Combination::II => true,
+        Combination::I | Combination::II => true,
         Combination::III => true,
         Combination::IV => false,
     }
@@ -24,9 +23,7 @@ pub fn has_check(combination: Combination, check: Check, base: Base) -> bool
     ensures { λ r. ⌜ Decides r (HasCheck combination check base) ⌝ }
 {
     match check {
-        Check::OP => serves(combination),
-        Check::OM => serves(combination),
-        Check::SL => serves(combination),
+        Check::OP | Check::OM | Check::SL => serves(combination),
         Check::PR => true,
         Check::RK => base.rock,
     }

@@ -18,14 +18,12 @@ fn rank_of(check: Check, base: Base, sums: Sums) -> u64
     requires { ⌜ Room 16 sums ⌝ }
     ensures { λ r. ⌜ Ranks (side check) (Judged check base sums) r ⌝ }
 {
-    let n = signed::excess(sums.v.above, sums.v.below);
-    let h = signed::distance(sums.h.above, sums.h.below);
-    let m = signed::distance(sums.m.above, sums.m.below);
-    let plus = sums.plus;
-    let minus = sums.minus;
+    let n = gaps::excess(sums.v.above, sums.v.below);
+    let h = gaps::distance(sums.h.above, sums.h.below);
+    let m = gaps::distance(sums.m.above, sums.m.below);
     match check {
-        Check::OP => ranks::tip_rank(plus.resisting, plus.overturning),
-        Check::OM => ranks::tip_rank(minus.resisting, minus.overturning),
+        Check::OP => ranks::tip_rank(sums.plus.resisting, sums.plus.overturning),
+        Check::OM => ranks::tip_rank(sums.minus.resisting, sums.minus.overturning),
         Check::SL => ranks::slide_rank(base.friction, n, h),
         Check::PR => pressure::press_rank(base.width, base.length, n, m),
         Check::RK => ranks::lean_rank(base.width, n, m),

@@ -5,23 +5,10 @@ use sets::Loads;
 use sets::Sums;
 use sets::Totals;
 ghost use mathlib.Core.Path.{_≡_};
-ghost use Prim.Native.Nat.{_<_, _≤_};
+ghost use Prim.Native.Nat.{_≤_};
 ghost use Rattle.sets.specs.Sets.{Bounded};
 ghost use Rattle.sets.specs.Totals.{totalsOf};
-ghost use Rattle.sets.specs.Sums.{addIf, sumsOf, Room};
-
-// The sums with one row more, if its bit is 1.
-fn add_if(held: u64, a: Sums, b: Sums) -> Sums
-    requires { ⌜ held < 2 ⌝ }
-    requires { ⌜ Room 64 a ⌝ }
-    requires { ⌜ Room 64 b ⌝ }
-    ensures { λ r. ⌜ r ≡ addIf held a b ⌝ }
-{
-    if held == 1 {
-        return sets::add_sums(a, b);
-    }
-    a
-}
+ghost use Rattle.sets.specs.Sums.{sumsOf};
 
 // The sums over the rows of a set.
 pub fn sums_of(width: u64, loads: Loads, set: u64) -> Sums
@@ -35,9 +22,9 @@ pub fn sums_of(width: u64, loads: Loads, set: u64) -> Sums
     let mut place: u64 = 1;
     let mut i: usize = 0;
     while i < count {
-        let load = loads.loads[i];
-        let terms = row_terms::terms_of(width, load, place);
-        sums = add_if(rest % 2, sums, terms);
+        if rest % 2 == 1 {
+            sums = sets::add_sums(sums, row_terms::terms_of(width, loads.loads[i], place));
+        }
         rest = rest / 2;
         place = 2 * place;
         i = i + 1;

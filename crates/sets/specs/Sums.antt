@@ -106,15 +106,6 @@ momentBy v x twist = record { above = 2 * (times v x) .above + 2 * twist .above;
 
 -- ---- sizes
 
--- numbers whose sums fit easily
-pub record LowParts (p : Parts) : Type 0 where
-  pub above : p .above ≤ 2 ^ 40
-  pub below : p .below ≤ 2 ^ 40
-
-pub record LowBalance (p : Balance) : Type 0 where
-  pub resisting : p .resisting ≤ 2 ^ 40
-  pub overturning : p .overturning ≤ 2 ^ 40
-
 -- what n rows give at most
 pub record Room (n : ℕ) (sums : Sums) : Type 0 where
   pub down : sums .v .above ≤ n * 50000

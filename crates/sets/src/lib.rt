@@ -6,7 +6,7 @@ use signed::Amount;
 use signed::Parts;
 ghost use mathlib.Core.Path.{_≡_};
 ghost use Rattle.sets.specs.Sets.{noLoad};
-ghost use Rattle.sets.specs.Sums.{noSums, addParts, addBalance, add, LowParts, LowBalance, Room};
+ghost use Rattle.sets.specs.Sums.{noSums, add, Room};
 
 // What a row is to a combination: DL, EP and E are permanent, WL is wind, SF is earthquake, every other row is free.
 pub enum Class {
@@ -108,45 +108,33 @@ pub fn no_sums() -> Sums
     }
 }
 
-fn add_parts(a: Parts, b: Parts) -> Parts
-    requires { ⌜ LowParts a ⌝ }
-    requires { ⌜ LowParts b ⌝ }
-    ensures { λ r. ⌜ r ≡ addParts a b ⌝ }
-{
-    Parts {
-        above: a.above + b.above,
-        below: a.below + b.below,
-    }
-}
-
-fn add_balance(a: Balance, b: Balance) -> Balance
-    requires { ⌜ LowBalance a ⌝ }
-    requires { ⌜ LowBalance b ⌝ }
-    ensures { λ r. ⌜ r ≡ addBalance a b ⌝ }
-{
-    Balance {
-        resisting: a.resisting + b.resisting,
-        overturning: a.overturning + b.overturning,
-    }
-}
-
 // Two sums together.
 pub fn add_sums(a: Sums, b: Sums) -> Sums
     requires { ⌜ Room 64 a ⌝ }
     requires { ⌜ Room 64 b ⌝ }
     ensures { λ r. ⌜ r ≡ add a b ⌝ }
 {
-    let v = add_parts(a.v, b.v);
-    let h = add_parts(a.h, b.h);
-    let m = add_parts(a.m, b.m);
-    let plus = add_balance(a.plus, b.plus);
-    let minus = add_balance(a.minus, b.minus);
     Sums {
-        v,
-        h,
-        m,
-        plus,
-        minus,
+        v: Parts {
+            above: a.v.above + b.v.above,
+            below: a.v.below + b.v.below,
+        },
+        h: Parts {
+            above: a.h.above + b.h.above,
+            below: a.h.below + b.h.below,
+        },
+        m: Parts {
+            above: a.m.above + b.m.above,
+            below: a.m.below + b.m.below,
+        },
+        plus: Balance {
+            resisting: a.plus.resisting + b.plus.resisting,
+            overturning: a.plus.overturning + b.plus.overturning,
+        },
+        minus: Balance {
+            resisting: a.minus.resisting + b.minus.resisting,
+            overturning: a.minus.overturning + b.minus.overturning,
+        },
         winds: a.winds + b.winds,
         quakes: a.quakes + b.quakes,
         set: a.set + b.set,

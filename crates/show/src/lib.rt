@@ -3,7 +3,7 @@
 // No contract can say what reaches standard output. Which bytes are sent there is said by the promises of
 // `debtarush::lines_of` and `refused_book::book_line`, whose blocks are printed here as they come.
 use block::Block;
-use book::Count;
+use counted::Count;
 use jobs::Job;
 use libc::STDERR_FILENO;
 use libc::STDOUT_FILENO;

@@ -4,9 +4,8 @@
 // numbers, so every amount is taken apart into what lies above and what lies below zero, and the difference of two sums
 // comes last. What is hard is the bridge: that a product's two parts are made of the factors' parts.
 ghost use mathlib.Core.Path.{_≡_};
-ghost use Prim.Native.Nat.{_+_, _-_};
 ghost use lib.IntN.{pos, _-ℤ_};
-ghost use Rattle.signed.specs.Whole.{worth, above, below, amount, partsOf, times, Small};
+ghost use Rattle.signed.specs.Whole.{worth, amount, partsOf, times, Small};
 
 // A whole number: its size, and whether it is below zero.
 pub struct Amount {
@@ -18,46 +17,6 @@ pub struct Amount {
 pub struct Parts {
     pub above: u64,
     pub below: u64,
-}
-
-// What an amount is above zero.
-fn above_zero(a: Amount) -> u64
-    ensures { λ r. ⌜ r ≡ above (worth a) ⌝ }
-{
-    if a.minus {
-        return 0;
-    }
-    a.size
-}
-
-// What an amount is below zero.
-fn below_zero(a: Amount) -> u64
-    ensures { λ r. ⌜ r ≡ below (worth a) ⌝ }
-{
-    if a.minus {
-        return a.size;
-    }
-    0
-}
-
-// How far two numbers are apart.
-pub fn distance(a: u64, b: u64) -> u64
-    ensures { λ r. ⌜ r ≡ (a - b) + (b - a) ⌝ }
-{
-    if a < b {
-        return b - a;
-    }
-    a - b
-}
-
-// How far a number is past another, and 0 where it is not.
-pub fn excess(a: u64, other: u64) -> u64
-    ensures { λ r. ⌜ r ≡ a - other ⌝ }
-{
-    if a < other {
-        return 0;
-    }
-    a - other
 }
 
 // The difference of two numbers, as an amount.
@@ -80,9 +39,15 @@ pub fn difference(a: u64, b: u64) -> Amount
 pub fn parts_of(a: Amount) -> Parts
     ensures { λ r. ⌜ r ≡ partsOf (worth a) ⌝ }
 {
+    if a.minus {
+        return Parts {
+            above: 0,
+            below: a.size,
+        };
+    }
     Parts {
-        above: above_zero(a),
-        below: below_zero(a),
+        above: a.size,
+        below: 0,
     }
 }
 

@@ -10,18 +10,9 @@ use Rattle.keys.specs.declared.Keyed.{Keyed}
 use Rattle.jobs.specs.Place.{InPlace}
 use Rattle.jobs.specs.Taking.{starts, joins, Says}
 use Rattle.jobs.specs.declared.Job.{Job}
-use Rattle.jobs.specs.declared.Took.{Took}
-use Rattle.jobs.specs.declared.Took.the-variants.{OutOfPlace}
-use Rattle.jobs.specs.declared.Took.the-variants as took
 use Rattle.steps.specs.declared.Way.{Way}
 use Rattle.steps.specs.declared.Way.the-variants.{Refused, Joined, Started}
 use Rattle.steps.specs.declared.Step.{Step}
-
--- what a job answers, as what the row does
-abbrev pub way : Took → Way
-way OutOfPlace = Refused NoPlace
-way took.Joined = Joined
-way took.Started = Started
 
 -- a row is refused here with 3, without a form, or with 4, out of place, and with nothing else
 abbrev pub Refuses : Job → Bool → Keyed → Refusal → Type 0

@@ -5,11 +5,10 @@
 use jobs::Job;
 use jobs::Took;
 use refusals::Refusal;
-ghost use mathlib.Core.Path.{_≡_};
 ghost use Prim.Native.Nat.{_≤_};
 ghost use lib.ListN.{length, drop};
 ghost use Rattle.rfc4180.specs.Rfc4180.{Readable};
-ghost use Rattle.steps.specs.Step.{way, StepIs};
+ghost use Rattle.steps.specs.Step.{StepIs};
 
 // What a row does: it is refused, or it joins the job before it, or it starts the next.
 pub enum Way {
@@ -25,40 +24,28 @@ pub struct Step {
     pub next: usize,
 }
 
-fn way_of(answer: Took) -> Way
-    ensures { λ r. ⌜ r ≡ way answer ⌝ }
-{
-    match answer {
-        Took::OutOfPlace => Way::Refused(Refusal::NoPlace),
-        Took::Joined => Way::Joined,
-        Took::Started => Way::Started,
-    }
-}
-
 // The row that starts at a place.
-pub fn step_at(s: &[u8], at: usize, job: Job) -> Step
+pub fn step_at(s: &[u8], at: usize, mut job: Job) -> Step
     requires { ⌜ at ≤ length (now s) ⌝ }
     requires { ⌜ Readable (drop at (now s)) ⌝ }
     ensures { λ r. ⌜ StepIs (now (s .entry)) at job r ⌝ }
 {
     let r = rows::read_row(s, at);
-    let good = r.good;
-    let keyed = r.row;
-    let next = r.next;
-    if !good {
-        return Step {
-            way: Way::Refused(Refusal::NoForm),
-            job,
-            next,
-        };
+    let mut way = Way::Refused(Refusal::NoForm);
+    if r.good {
+        let keyed = r.row;
+        let t = job.take(keyed);
+        job = t.job;
+        let answer = t.answer;
+        match answer {
+            Took::OutOfPlace => way = Way::Refused(Refusal::NoPlace),
+            Took::Joined => way = Way::Joined,
+            Took::Started => way = Way::Started,
+        }
     }
-    let t = job.take(keyed);
-    let answer = t.answer;
-    let taken = t.job;
-    let way = way_of(answer);
     Step {
         way,
-        job: taken,
-        next,
+        job,
+        next: r.next,
     }
 }

@@ -22,8 +22,7 @@ pub fn sums_at(table: &[u64; 208], from: usize, count: usize, choice: u64, first
     while j < count {
         if rest % 2 == 1 {
             let row = table_reads::row_at(table, from + j);
-            let more = sets::add_sums(sums, row);
-            sums = more;
+            sums = sets::add_sums(sums, row);
         }
         rest = rest / 2;
         j = j + 1;

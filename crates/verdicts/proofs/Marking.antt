@@ -36,24 +36,20 @@ module _ (x : Answer) where
   abbrev To-four : Type 0
   To-four = To-three × LinesYes (x .four)
 
-  abbrev To-depth : Type 0
-  To-depth = To-four × DepthYes (x .depth)
-
-  all-decided : (a b c d e f : Bool) → Decides a (LinesYes (x .one)) → Decides b (LinesYes (x .two)) → Decides c (LinesYes (x .three)) → Decides d (LinesYes (x .four))
-      → Decides e (DepthYes (x .depth)) → Decides f (ClearYes (x .clear)) → Decides (((((a && b) && c) && d) && e) && f) (AllYes x)
-  all-decided a b c d e f p q r s t u =
-      decides-same {P = To-depth × ClearYes (x .clear)} {Q = AllYes x} (((((a && b) && c) && d) && e) && f)
-      (λ w. record { one = w .0 .0 .0 .0 .0; two = w .0 .0 .0 .0 .1; three = w .0 .0 .0 .1; four = w .0 .0 .1; depth = w .0 .1; clear = w .1 })
-      (λ w. (((((w .one, w .two), w .three), w .four), w .depth), w .clear))
-      (decides-both To-depth (ClearYes (x .clear)) ((((a && b) && c) && d) && e) f
-      (decides-both To-four (DepthYes (x .depth)) (((a && b) && c) && d) e
+  all-decided : (a b c d e : Bool) → Decides a (LinesYes (x .one)) → Decides b (LinesYes (x .two)) → Decides c (LinesYes (x .three)) → Decides d (LinesYes (x .four))
+      → Decides e (DepthYes (x .depth) × ClearYes (x .clear)) → Decides ((((a && b) && c) && d) && e) (AllYes x)
+  all-decided a b c d e p q r s t =
+      decides-same {P = To-four × (DepthYes (x .depth) × ClearYes (x .clear))} {Q = AllYes x} ((((a && b) && c) && d) && e)
+      (λ w. record { one = w .0 .0 .0 .0; two = w .0 .0 .0 .1; three = w .0 .0 .1; four = w .0 .1; depth = w .1 .0; clear = w .1 .1 })
+      (λ w. ((((w .one, w .two), w .three), w .four), (w .depth, w .clear)))
+      (decides-both To-four (DepthYes (x .depth) × ClearYes (x .clear)) (((a && b) && c) && d) e
       (decides-both To-three (LinesYes (x .four)) ((a && b) && c) d
-      (decides-both One-two (LinesYes (x .three)) (a && b) c (decides-both (LinesYes (x .one)) (LinesYes (x .two)) a b p q) r) s) t) u)
+      (decides-both One-two (LinesYes (x .three)) (a && b) c (decides-both (LinesYes (x .one)) (LinesYes (x .two)) a b p q) r) s) t)
 
   by-flag : (yes : Bool) → Decides yes (AllYes x) → VerdictIs (verdict-by yes) x
   by-flag true h = h
   by-flag false h = h
 
-  pub verdict-decided : (a b c d e f : Bool) → Decides a (LinesYes (x .one)) → Decides b (LinesYes (x .two)) → Decides c (LinesYes (x .three)) → Decides d (LinesYes (x .four))
-      → Decides e (DepthYes (x .depth)) → Decides f (ClearYes (x .clear)) → VerdictIs (verdict-by (((((a && b) && c) && d) && e) && f)) x
-  verdict-decided a b c d e f p q r s t u = by-flag (((((a && b) && c) && d) && e) && f) (all-decided a b c d e f p q r s t u)
+  pub verdict-decided : (a b c d e : Bool) → Decides a (LinesYes (x .one)) → Decides b (LinesYes (x .two)) → Decides c (LinesYes (x .three)) → Decides d (LinesYes (x .four))
+      → Decides e (DepthYes (x .depth) × ClearYes (x .clear)) → VerdictIs (verdict-by ((((a && b) && c) && d) && e)) x
+  verdict-decided a b c d e p q r s t = by-flag ((((a && b) && c) && d) && e) (all-decided a b c d e p q r s t)

@@ -25,30 +25,26 @@ fn line_yes(line: Line) -> bool
     }
 }
 
-fn depth_yes(line: DepthLine) -> bool
-    ensures { λ r. ⌜ Decides r (DepthYes line) ⌝ }
+// Whether the lines of the river say Y, where there are any.
+fn river_yes(depth: DepthLine, clear: ClearLine) -> bool
+    ensures { λ r. ⌜ Decides r (DepthYes depth × ClearYes clear) ⌝ }
 {
-    match line {
+    let deep = match depth {
         DepthLine::Missing => true,
         DepthLine::Shown {
             needed: _,
             found: _,
             passes,
         } => passes,
-    }
-}
-
-fn clear_yes(line: ClearLine) -> bool
-    ensures { λ r. ⌜ Decides r (ClearYes line) ⌝ }
-{
-    match line {
-        ClearLine::Missing => true,
+    };
+    match clear {
+        ClearLine::Missing => deep,
         ClearLine::Shown {
             minus: _,
             size: _,
             needed: _,
             passes,
-        } => passes,
+        } => deep & passes,
     }
 }
 
@@ -84,9 +80,8 @@ pub fn judged(
     let b = lines_yes(two);
     let c = lines_yes(three);
     let d = lines_yes(four);
-    let e = depth_yes(depth);
-    let f = clear_yes(clear);
-    let verdict = lines::verdict_of(a & b & c & d & e & f);
+    let e = river_yes(depth, clear);
+    let verdict = lines::verdict_of(a & b & c & d & e);
     Answer {
         verdict,
         one,

@@ -2,7 +2,7 @@
 use Prim.Native.Nat.{ℕ, _≤_, _<_}
 use native.Mathlib.Omega.{arith}
 use mathlib.Core.Path.{_≡_, refl, sym, subst}
-use mathlib.Core.Bool.{Bool, true}
+use mathlib.Core.Bool.{Bool, true, false}
 use Rattle.decides.specs.Decides.{Decides, decided, refuted}
 use Rattle.ranges.specs.Range.{value}
 use Rattle.jobs.specs.declared.Job.{Job}
@@ -20,8 +20,13 @@ use Rattle.lines.specs.declared.DepthLine.the-variants as depth
 use Rattle.lines.specs.declared.ClearLine.the-variants as clear
 use Rattle.scour_told.specs.Numbers.{told-refusal, told-depth}
 use Rattle.river_marks.specs.Marks.{AtLeast}
-use Rattle.waters.specs.Waters.{LargeCatchment, TooIntense, OverObstructed, OnRock, DepthShown, DepthIs, Passed, DepthLineIs, RiverSays, large, intense, obstructed, shown}
+use Rattle.waters.specs.Waters.{LargeCatchment, TooIntense, OverObstructed, OnRock, DepthShown, DepthIs, Passed, RiverSays, large, intense, obstructed, shown}
 use Rattle.waters.specs.declared.RiverRead.the-variants.{Refused, Shown}
+
+-- the SC line of a depth needed and a depth found
+abbrev pub DepthLineIs : Bool → ℕ → ℕ → DepthLine → Type 0
+DepthLineIs rock needed found depth.Missing = rock ≡ true
+DepthLineIs rock needed found (depth.Shown n f passes) = (rock ≡ false) × (n ≡ needed) × (f ≡ found) × Decides passes (needed ≤ found)
 
 pub dry-shown : (job : Job) → (HasScour (job .stage) → ⊥) → RiverSays job (Shown depth.Missing clear.Missing)
 dry-shown job n = shown {d = depth.Missing} {c = clear.Missing} (record { catchment = λ l. n (l .has); intensity = λ t. n (t .has) }) (λ o. n (crossed-scoured (job .stage) (o .has))) (λ f. n (f .has)) (λ h. n (crossed-scoured (job .stage) h))

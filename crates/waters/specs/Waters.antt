@@ -1,7 +1,7 @@
 -- Document 01, what the river rows of a job are told: refusals 12, 13 and 14 of the job, and its lines SC and CL.
 use Prim.Native.Nat.{ℕ, _≤_, _<_}
 use mathlib.Core.Path.{_≡_}
-use mathlib.Core.Bool.{Bool, true, false}
+use mathlib.Core.Bool.{Bool, true}
 use Rattle.decides.specs.Decides.{Decides}
 use Rattle.ranges.specs.Range.{value}
 use Rattle.jobs.specs.declared.Job.{Job}
@@ -67,11 +67,6 @@ pub record ClearShown (job : Job) (minus : Bool) (size needed : ℕ) (passes : B
 abbrev pub ClearIs : Job → ClearLine → Type 0
 ClearIs job clear.Missing = HasClearance (job .stage) → ⊥
 ClearIs job (clear.Shown minus size needed passes) = ClearShown job minus size needed passes
-
--- the SC line of a depth needed and a depth found
-abbrev pub DepthLineIs : Bool → ℕ → ℕ → DepthLine → Type 0
-DepthLineIs rock needed found depth.Missing = rock ≡ true
-DepthLineIs rock needed found (depth.Shown n f passes) = (rock ≡ false) × (n ≡ needed) × (f ≡ found) × Decides passes (needed ≤ found)
 
 -- what a job's rows are told, as the lines are read from it: the S row and the strata, and the C row and the stage
 pub record DepthTold (job : Job) (rock : Bool) (found : ℕ) (told : scour.Told) : Type 0 where

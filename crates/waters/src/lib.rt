@@ -12,33 +12,12 @@ use placing::Stage;
 use scour::ScourAnswer;
 ghost use Rattle.job_ranges.specs.Rows.{RowsRanged};
 ghost use Rattle.scour.specs.Scour.{told};
-ghost use Rattle.waters.specs.Waters.{DepthLineIs, RiverSays, ClearGives, RowsGive};
+ghost use Rattle.waters.specs.Waters.{RiverSays, ClearGives, RowsGive};
 
 // What the river rows of a job give: their refusal, 12 to 14, or their lines.
 pub enum RiverRead {
     Refused(u8),
     Shown(DepthLine, ClearLine),
-}
-
-// SC needs value <= limit. On rock no depth is needed.
-fn depth_line(rock: bool, needed: u64, found: u64) -> DepthLine
-    ensures { λ r. ⌜ DepthLineIs rock needed found r ⌝ }
-{
-    if rock {
-        return DepthLine::Missing;
-    }
-    if needed <= found {
-        return DepthLine::Shown {
-            needed,
-            found,
-            passes: true,
-        };
-    }
-    DepthLine::Shown {
-        needed,
-        found,
-        passes: false,
-    }
 }
 
 // The C row, where there is one, behind an S row that is not refused.
@@ -56,19 +35,18 @@ fn clear_of(stage: Stage, depth: DepthLine, answer: ClearanceAnswer) -> RiverRea
             size,
             needed,
         } => {
-            let passes = river_marks::is_clear(minus, size, needed);
             let line = ClearLine::Shown {
                 minus,
                 size,
                 needed,
-                passes,
+                passes: river_marks::is_clear(minus, size, needed),
             };
             RiverRead::Shown(depth, line)
         }
     }
 }
 
-// The S and C rows, where there are any. The S row is refused on rock too.
+// The S and C rows, where there are any. The S row is refused on rock too, where no depth is needed; SC needs value <= limit.
 fn rows_of(
     stage: Stage,
     rock: bool,
@@ -85,7 +63,16 @@ fn rows_of(
     if 0 < refusal {
         return RiverRead::Refused(refusal);
     }
-    let line = depth_line(rock, scour_told::depth_of(scour), found as u64);
+    let needed = scour_told::depth_of(scour);
+    let line = if rock {
+        DepthLine::Missing
+    } else {
+        DepthLine::Shown {
+            needed,
+            found: found as u64,
+            passes: needed <= found as u64,
+        }
+    };
     clear_of(stage, line, clearance)
 }
 
@@ -96,8 +83,7 @@ pub fn river_of(job: Job) -> RiverRead
 {
     let stage = job.stage;
     let rock = river_marks::is_rock(job.base.n5.size);
-    let found = job.scour.n6.size;
     let scour = river::scour(job.scour);
     let clearance = clearance::clearance(job.clearance, job.scour.n1);
-    rows_of(stage, rock, found, scour, clearance)
+    rows_of(stage, rock, job.scour.n6.size, scour, clearance)
 }

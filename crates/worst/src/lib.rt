@@ -13,6 +13,7 @@ use named::Worst;
 use sets::Combination;
 use sets::Loads;
 ghost use Prim.Native.Nat.{_≤_};
+ghost use Rattle.sets.specs.declared.Loads.{Loads};
 ghost use Rattle.sets.specs.Sets.{Bounded, Opens};
 ghost use Rattle.checks.specs.Sized.{Sized};
 ghost use Rattle.service.specs.Service.{HasCheck};
@@ -48,31 +49,26 @@ fn walk(combination: Combination, base: Base, loads: Loads) -> Worst
     let mut k: u64 = 0;
     while k < choices {
         if k % step == 0 {
-            let part = tables::sums_at(&terms, low, free - low, k / step, fixed);
-            upper = part;
+            upper = tables::sums_at(&terms, low, free - low, k / step, fixed);
         }
         let sums = tables::sums_at(&terms, 0, low, k % step, upper);
-        let next = visits::visit(combination, serves, rock, base, sums, worst);
-        worst = next;
+        worst = visits::visit(combination, serves, rock, base, sums, worst);
         k = k + 1;
     }
     worst
 }
 
-// The line of a check from what the walk found.
-fn line_at(combination: Combination, check: Check, base: Base, loads: Loads, mark: Mark) -> Line
+// The line of a check from the rank and the set of the mark that the walk found.
+fn line_at(combination: Combination, check: Check, base: Base, rank: u64, set: u64) -> Line
     requires { ⌜ base .allowable ≤ 10000 ⌝ }
-    requires { ⌜ (HasCheck combination check base → Found combination check base loads mark) ⌝ }
-    ensures { λ r. ⌜ Says combination check base loads r ⌝ }
+    ensures { λ r. ⌜ ((loads : Loads) → (HasCheck combination check base → Found combination check base loads (record { rank = rank; set = set }))
+        → Says combination check base loads r) ⌝ }
 {
-    if !service::has_check(combination, check, base) {
+    let has = service::has_check(combination, check, base);
+    if !has | (set == 0) {
         return Line::Missing;
     }
-    let set = mark.set;
-    if set == 0 {
-        return Line::Missing;
-    }
-    let figure = checks::figure_at(check, mark.rank);
+    let figure = checks::figure_at(check, rank);
     let limit = limits::limit_of(combination, check, base);
     let passes = passing::passes(check, limit, figure);
     Line::Shown {
@@ -93,16 +89,11 @@ pub fn worst_lines(combination: Combination, base: Base, loads: Loads) -> Lines
         return lines::no_lines();
     }
     let worst = walk(combination, base, loads);
-    let op = worst.op;
-    let om = worst.om;
-    let sl = worst.sl;
-    let pr = worst.pr;
-    let rk = worst.rk;
     Lines {
-        op: line_at(combination, Check::OP, base, loads, op),
-        om: line_at(combination, Check::OM, base, loads, om),
-        sl: line_at(combination, Check::SL, base, loads, sl),
-        pr: line_at(combination, Check::PR, base, loads, pr),
-        rk: line_at(combination, Check::RK, base, loads, rk),
+        op: line_at(combination, Check::OP, base, worst.op.rank, worst.op.set),
+        om: line_at(combination, Check::OM, base, worst.om.rank, worst.om.set),
+        sl: line_at(combination, Check::SL, base, worst.sl.rank, worst.sl.set),
+        pr: line_at(combination, Check::PR, base, worst.pr.rank, worst.pr.set),
+        rk: line_at(combination, Check::RK, base, worst.rk.rank, worst.rk.set),
     }
 }

@@ -13,30 +13,26 @@ is-one : (n : ℕ) (r : Bool) → Decides r (n ≡ 1) → r ≡ eqb n 1
 is-one n true e = sym (eq-eqb n 1 e)
 is-one n false k = sym (ne-eqb n 1 k)
 
-wide-requires : tie.Need-wide-requires
-wide-requires c κs = search needs
+cast-t2 : tie.Need-cast-t2
+cast-t2 c = search needs
 
-wide-requires-2 : tie.Need-wide-requires-2
-wide-requires-2 c κs = search needs
+cast-t3 : tie.Need-cast-t3
+cast-t3 c = search needs
 
-wide-requires-3 : tie.Need-wide-requires-3
-wide-requires-3 c κs = search needs
+cast-t4 : tie.Need-cast-t4
+cast-t4 c = search needs
 
-wide-requires-4 : tie.Need-wide-requires-4
-wide-requires-4 c κs = search needs
+cast-t5 : tie.Need-cast-t5
+cast-t5 c = search needs
 
 is-rock-requires : tie.Need-is-rock-requires
 is-rock-requires c κs = search needs
 
 returns : tie.Need-returns
 returns c =
-    let w = c .before .before .before .before .wide .ensures in
-    let l = c .before .before .before .wide2 .ensures in
-    let a = c .before .before .wide3 .ensures in
-    let f = c .before .wide4 .ensures in
-    let k = is-one _ (c .is-rock .result) (c .is-rock .ensures) in
-    λ i. record { width = w i; length = l i; allowable = a i; friction = f i; rock = k i }
+    let rock = is-one _ (c .is-rock .result) (c .is-rock .ensures) in
+    let n = c .before .before .before .before .before .args .numbers in
+    λ i. record { width = n .n1 .size; length = n .n2 .size; allowable = n .n3 .size; friction = n .n4 .size; rock = rock i }
 
 pub base-at-spec : {M : Type 1} → statement M
-base-at-spec =
-    tie.close (tie.spec wide-requires wide-requires-2 wide-requires-3 wide-requires-4 is-rock-requires returns)
+base-at-spec = tie.close (tie.spec cast-t2 cast-t3 cast-t4 cast-t5 is-rock-requires returns)

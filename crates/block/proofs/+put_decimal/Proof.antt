@@ -1,6 +1,10 @@
 -- The digits of a tenth of the number first, then its last one. The number falls at each call.
 use borrow.Author.Needs.{needs}
+use mathlib.Core.Path.{_∙_}
+use mathlib.Core.Logic.{⊎-elim}
 use native.Mathlib.Omega.{arith}
+use Rattle.block.specs.Decimal.{last-digit}
+use Rattle.block.specs.Block.{page, puts}
 use Rattle.block.proofs.Pages.{decimal-last, decimal-next}
 use Prim.Native.Nat.{ℕ, _<_}
 use borrow.Fn.Kinds.{In}
@@ -24,74 +28,59 @@ put-decimal-below t =
     and 1 put-decimal-kinds.ps (falls 1 put-decimal-kinds.ps _<_ μ-put-decimal t) put-decimal.Pre
 
 put-decimal-cast-digit : (t : ℕ) → put-decimal-lts.Need-cast-digit (
-  push-reads.Asked,
-  push-reads.Learnt,
   put-decimal-below t,
   put-decimal.Post,
+  push-reads.Asked,
+  push-reads.Learnt,
 ) (put-decimal-at t) put-decimal.Post
 put-decimal-cast-digit t c = search needs
 
 put-decimal-add-digit : (t : ℕ) → put-decimal-lts.Need-add-digit (
-  push-reads.Asked,
-  push-reads.Learnt,
   put-decimal-below t,
   put-decimal.Post,
+  push-reads.Asked,
+  push-reads.Learnt,
 ) (put-decimal-at t) put-decimal.Post
 put-decimal-add-digit t c = search needs
 
-put-decimal-push-requires : (t : ℕ) → put-decimal-lts.Need-push-requires (
-  push-reads.Asked,
-  push-reads.Learnt,
+put-decimal-put-decimal-requires : (t : ℕ) → put-decimal-lts.Need-put-decimal-requires (
   put-decimal-below t,
   put-decimal.Post,
+  push-reads.Asked,
+  push-reads.Learnt,
+) (put-decimal-at t) put-decimal.Post
+put-decimal-put-decimal-requires t c κs = (omega arith, tt)
+
+put-decimal-push-requires : (t : ℕ) → put-decimal-lts.Need-push-requires (
+  put-decimal-below t,
+  put-decimal.Post,
+  push-reads.Asked,
+  push-reads.Learnt,
 ) (put-decimal-at t) put-decimal.Post
 put-decimal-push-requires t c κs = search needs
 
 put-decimal-returns : (t : ℕ) → put-decimal-lts.Need-returns (
-  push-reads.Asked,
-  push-reads.Learnt,
   put-decimal-below t,
   put-decimal.Post,
-) (put-decimal-at t) put-decimal.Post
-put-decimal-returns t c = decimal-last _ _ _ (c .before .before .if1 .taken) (c .push .ensures)
-
-put-decimal-put-decimal-requires : (t : ℕ) → put-decimal-lts.Need-put-decimal-requires (
   push-reads.Asked,
   push-reads.Learnt,
-  put-decimal-below t,
-  put-decimal.Post,
 ) (put-decimal-at t) put-decimal.Post
-put-decimal-put-decimal-requires t c κs = (omega arith, tt)
-
-put-decimal-push-requires-2 : (t : ℕ) → put-decimal-lts.Need-push-requires-2 (
-  push-reads.Asked,
-  push-reads.Learnt,
-  put-decimal-below t,
-  put-decimal.Post,
-) (put-decimal-at t) put-decimal.Post
-put-decimal-push-requires-2 t c κs = search needs
-
-put-decimal-returns-2 : (t : ℕ) → put-decimal-lts.Need-returns-2 (
-  push-reads.Asked,
-  push-reads.Learnt,
-  put-decimal-below t,
-  put-decimal.Post,
-) (put-decimal-at t) put-decimal.Post
-put-decimal-returns-2 t c = decimal-next _ _ _ _ (c .before .before .before .before .if1 .left) (c .before .before .put-decimal .ensures) (c .push2 .ensures)
+put-decimal-returns t c =
+    ⊎-elim
+    (λ w. decimal-last _ _ _ (w .0 .taken) (c .push .ensures ∙ (λ i. puts (page (w .1 i) (w .2 i)) (last-digit (c .before .before .before .args .n)))))
+    (λ w. decimal-next _ _ _ _ (w .0 .left) ((λ i. page (w .3 i) (w .4 i)) ∙ w .2 .ensures) (c .push .ensures)) (c .before .before .if1 .came)
 
 pub +put-decimal-spec : {M : Type 1} → statement M
 +put-decimal-spec = close μ-put-decimal λ t. put-decimal-lts.spec (
-  push-reads.Asked,
-  push-reads.Learnt,
   put-decimal-below t,
   put-decimal.Post,
+  push-reads.Asked,
+  push-reads.Learnt,
 )
     (put-decimal-at t)
     put-decimal.Post
     (put-decimal-cast-digit t)
     (put-decimal-add-digit t)
+    (put-decimal-put-decimal-requires t)
     (put-decimal-push-requires t)
     (put-decimal-returns t)
-    (put-decimal-put-decimal-requires t)
-    (put-decimal-push-requires-2 t)
-    (put-decimal-returns-2 t)

@@ -55,14 +55,11 @@ behind c =
 blank-job-requires : tie.Need-blank-job-requires Inv-loop μ-loop
 blank-job-requires c κs = search needs
 
-no-keys-requires : tie.Need-no-keys-requires Inv-loop μ-loop
-no-keys-requires c κs = search needs
-
 loop-holds : tie.Need-loop-holds Inv-loop μ-loop
 loop-holds c =
     let e = c .before .blank-job .ensures in
     let start = c .before .before .before in
-    walk-start (start .pre .0) (start .pre .1) (record { many = refl; keys = c .no-keys .ensures; jobs = ap (λ (j : Job). replicate 64 j) e; job = e })
+    walk-start (start .pre .0) (start .pre .1) (record { many = refl; keys = ap (λ (j : Job). replicate 64 (j .key)) e; jobs = ap (λ (j : Job). replicate 64 j) e; job = e })
 
 step-at-requires : tie.Need-step-at-requires Inv-loop μ-loop
 step-at-requires c κs = (c .loop .inv .reached .within, record { rows = _; reading = c .loop .inv .reached .here })
@@ -174,7 +171,6 @@ read-rows-spec =
     Inv-loop
     μ-loop
     blank-job-requires
-    no-keys-requires
     loop-holds
     step-at-requires
     enum-known-way

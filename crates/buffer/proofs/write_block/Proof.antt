@@ -1,6 +1,7 @@
 -- The block's text is its first bytes, at most 2,048; they are copied where the buffer has room for them.
-use Prim.Native.Nat.{ℕ, _-_}
+use Prim.Native.Nat.{ℕ, _-_, min}
 use mathlib.Core.Path.{_≡_, ap}
+use mathlib.Core.Logic.{⊎-elim}
 use native.Mathlib.Omega.{arith}
 use lib.ListN.{length, take}
 use Rattle.buffer.proofs.Buffer.{too-short, written-whole}
@@ -12,13 +13,14 @@ use Rattle.buffer.proofs.write_block.Tie as tie
 whole : (c : tie.Start) → length (c .args .block .bytes) ≡ 2048
 whole c = search needs
 
-at-most-2048-requires : tie.Need-at-most-2048-requires
-at-most-2048-requires c κs = search needs
+-- and no more are taken than it has
+cut : (c : tie.Joined1) → c .if1 .len ≡ min (c .before .before .before .args .block .len) 2048
+cut c = ⊎-elim (λ w. omega (arith, w .0 .taken, w .1)) (λ w. omega (arith, w .0 .left, w .1)) (c .if1 .came)
 
 returns : tie.Need-returns
 returns c =
     let start = c .before .before .before .before in
-    too-short (start .args .block) _ (whole start) (c .before .at-most-2048 .ensures) _ (c .if1 .taken)
+    too-short (start .args .block) _ (whole start) (cut (c .before)) _ (c .if2 .taken)
 
 sub-copy : tie.Need-sub-copy
 sub-copy c = search needs
@@ -27,7 +29,9 @@ part-copy-start : tie.Need-part-copy-start
 part-copy-start c = search needs
 
 part-copy-end : tie.Need-part-copy-end
-part-copy-end c = omega (arith, whole (c .before .before .before .before .before), c .before .before .at-most-2048 .ensures)
+part-copy-end c =
+    let joined = c .before .before .before .before in
+    omega (arith, whole (joined .before .before .before), cut joined)
 
 copy-requires : tie.Need-copy-requires
 copy-requires c κs = search needs
@@ -37,23 +41,15 @@ same-length c = search needs
 
 returns-2 : tie.Need-returns-2
 returns-2 c =
-    let start = c .before .before .before .before .before .before .before .before .before .before in
-    let test = c .before .before .before .before .before .before in
-    let n = test .before .at-most-2048 .result in
+    let test = c .before .before .before .before .before .before .before .before in
+    let start = test .before .before .before .before in
+    let n = test .before .if1 .len in
     let bytes = start .args .block .bytes in
     let e : n - 0 ≡ n = omega arith in
-    written-whole (start .args .block) n (whole start) (test .before .at-most-2048 .ensures) _ _ (take (n - 0) bytes) (test .if1 .left)
+    written-whole (start .args .block) n (whole start) (cut (test .before)) _ _ (take (n - 0) bytes) (test .if2 .left)
     (ap (λ (k : ℕ). take k bytes) e) (c .before .before .copy .ensures .1)
 
 pub write-block-spec : {M : Type 1} → statement M
 write-block-spec =
     tie.close
-    (tie.spec
-    at-most-2048-requires
-    returns
-    sub-copy
-    part-copy-start
-    part-copy-end
-    copy-requires
-    same-length
-    returns-2)
+    (tie.spec returns sub-copy part-copy-start part-copy-end copy-requires same-length returns-2)

@@ -1,33 +1,72 @@
--- The three tests are what `Stands` asks: where all hold, the stretch is the cell's, and where one fails the cell has no place and nothing is due.
-use mathlib.Core.Path.{refl}
+-- The tests are what `Stands` asks: where all hold, the stretch is the cell's, and where one fails the cell has no place and nothing is due.
+use Prim.Native.Nat.{ℕ, _≤_}
+use native.Mathlib.Decide.{decLe}
 use native.Mathlib.Omega.{arith}
+use mathlib.Core.Path.{_≡_, refl}
+use mathlib.Core.Logic.{⊎-elim}
+use mathlib.Core.Bool.{true, false, _&&_}
+use lib.Dec.{leb}
+use Rattle.cells.specs.Cells.{Stands}
+use borrow.Author.Tests.{le-leb, lt-leb}
 use borrow.Author.Needs.{needs}
 use Rattle.cells.proofs.cell.Statement.{statement}
 use Rattle.cells.proofs.cell.Tie as tie
 
+-- the test of where a cell starts and ends
+module _ (a e n : ℕ) where
+  in-order : leb a e && leb e n ≡ true → (a ≤ e) × (e ≤ n)
+  in-order t = go (decLe a e) (decLe e n)
+    where
+      go : Dec (a ≤ e) → Dec (e ≤ n) → (a ≤ e) × (e ≤ n)
+      go (yes h) (yes k) = (h, k)
+      go (yes h) (no k) =
+          let p = le-leb a e h in
+          let q = lt-leb e n (omega arith) in
+          let z : _≡_ {A = ℕ} 0 1 = cc in
+          absurd (omega arith)
+      go (no h) k =
+          let p = lt-leb a e (omega arith) in
+          let z : _≡_ {A = ℕ} 0 1 = cc in
+          absurd (omega arith)
+
+  out-of-order : leb a e && leb e n ≡ false → a ≤ e → e ≤ n → ⊥
+  out-of-order t h k =
+      let p = le-leb a e h in
+      let q = le-leb e n k in
+      let z : _≡_ {A = ℕ} 0 1 = cc in
+      omega arith
+
+stands : (c : tie.Then2) → let start = c .before .before .before .before in Stands (start .args .s .now) (start .args .t2) (start .args .k)
+stands c =
+    let h = in-order _ _ _ (c .if2 .taken) in
+    record { few = c .before .before .before .if1 .taken; order = h .0; within = h .1 }
+
 mul-a : tie.Need-mul-a
 mul-a c = search needs
 
-array-read-a : tie.Need-array-read-a
-array-read-a c = search needs
+element-copy-out-a : tie.Need-element-copy-out-a
+element-copy-out-a c = search needs
 
 mul-e : tie.Need-mul-e
 mul-e c = search needs
 
-array-read-e : tie.Need-array-read-e
-array-read-e c = search needs
-
-part-result-start : tie.Need-part-result-start
-part-result-start c = search needs
-
-part-result-end : tie.Need-part-result-end
-part-result-end c = search needs
-
-returns : tie.Need-returns
-returns c = record { there = λ w. refl; missing = λ n. absurd (n (record { few = search needs; order = search needs; within = search needs })) }
+element-copy-out-e : tie.Need-element-copy-out-e
+element-copy-out-e c = search needs
 
 sub-result : tie.Need-sub-result
-sub-result c = search needs
+sub-result c = stands c .order
+
+part-result-start : tie.Need-part-result-start
+part-result-start c = let h = stands c in search needs
+
+part-result-end : tie.Need-part-result-end
+part-result-end c = let h = stands c in search needs
+
+returns : tie.Need-returns
+returns c = record { there = λ w. refl; missing = λ n. absurd (n (stands (c .before))) }
+
+sub-result-2 : tie.Need-sub-result-2
+sub-result-2 c = search needs
 
 part-result-start-2 : tie.Need-part-result-start-2
 part-result-start-2 c = search needs
@@ -36,52 +75,25 @@ part-result-end-2 : tie.Need-part-result-end-2
 part-result-end-2 c = search needs
 
 returns-2 : tie.Need-returns-2
-returns-2 c = record { there = λ w. let h = w .within in absurd (omega arith); missing = λ n. refl }
-
-sub-result-2 : tie.Need-sub-result-2
-sub-result-2 c = search needs
-
-part-result-start-3 : tie.Need-part-result-start-3
-part-result-start-3 c = search needs
-
-part-result-end-3 : tie.Need-part-result-end-3
-part-result-end-3 c = search needs
-
-returns-3 : tie.Need-returns-3
-returns-3 c = record { there = λ w. let h = w .order in absurd (omega arith); missing = λ n. refl }
-
-sub-result-3 : tie.Need-sub-result-3
-sub-result-3 c = search needs
-
-part-result-start-4 : tie.Need-part-result-start-4
-part-result-start-4 c = search needs
-
-part-result-end-4 : tie.Need-part-result-end-4
-part-result-end-4 c = search needs
-
-returns-4 : tie.Need-returns-4
-returns-4 c = record { there = λ w. let h = w .few in absurd (omega arith); missing = λ n. refl }
+returns-2 c =
+    record {
+      there = λ w. absurd (⊎-elim (λ u. out-of-order _ _ _ (u .3 .left) (w .order) (w .within)) (λ u. let h = w .few in omega (arith, u .left)) (c .before .if1 .came));
+      missing = λ n. refl;
+    }
 
 pub cell-spec : {M : Type 1} → statement M
 cell-spec =
     tie.close
     (tie.spec
     mul-a
-    array-read-a
+    element-copy-out-a
     mul-e
-    array-read-e
+    element-copy-out-e
+    sub-result
     part-result-start
     part-result-end
     returns
-    sub-result
+    sub-result-2
     part-result-start-2
     part-result-end-2
-    returns-2
-    sub-result-2
-    part-result-start-3
-    part-result-end-3
-    returns-3
-    sub-result-3
-    part-result-start-4
-    part-result-end-4
-    returns-4)
+    returns-2)

@@ -1,82 +1,31 @@
--- The check tells the side of the order, and the figure is that side's: OP, OM and SL have the lowest for the worst, PR and RK the highest.
+-- The check tells the side of the order. On the lowest the top rank is "none", and any other is a number below it, its own rank. On the highest
+-- rank 0 is "off", and any other is what a number below the top leaves of it: the two subtractions undo each other.
 use borrow.Author.Needs.{needs}
-use mathlib.Core.Path.{_≡_, subst⁻¹}
-use Rattle.checks.specs.declared.Check.{Check}
-use Rattle.checks.specs.Order.{side, Sound, rank}
+use native.Mathlib.Omega.{arith}
+use mathlib.Core.Path.{refl, sym}
+use Rattle.checks.specs.Order.{Sound, rank}
+use Rattle.checks.proofs.Sides.{low-side, high-side}
 use Rattle.checks.proofs.figure_at.Statement.{statement}
 use Rattle.checks.proofs.figure_at.Tie as tie
 
-enum-told : tie.Need-enum-told
-enum-told c = search needs
-
-low-figure-requires : tie.Need-low-figure-requires
-low-figure-requires c κs = search needs
-
-enum-told-2 : tie.Need-enum-told-2
-enum-told-2 c = search needs
-
-low-figure-requires-2 : tie.Need-low-figure-requires-2
-low-figure-requires-2 c κs = search needs
-
-enum-told-3 : tie.Need-enum-told-3
-enum-told-3 c = search needs
-
-low-figure-requires-3 : tie.Need-low-figure-requires-3
-low-figure-requires-3 c κs = search needs
-
-enum-told-4 : tie.Need-enum-told-4
-enum-told-4 c = search needs
-
-high-figure-requires : tie.Need-high-figure-requires
-high-figure-requires c κs = search needs
-
-enum-told-5 : tie.Need-enum-told-5
-enum-told-5 c = search needs
-
-high-figure-requires-2 : tie.Need-high-figure-requires-2
-high-figure-requires-2 c κs = search needs
+sub-t8 : tie.Need-sub-t8
+sub-t8 c = search needs
 
 returns : tie.Need-returns
-unfolding side
-returns c =
-    subst⁻¹ (λ (k : Check). Sound (side k) (c .low-figure .result) × (rank (side k) (c .low-figure .result) ≡ c .before .before .before .args .r)) (c .before .enum-told .given .1) (c .low-figure .ensures)
+unfolding Sound rank
+returns c = rw (low-side (c .before .before .args .check) (c .before .match .keys1)) (tt, sym (c .if1 .taken))
 
 returns-2 : tie.Need-returns-2
-unfolding side
-returns-2 c =
-    subst⁻¹ (λ (k : Check). Sound (side k) (c .low-figure2 .result) × (rank (side k) (c .low-figure2 .result) ≡ c .before .before .before .args .r)) (c .before .enum-told2 .given .1) (c .low-figure2 .ensures)
+unfolding Sound rank
+returns-2 c = rw (low-side (c .before .before .args .check) (c .before .match .keys1)) (omega (arith, c .if1 .left), refl)
 
 returns-3 : tie.Need-returns-3
-unfolding side
-returns-3 c =
-    subst⁻¹ (λ (k : Check). Sound (side k) (c .low-figure3 .result) × (rank (side k) (c .low-figure3 .result) ≡ c .before .before .before .args .r)) (c .before .enum-told3 .given .1) (c .low-figure3 .ensures)
+unfolding Sound rank
+returns-3 c = rw (high-side (c .before .before .args .check) (c .before .match .keys2)) (tt, sym (c .if2 .taken))
 
 returns-4 : tie.Need-returns-4
-unfolding side
-returns-4 c =
-    subst⁻¹ (λ (k : Check). Sound (side k) (c .high-figure .result) × (rank (side k) (c .high-figure .result) ≡ c .before .before .before .args .r)) (c .before .enum-told4 .given .1) (c .high-figure .ensures)
-
-returns-5 : tie.Need-returns-5
-unfolding side
-returns-5 c =
-    subst⁻¹ (λ (k : Check). Sound (side k) (c .high-figure2 .result) × (rank (side k) (c .high-figure2 .result) ≡ c .before .before .before .args .r)) (c .before .enum-told5 .given .1) (c .high-figure2 .ensures)
+unfolding Sound rank
+returns-4 c = rw (high-side (c .before .before .args .check) (c .before .match .keys2)) (omega (arith, c .if2 .left), omega arith)
 
 pub figure-at-spec : {M : Type 1} → statement M
-figure-at-spec =
-    tie.close
-    (tie.spec
-    enum-told
-    low-figure-requires
-    enum-told-2
-    low-figure-requires-2
-    enum-told-3
-    low-figure-requires-3
-    enum-told-4
-    high-figure-requires
-    enum-told-5
-    high-figure-requires-2
-    returns
-    returns-2
-    returns-3
-    returns-4
-    returns-5)
+figure-at-spec = tie.close (tie.spec sub-t8 returns returns-2 returns-3 returns-4)

@@ -1,14 +1,19 @@
 -- A quoted field ends behind the quote that closes it, a plain one with the longest plain stretch; no field there has another end,
 -- so what follows that end decides. A quote that nothing closes begins no field.
-use Prim.Native.Nat.{_+_, _<_}
-use mathlib.Core.Path.{subst}
+use Prim.Native.Nat.{ℕ, _+_, _<_}
+use mathlib.Core.Path.{sym, subst}
+use mathlib.Core.Logic.{⊎-elim}
+use mathlib.Core.List.{List}
+use mathlib.Core.Bool.{_&&_}
 use native.Mathlib.Omega.{arith}
-use lib.ListN.{length}
-use Rattle.rfc4180.specs.Rfc4180.{DQUOTE}
-use Rattle.quoted.specs.Closing.{ClosedAt}
-use Rattle.decides.specs.Decides.{decided, refuted}
+use lib.ListN.{length, drop}
+use Rattle.rfc4180.specs.Rfc4180.{COMMA, CR, DQUOTE, LF}
+use Rattle.quoted.specs.Closing.{Begins, ClosedAt}
+use Rattle.csv.specs.Answer.{FieldTo}
+use Rattle.decides.specs.Decides.{Decides, decided, refuted, decides-both}
 use Rattle.rfc4180.proofs.Parts.{begins-lt}
-use Rattle.csv.proofs.Ends.{field-ends, plain-field, plain-follows, quoted-field, quoted-follows, unclosed}
+use Rattle.csv.proofs.Scan.{begun, two-bytes, no-stop}
+use Rattle.csv.proofs.Ends.{EndsAt, not-followed, plain-ends, quoted-ends, unclosed}
 use borrow.Author.Needs.{needs}
 use Rattle.csv.proofs.field_end.Statement.{statement}
 use Rattle.csv.proofs.field_end.Tie as tie
@@ -27,53 +32,22 @@ closing-requires c κs =
     let h : at < length s = begins-lt s at DQUOTE (bq .behind) (bq .begins) in
     omega arith
 
-enum-known-found : tie.Need-enum-known-found
-enum-known-found c = search needs
+enum-known-i : tie.Need-enum-known-i
+enum-known-i c = search needs
 
-add-stop-at : tie.Need-add-stop-at
-add-stop-at c =
-    let at-found = c .before in
-    let at-closing = at-found .before .before in
-    let s = at-closing .before .before .before .before .args .s .now in
-    let at = at-closing .before .before .before .before .args .at in
-    let p = subst (ClosedAt s (at + 1)) (at-found .found .given .1) (at-closing .closing .ensures) in
-    let h = p .within in
-    search needs
-
-stop-at-requires : tie.Need-stop-at-requires
-stop-at-requires c κs =
-    let at-found = c .before in
-    let at-closing = at-found .before .before in
-    let s = at-closing .before .before .before .before .args .s .now in
-    let at = at-closing .before .before .before .before .args .at in
-    let p = subst (ClosedAt s (at + 1)) (at-found .found .given .1) (at-closing .closing .ensures) in
+add-end : tie.Need-add-end
+add-end c =
+    let at-closing = c .before .before .before in
+    let start = at-closing .before .before .before .before in
+    let p = subst (ClosedAt (start .args .s .now) (start .args .at + 1)) (c .before .i .given .1) (at-closing .closing .ensures) in
     let h = p .within in
     search needs
 
 enum-told : tie.Need-enum-told
 enum-told c = search needs
 
-plain-end-requires : tie.Need-plain-end-requires
-plain-end-requires c κs = search needs
-
-stop-at-requires-2 : tie.Need-stop-at-requires-2
-stop-at-requires-2 c κs = search needs
-
 returns : tie.Need-returns
 returns c =
-    let at-told = c .before in
-    let at-found = at-told .before in
-    let at-closing = at-found .before .before in
-    let at-if = at-closing .before in
-    let s = at-if .before .before .before .args .s .now in
-    let at = at-if .before .before .before .args .at in
-    let bq = decided (at-if .before .byte-is .result) (at-if .if1 .taken) (at-if .before .byte-is .ensures) in
-    let i = at-found .found .given .0 .0 in
-    let p = subst (ClosedAt s (at + 1)) (at-found .found .given .1) (at-closing .closing .ensures) in
-    field-ends s at (i + 1) (c .stop-at .result) (quoted-field s at bq i p) (quoted-follows s at bq i p) (c .stop-at .ensures)
-
-returns-2 : tie.Need-returns-2
-returns-2 c =
     let at-closing = c .before .before in
     let at-if = at-closing .before in
     let s = at-if .before .before .before .args .s .now in
@@ -81,15 +55,73 @@ returns-2 c =
     let bq = decided (at-if .before .byte-is .result) (at-if .if1 .taken) (at-if .before .byte-is .ensures) in
     unclosed s at bq (subst (ClosedAt s (at + 1)) (c .enum-told .given .1) (at-closing .closing .ensures))
 
+plain-end-requires : tie.Need-plain-end-requires
+plain-end-requires c κs = search needs
+
+-- the field that was found, quoted or plain
+module _ (c : tie.Joined1) where
+  abbrev text : List ℕ
+  text = c .before .before .before .args .s .now
+
+  abbrev at : ℕ
+  at = c .before .before .before .args .at
+
+  ends : EndsAt text at (c .if1 .end)
+  ends =
+      let opened = c .before .byte-is .ensures in
+      ⊎-elim
+      (λ w.
+      let p = subst (ClosedAt text (at + 1)) (w .3 .given .1) (w .1 .ensures) in
+      subst (EndsAt text at) (sym (w .5)) (quoted-ends text at (decided _ (w .0 .taken) opened) (w .3 .given .0 .0) p))
+      (λ w. subst (EndsAt text at) (sym (w .2)) (plain-ends text at (refuted _ (w .0 .left) opened) (w .1 .result) (w .1 .ensures)))
+      (c .if1 .came)
+
+returns-2 : tie.Need-returns-2
+returns-2 c = subst (FieldTo _ _) (c .if2 .taken) (ends (c .before) .field)
+
+byte-is-requires-2 : tie.Need-byte-is-requires-2
+byte-is-requires-2 c κs = search needs
+
 returns-3 : tie.Need-returns-3
 returns-3 c =
-    let at-if = c .before .before in
-    let s = at-if .before .before .before .args .s .now in
-    let at = at-if .before .before .before .args .at in
-    let nq = refuted (at-if .before .byte-is .result) (at-if .if1 .left) (at-if .before .byte-is .ensures) in
-    let e = c .before .plain-end .result in
-    let p = c .before .plain-end .ensures in
-    field-ends s at e (c .stop-at2 .result) (plain-field s at nq e p) (plain-follows s at nq e p) (c .stop-at2 .ensures)
+    let at-end = c .before .before .before in
+    (ends at-end .field, begun (text at-end) (at-end .if1 .end) COMMA (decided _ (c .if3 .taken) (c .before .byte-is2 .ensures)))
+
+byte-is-requires-3 : tie.Need-byte-is-requires-3
+byte-is-requires-3 c κs = search needs
+
+add-byte-is : tie.Need-add-byte-is
+add-byte-is c =
+    let h = ends (c .before .before .before .before .before) .field .within in
+    search needs
+
+byte-is-requires-4 : tie.Need-byte-is-requires-4
+byte-is-requires-4 c κs = search needs
+
+-- whether CR and LF stand behind the field
+module _ (c : tie.After-byte-is4) where
+  abbrev at-end : tie.Joined1
+  at-end = c .before .before .before .before .before .before
+
+  abbrev RowEnd : Type 0
+  RowEnd = Begins CR (drop (at-end .if1 .end) (text at-end)) × Begins LF (drop (at-end .if1 .end + 1) (text at-end))
+
+  row-end : Decides (c .before .before .byte-is3 .result && c .byte-is4 .result) RowEnd
+  row-end = decides-both _ _ (c .before .before .byte-is3 .result) (c .byte-is4 .result) (c .before .before .byte-is3 .ensures) (c .byte-is4 .ensures)
+
+returns-4 : tie.Need-returns-4
+returns-4 c =
+    let e = at-end (c .before) in
+    (ends e .field, two-bytes (text e) (e .if1 .end) CR LF (decided _ (c .if4 .taken) (row-end (c .before))))
+
+returns-5 : tie.Need-returns-5
+returns-5 c =
+    let at-comma = c .before .before .before .before in
+    let e = at-end (c .before) in
+    let h = ends e .field .within in
+    let n : e .if1 .end < length (text e) = omega (arith, at-comma .before .before .if2 .left) in
+    not-followed (text e) (at e) (e .if1 .end) (ends e)
+    (no-stop (text e) (e .if1 .end) n (refuted _ (at-comma .if3 .left) (at-comma .before .byte-is2 .ensures)) (refuted _ (c .if4 .left) (row-end (c .before))))
 
 pub field-end-spec : {M : Type 1} → statement M
 field-end-spec =
@@ -98,12 +130,16 @@ field-end-spec =
     byte-is-requires
     add-closing
     closing-requires
-    enum-known-found
-    add-stop-at
-    stop-at-requires
+    enum-known-i
+    add-end
     enum-told
-    plain-end-requires
-    stop-at-requires-2
     returns
+    plain-end-requires
     returns-2
-    returns-3)
+    byte-is-requires-2
+    returns-3
+    byte-is-requires-3
+    add-byte-is
+    byte-is-requires-4
+    returns-4
+    returns-5)

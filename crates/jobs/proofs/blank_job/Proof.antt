@@ -1,25 +1,20 @@
--- The blank row gives all of it: the key, the numbers of three rows and all 16 load rows.
-use lib.ListN.{replicate}
+-- The blank row gives all of it: the key and the numbers of the base, and nothing else is there.
+use mathlib.Core.Path.{ap, _∙_}
+use Rattle.keys.specs.declared.Keyed.{Keyed}
 use Rattle.placing.specs.declared.Stage.the-variants.{Unbegun}
 use borrow.Author.Needs.{needs}
+use Rattle.jobs.specs.Place.{based}
 use Rattle.jobs.proofs.blank_job.Statement.{statement}
 use Rattle.jobs.proofs.blank_job.Tie as tie
 
 blank-row-requires : tie.Need-blank-row-requires
 blank-row-requires c κs = search needs
 
+fresh-requires : tie.Need-fresh-requires
+fresh-requires c κs = search needs
+
 returns : tie.Need-returns
-returns c =
-    let r = c .before .before .before .blank-row .ensures in
-    λ i. record {
-      stage = Unbegun;
-      key = r i .key;
-      base = r i .row .numbers;
-      scour = r i .row .numbers;
-      clearance = r i .row .numbers;
-      count = 0;
-      loads = replicate 16 (r i .row);
-    }
+returns c = c .fresh .ensures ∙ ap (λ (r : Keyed). based Unbegun r) (c .before .blank-row .ensures)
 
 pub blank-job-spec : {M : Type 1} → statement M
-blank-job-spec = tie.close (tie.spec blank-row-requires returns)
+blank-job-spec = tie.close (tie.spec blank-row-requires fresh-requires returns)

@@ -1,33 +1,39 @@
 -- `levels::clearance_under` meets its contract: what is above zero and what is below are added up on two sides, which fit a word,
 -- and the difference of the sides is told by its sign and size.
-use mathlib.Core.Path.{_≡_, subst}
+use mathlib.Core.Path.{_≡_, refl, subst}
 use Prim.Native.Nat.{_<_}
 use native.Mathlib.Omega.{arith}
 use borrow.Author.Needs.{needs}
 use lib.IntN.{ℤ}
+use Rattle.fields.specs.declared.Entry.{Entry}
+use Rattle.signed.specs.declared.Amount.{Amount}
 use Rattle.levels.specs.Told.{given, Answers}
 use Rattle.levels.specs.declared.ClearanceAnswer.the-variants.{Given}
 use Rattle.levels.proofs.Levels.{part-fits, side-fits, between, amount-told}
 use Rattle.levels.proofs.clearance_under.Statement.{statement}
 use Rattle.levels.proofs.clearance_under.Tie as tie
 
-amount-of-requires : tie.Need-amount-of-requires
-amount-of-requires c κs = search needs
+-- a level as an amount
+abbrev level : Entry → Amount
+level e = record { minus = e .minus; size = e .size }
+
+cast-depth : tie.Need-cast-depth
+cast-depth c = search needs
 
 parts-of-requires : tie.Need-parts-of-requires
 parts-of-requires c κs = search needs
 
-amount-of-requires-2 : tie.Need-amount-of-requires-2
-amount-of-requires-2 c κs = search needs
+cast-depth-2 : tie.Need-cast-depth-2
+cast-depth-2 c = search needs
 
 parts-of-requires-2 : tie.Need-parts-of-requires-2
 parts-of-requires-2 c κs = search needs
 
 upper-fits : (c : tie.After-parts-of) → (c .parts-of .result .above < 4294967296) × (c .parts-of .result .below < 4294967296)
-upper-fits c = part-fits (c .before .before .args .underside) _ (search needs) (c .before .amount-of .ensures) (c .parts-of .ensures)
+upper-fits c = part-fits (c .before .before .args .underside) (level (c .before .before .args .underside)) (search needs) (refl, refl) (c .parts-of .ensures)
 
 lower-fits : (c : tie.After-parts-of2) → (c .parts-of2 .result .above < 4294967296) × (c .parts-of2 .result .below < 4294967296)
-lower-fits c = part-fits (c .before .before .before .before .args .flood) _ (search needs) (c .before .amount-of2 .ensures) (c .parts-of2 .ensures)
+lower-fits c = part-fits (c .before .before .before .before .args .flood) (level (c .before .before .before .before .args .flood)) (search needs) (refl, refl) (c .parts-of2 .ensures)
 
 add-height : tie.Need-add-height
 add-height c = let at = c .before .before in record { fits = side-fits 0 (upper-fits (at .before .before) .0) (lower-fits at .1) (omega arith) .0 }
@@ -49,16 +55,16 @@ returns c =
     let start = at .before .before .before .before in
     let a = start .args in
     subst (λ (z : ℤ). Answers (λ t. t ≡ given z (a .needed)) (Given (c .difference .result .minus) (c .difference .result .size) (a .needed)))
-    (between (a .underside) (a .flood) (a .afflux) (at .before .before .before .amount-of .ensures) (at .before .amount-of2 .ensures) (at .before .before .parts-of .ensures) (at .parts-of2 .ensures))
+    (between (a .underside) (a .flood) (a .afflux) {u = level (a .underside)} {l = level (a .flood)} (refl, refl) (refl, refl) (at .before .before .parts-of .ensures) (at .parts-of2 .ensures))
     (amount-told _ (a .needed) (c .difference .ensures))
 
 pub clearance-under-spec : {M : Type 1} → statement M
 clearance-under-spec =
     tie.close
     (tie.spec
-    amount-of-requires
+    cast-depth
     parts-of-requires
-    amount-of-requires-2
+    cast-depth-2
     parts-of-requires-2
     add-height
     add-depth

@@ -1,36 +1,46 @@
--- A lower rank weighs less whatever the sets; of equal ranks the set with the earlier place does. Each of the four ends is the mark that weighs less.
-use native.Mathlib.Omega.{arith}
-use native.Mathlib.Nat.{le-of-lt}
-use Prim.Native.Nat.{ℕ, _≤_, _<_}
-use Rattle.decides.specs.Decides.{decided, refuted}
-use Rattle.marks.specs.Marks.{weightOf}
-use Rattle.marks.proofs.Weights.{worse-of-new, worse-of-old, weight-rank, weight-place}
+-- A lower rank comes first whatever the sets; of equal ranks the set with the earlier place does. What comes first weighs less, and is the worse.
+use mathlib.Core.Path.{_≡_, subst⁻¹}
+use mathlib.Core.Logic.{⊎-elim}
+use mathlib.Core.Bool.{Bool, _||_}
+use Prim.Native.Nat.{_<_}
+use lib.Dec.{eqb, ltb}
+use Rattle.decides.specs.Decides.{Decides, decided, refuted, decides-same, decides-either, decides-below, decides-equal}
+use Rattle.marks.specs.Marks.{place, weightOf}
+use Rattle.marks.proofs.Weights.{First, first-weighs, last-weighs, worse-of-new, worse-of-old}
 use Rattle.marks.proofs.worse.Statement.{statement}
 use Rattle.marks.proofs.worse.Tie as tie
 
-le-of-not : {m n : ℕ} → (m < n → ⊥) → n ≤ m
-le-of-not h = omega arith
+module _ (c : tie.Joined1) where
+  abbrev Tied : Type 0
+  Tied = let a = c .before .before .args in (a .rank ≡ a .worst .rank) × (place (a .set) < place (a .worst .set))
+
+  first-of-tie : Decides (c .if1 .first-of-tie) Tied
+  first-of-tie =
+      let a = c .before .before .args in
+      ⊎-elim
+      (λ w. subst⁻¹ (λ (r : Bool). Decides r Tied) (w .2) (decides-same (w .1 .result) (λ h. (w .0 .taken, h)) (λ h. h .1) (w .1 .ensures)))
+      (λ w. subst⁻¹ (λ (r : Bool). Decides r Tied) (w .1) (decides-same (eqb (a .rank) (a .worst .rank)) (λ e. absurd (w .0 .left e)) (λ h. h .0) (decides-equal (a .rank) (a .worst .rank))))
+      (c .if1 .came)
+
+  first : let a = c .before .before .args in Decides (c .if1 .first-of-tie || ltb (a .rank) (a .worst .rank)) (First (a .rank) (a .worst .rank) (a .set) (a .worst .set))
+  first =
+      let a = c .before .before .args in
+      decides-either Tied (a .rank < a .worst .rank) (c .if1 .first-of-tie) (ltb (a .rank) (a .worst .rank)) first-of-tie (decides-below (a .rank) (a .worst .rank))
+
+fewer-requires : tie.Need-fewer-requires
+fewer-requires c κs = let given = c .before .before .pre in (given .0, given .1, given .2)
 
 returns : tie.Need-returns
 unfolding weightOf
-returns c = worse-of-new _ _ _ (weight-rank _ _ _ _ (c .if1 .taken) (c .before .pre .1) (c .before .pre .2))
+returns c =
+    let start = c .before .before .before .before in
+    worse-of-new _ _ _ (first-weighs _ _ _ _ (start .pre .1) (start .pre .2) (decided _ (c .if2 .taken) (first (c .before .before))))
 
 returns-2 : tie.Need-returns-2
 unfolding weightOf
-returns-2 c = worse-of-old _ _ _ (weight-rank _ _ _ _ (c .if2 .taken) (c .before .before .pre .2) (c .before .before .pre .1))
-
-fewer-requires : tie.Need-fewer-requires
-fewer-requires c κs = (c .before .before .pre .0, c .before .before .pre .1, c .before .before .pre .2)
-
-returns-3 : tie.Need-returns-3
-unfolding weightOf
-returns-3 c =
-    worse-of-new _ _ _ (weight-place _ _ _ _ (omega arith) (le-of-lt (decided (c .before .fewer .result) (c .if3 .taken) (c .before .fewer .ensures))))
-
-returns-4 : tie.Need-returns-4
-unfolding weightOf
-returns-4 c =
-    worse-of-old _ _ _ (weight-place _ _ _ _ (omega arith) (le-of-not (refuted (c .before .fewer .result) (c .if3 .left) (c .before .fewer .ensures))))
+returns-2 c =
+    let start = c .before .before .before .before in
+    worse-of-old _ _ _ (last-weighs _ _ _ _ (start .pre .1) (start .pre .2) (refuted _ (c .if2 .left) (first (c .before .before))))
 
 pub worse-spec : {M : Type 1} → statement M
-worse-spec = tie.close (tie.spec returns returns-2 fewer-requires returns-3 returns-4)
+worse-spec = tie.close (tie.spec fewer-requires returns returns-2)

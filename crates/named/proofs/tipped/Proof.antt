@@ -13,22 +13,23 @@ use Rattle.named.proofs.tipped.Tie as tie
 returns : tie.Need-returns
 returns c = offers-off (not-true (c .before .args .on) (c .if1 .taken)) (c .before .pre .1 .2)
 
-mul-held : tie.Need-mul-held
-mul-held c = search needs
-
 add-if3 : tie.Need-add-if3
 add-if3 c = search needs
 
 mul-if3 : tie.Need-mul-if3
 mul-if3 c =
-    let l : c .before .before .before .args .worst .rank + 1 ≤ 2 ^ 24 = omega (arith, c .if2 .taken) in
-    omega (arith, mul-le-mul (c .before .before .before .pre .0 .1) l)
+    let e = c .before .before .before .before .before in
+    let l : e .args .worst .rank + 1 ≤ 2 ^ 24 = omega (arith, c .before .before .if2 .taken) in
+    omega (arith, mul-le-mul (e .pre .0 .1) l)
+
+mul-if3-2 : tie.Need-mul-if3-2
+mul-if3-2 c = search needs
 
 returns-2 : tie.Need-returns-2
 returns-2 c =
-    let e = c .before .before .before .before in
-    let w = tip-above _ _ _ (e .pre .0 .0) (c .before .if2 .taken) (c .if3 .taken) in
-    offers-on (not-false (e .args .on) (c .before .before .before .if1 .left)) (e .pre .1 .2) (offered-old _ _ _ _ (w .0) (w .1) (w .2) (e .pre .1 .2) (e .pre .1 .1))
+    let e = c .before .before .before .before .before .before .before in
+    let w = tip-above _ _ _ (e .pre .0 .0) (c .before .before .before .before .if2 .taken) (c .if3 .taken) in
+    offers-on (not-false (e .args .on) (c .before .before .before .before .before .before .if1 .left)) (e .pre .1 .2) (offered-old _ _ _ _ (w .0) (w .1) (w .2) (e .pre .1 .2) (e .pre .1 .1))
 
 tip-rank-requires : tie.Need-tip-rank-requires
 tip-rank-requires c κs = c .before .before .before .pre .0 .0
@@ -45,12 +46,4 @@ returns-3 c =
 pub tipped-spec : {M : Type 1} → statement M
 tipped-spec =
     tie.close
-    (tie.spec
-    returns
-    mul-held
-    add-if3
-    mul-if3
-    returns-2
-    tip-rank-requires
-    worse-requires
-    returns-3)
+    (tie.spec returns add-if3 mul-if3 mul-if3-2 returns-2 tip-rank-requires worse-requires returns-3)

@@ -9,10 +9,10 @@ use Rattle.openings.proofs.opens.Statement.{statement}
 use Rattle.openings.proofs.opens.Tie as tie
 
 abbrev Inv-loop : tie.InvT-loop
-Inv-loop combination loads count i₀ i = (i ≤ count) × ((j : ℕ) → j < i → OpenedBy combination ((row loads j) .class) ((row loads j) .phase) → ⊥)
+Inv-loop combination loads i₀ i = (i ≤ loads .count) × ((j : ℕ) → j < i → OpenedBy combination ((row loads j) .class) ((row loads j) .phase) → ⊥)
 
 abbrev μ-loop : tie.MeasureT-loop
-μ-loop combination loads count i₀ i = count - i
+μ-loop combination loads i₀ i = loads .count - i
 
 loop-holds : tie.Need-loop-holds Inv-loop μ-loop
 loop-holds c = (search needs, λ j h. absurd (omega arith))

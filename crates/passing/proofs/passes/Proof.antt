@@ -1,11 +1,9 @@
--- "None" passes any limit and "off" none, whatever the check; a number is left to `number_passes`.
+-- "None" passes any limit and "off" none, whatever the check; a number is held against the limit from the check's side.
 use borrow.Author.Needs.{needs}
 use mathlib.Core.Path.{subst⁻¹}
-use mathlib.Core.Bool.{false}
-use Rattle.decides.specs.Decides.{Decides}
-use Rattle.checks.specs.declared.Figure.{Figure}
-use Rattle.checks.specs.Order.{side}
-use Rattle.passing.specs.Passing.{Passes}
+use Rattle.decides.specs.Decides.{decides-at-most}
+use Rattle.checks.proofs.Sides.{low-side, high-side}
+use Rattle.passing.specs.Passing.{PassesNumber, Passes}
 use Rattle.passing.proofs.passes.Statement.{statement}
 use Rattle.passing.proofs.passes.Tie as tie
 
@@ -15,9 +13,6 @@ enum-told c = search needs
 enum-known-figure : tie.Need-enum-known-figure
 enum-known-figure c = search needs
 
-number-passes-requires : tie.Need-number-passes-requires
-number-passes-requires c κs = search needs
-
 enum-told-2 : tie.Need-enum-told-2
 enum-told-2 c = search needs
 
@@ -26,25 +21,22 @@ unfolding Passes
 returns c = subst⁻¹ (Passes _ _) (c .enum-told .given .1) tt
 
 returns-2 : tie.Need-returns-2
-unfolding Passes
+unfolding Passes PassesNumber
 returns-2 c =
     let e = c .before .before .before .before .args in
-    subst⁻¹ (λ (f : Figure). Decides (c .number-passes .result) (Passes (side (e .check)) (e .limit) f)) (c .before .before .figure .given .1) (c .number-passes .ensures)
+    rw (c .before .before .figure .given .1, low-side (e .check) (c .match2 .keys1)) (decides-at-most (e .limit) (c .before .before .figure .given .0 .0))
 
 returns-3 : tie.Need-returns-3
-unfolding Passes
+unfolding Passes PassesNumber
 returns-3 c =
-    let e = c .before .before .args in
-    subst⁻¹ (λ (f : Figure). Decides false (Passes (side (e .check)) (e .limit) f)) (c .enum-told2 .given .1) (λ p. p)
+    let e = c .before .before .before .before .args in
+    rw (c .before .before .figure .given .1, high-side (e .check) (c .match2 .keys2)) (decides-at-most (c .before .before .figure .given .0 .0) (e .limit))
+
+returns-4 : tie.Need-returns-4
+unfolding Passes
+returns-4 c = rw (c .enum-told2 .given .1) (λ p. p)
 
 pub passes-spec : {M : Type 1} → statement M
 passes-spec =
     tie.close
-    (tie.spec
-    enum-told
-    enum-known-figure
-    number-passes-requires
-    enum-told-2
-    returns
-    returns-2
-    returns-3)
+    (tie.spec enum-told enum-known-figure enum-told-2 returns returns-2 returns-3 returns-4)

@@ -2,12 +2,17 @@
 -- Each field takes a byte at least, with its comma, so their number fits and the loop ends.
 use Prim.Native.Nat.{ℕ, _-_, _+_, _≤_}
 use mathlib.Core.Path.{_≡_, refl, subst}
-use mathlib.Core.List.{List}
+use mathlib.Core.Logic.{⊎-elim}
+use mathlib.Core.List.{List, [], _∷_}
+use native.Mathlib.Omega.{arith}
+use types.Run.{OneOf}
+use denote.Enum.Declared.{tagOf}
 use borrow.Author.Needs.{needs}
 use lib.ListN.{length}
 use Rattle.csv.specs.Answer.{FieldAt}
 use Rattle.csv.specs.declared.Ended.{Ended}
 use Rattle.csv.specs.declared.Ended.the-variants.{Comma, Row, End, Bad}
+use Rattle.csv.proofs.Ended.{the-type}
 use Rattle.csv.proofs.Steps.{Step, step-comma, step-row, step-bad}
 use Rattle.places.proofs.Notes.{RowInv, seen-none, inv-comma, inv-row, inv-end}
 use Rattle.places.proofs.row_at.Statement.{statement}
@@ -41,6 +46,13 @@ module _ (c : tie.After-field-end Inv-loop μ-loop) where
 
   not-bad : c .field-end .result ≡ Bad → ⊥
   not-bad q = step-bad text (c .before .loop .at) (ends Bad q) (c .before .loop .inv .readable)
+
+-- the last arm takes the end and a bad field
+is-end : (f : Ended) → OneOf (tagOf the-type End ∷ tagOf the-type Bad ∷ []) (tagOf the-type f) → (f ≡ Bad → ⊥) → f ≡ End
+is-end (Comma e) h n = absurd (⊎-elim (λ p. omega arith) (λ p. omega arith) h)
+is-end (Row e) h n = absurd (⊎-elim (λ p. omega arith) (λ p. omega arith) h)
+is-end End h n = refl
+is-end Bad h n = absurd (n refl)
 
 -- one field further on: no more fields are passed than bytes
 abbrev further : (c : tie.After-field-end Inv-loop μ-loop) → ℕ → Type 0
@@ -94,23 +106,14 @@ returns c =
     let at-put = at-f .before .before in
     inv-row (at-put .before .before .loop .inv) (at-put .put .ensures) (at-f .f2 .given .0 .0) _ (c .closed .ensures) (ends (at-put .before) (Row _) (at-f .f2 .given .1))
 
-enum-told : tie.Need-enum-told Inv-loop μ-loop
-enum-told c = search needs
-
 closed-requires-2 : tie.Need-closed-requires-2 Inv-loop μ-loop
-closed-requires-2 c κs = let i = c .before .before .before .before .loop .inv in search needs
+closed-requires-2 c κs = let i = c .before .before .before .loop .inv in search needs
 
 returns-2 : tie.Need-returns-2 Inv-loop μ-loop
 returns-2 c =
-    let at-told = c .before in
-    let at-put = at-told .before .before in
-    inv-end (at-put .before .before .loop .inv) (at-put .put .ensures) _ (c .closed2 .ensures) (ends (at-put .before) End (at-told .enum-told .given .1))
-
-enum-told-2 : tie.Need-enum-told-2 Inv-loop μ-loop
-enum-told-2 c = search needs
-
-returns-3 : tie.Need-returns-3 Inv-loop μ-loop
-returns-3 c = λ fs rs k. absurd (not-bad (c .before .before .before) (c .enum-told2 .given .1))
+    let at-put = c .before .before in
+    let at-end = ends (at-put .before) End (is-end _ (c .before .match .keys3) (not-bad (at-put .before))) in
+    inv-end (at-put .before .before .loop .inv) (at-put .put .ensures) _ (c .closed2 .ensures) at-end
 
 pub row-at-spec : {M : Type 1} → statement M
 row-at-spec =
@@ -131,8 +134,5 @@ row-at-spec =
     add-closed
     closed-requires
     returns
-    enum-told
     closed-requires-2
-    returns-2
-    enum-told-2
-    returns-3)
+    returns-2)

@@ -52,22 +52,19 @@ returns-2 c =
     let e = c .before .before .before in press-full _ _ _ _ (e .pre .0 .1) (e .pre .1 .0) (area e) (c .before .before .if1 .left) (c .before .if2 .taken) (c .up .ensures)
 
 mul-up-5 : tie.Need-mul-up-5
-mul-up-5 c = search needs
+mul-up-5 c = let e = c .before .before in omega (arith, mul-le-mul (e .pre .1 .0) (e .pre .1 .0))
 
 mul-up-6 : tie.Need-mul-up-6
 mul-up-6 c = let e = c .before .before in omega (arith, mul-le-mul (e .pre .1 .0) (e .pre .1 .0))
 
 mul-up-7 : tie.Need-mul-up-7
-mul-up-7 c = let e = c .before .before in omega (arith, mul-le-mul (e .pre .1 .0) (e .pre .1 .0))
-
-mul-up-8 : tie.Need-mul-up-8
-mul-up-8 c = omega arith
+mul-up-7 c = omega arith
 
 sub-up : tie.Need-sub-up
 sub-up c = search needs
 
-mul-up-9 : tie.Need-mul-up-9
-mul-up-9 c =
+mul-up-8 : tie.Need-mul-up-8
+mul-up-8 c =
     let e = c .before .before in
     let three : 3 * e .args .length ≤ 180000 = omega (arith, e .pre .0 .3) in
     let rest : e .args .n * e .args .width - e .args .m ≤ 2 ^ 20 * 30000 = omega (arith, full-low e) in
@@ -88,7 +85,6 @@ press-rank-spec =
     tie.close
     (tie.spec
     mul-full
-    returns
     mul-if2
     mul-up
     add-up
@@ -97,13 +93,13 @@ press-rank-spec =
     mul-up-4
     up-requires
     sub-result
-    returns-2
     mul-up-5
     mul-up-6
     mul-up-7
-    mul-up-8
     sub-up
-    mul-up-9
+    mul-up-8
     up-requires-2
     sub-result-2
+    returns
+    returns-2
     returns-3)

@@ -1,11 +1,18 @@
 -- The four bytes put are those that `ending` spells for the mark: comma, Y or N, CR and LF.
-use mathlib.Core.Path.{ap}
+use Prim.Native.Nat.{ℕ}
+use mathlib.Core.Path.{sym, ap, _∙_}
+use mathlib.Core.List.{List, _∷_}
+use mathlib.Core.Logic.{⊎-elim}
 use Rattle.lines.specs.Lines.{mark-of}
 use Rattle.line_fields.specs.Text.{mark-text, ending}
+use Rattle.block.specs.Block.{field, line-end}
 use Rattle.block.proofs.Pages.{spelled}
 use borrow.Author.Needs.{needs}
 use Rattle.printing.proofs.put_ending.Statement.{statement}
 use Rattle.printing.proofs.put_ending.Tie as tie
+
+abbrev marked : ℕ → List ℕ
+marked letter = field (letter ∷ line-end)
 
 slice-aggregate-put : tie.Need-slice-aggregate-put
 slice-aggregate-put c = search needs
@@ -15,25 +22,9 @@ put-requires c κs = search needs
 
 returns : tie.Need-returns
 unfolding mark-text mark-of
-returns c = spelled _ _ _ _ _ (ap ending (c .before .before .before .if1 .taken)) (c .put .ensures) tt
-
-slice-aggregate-put-2 : tie.Need-slice-aggregate-put-2
-slice-aggregate-put-2 c = search needs
-
-put-requires-2 : tie.Need-put-requires-2
-put-requires-2 c κs = search needs
-
-returns-2 : tie.Need-returns-2
-unfolding mark-text mark-of
-returns-2 c = spelled _ _ _ _ _ (ap ending (c .before .before .before .if1 .left)) (c .put2 .ensures) tt
+returns c =
+    ⊎-elim (λ w. spelled _ _ _ _ _ (ap ending (w .0 .taken) ∙ ap marked (sym (w .1))) (c .put .ensures) tt)
+    (λ w. spelled _ _ _ _ _ (ap ending (w .0 .left) ∙ ap marked (sym (w .1))) (c .put .ensures) tt) (c .before .before .before .if1 .came)
 
 pub put-ending-spec : {M : Type 1} → statement M
-put-ending-spec =
-    tie.close
-    (tie.spec
-    slice-aggregate-put
-    put-requires
-    returns
-    slice-aggregate-put-2
-    put-requires-2
-    returns-2)
+put-ending-spec = tie.close (tie.spec slice-aggregate-put put-requires returns)

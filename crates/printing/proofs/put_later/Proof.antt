@@ -1,34 +1,64 @@
--- The lines of two combinations, then those from the third on.
+-- The lines of the four combinations, then SC and CL.
+use mathlib.Core.Path.{refl}
+use Rattle.sets.specs.declared.Combination.the-variants.{I, II, III, IV}
 use Rattle.lines.specs.Lines.{later-lines}
+use Rattle.line_fields.specs.Text.{combination-text}
+use Rattle.printing.specs.Room.{answer-room}
 use Rattle.printing.proofs.Printed.{then-lines}
-use Rattle.printing.specs.Text.{from-third}
-use Rattle.printing.specs.Room.{from-third-room, answer-room}
 use borrow.Author.Needs.{needs}
 use Rattle.printing.proofs.put_later.Statement.{statement}
 use Rattle.printing.proofs.put_later.Tie as tie
 
+slice-aggregate-put-lines : tie.Need-slice-aggregate-put-lines
+slice-aggregate-put-lines c = search needs
+
 put-lines-requires : tie.Need-put-lines-requires
 put-lines-requires c κs = search needs
+
+slice-aggregate-put-lines-2 : tie.Need-slice-aggregate-put-lines-2
+slice-aggregate-put-lines-2 c = search needs
 
 put-lines-requires-2 : tie.Need-put-lines-requires-2
 put-lines-requires-2 c κs = search needs
 
-put-from-third-requires : tie.Need-put-from-third-requires
-put-from-third-requires c κs = search needs
+slice-aggregate-put-lines-3 : tie.Need-slice-aggregate-put-lines-3
+slice-aggregate-put-lines-3 c = search needs
+
+put-lines-requires-3 : tie.Need-put-lines-requires-3
+put-lines-requires-3 c κs = search needs
+
+slice-aggregate-put-lines-4 : tie.Need-slice-aggregate-put-lines-4
+slice-aggregate-put-lines-4 c = search needs
+
+put-lines-requires-4 : tie.Need-put-lines-requires-4
+put-lines-requires-4 c κs = search needs
+
+put-river-requires : tie.Need-put-river-requires
+put-river-requires c κs = search needs
 
 returns : tie.Need-returns
-unfolding later-lines answer-room from-third from-third-room
+unfolding later-lines answer-room combination-text
 returns c =
-    let second = c .before .before in
-    let first = second .before .before in
-    then-lines _ _ _ _ _ _ _ _ (first .put-lines .ensures)
-    (then-lines _ _ _ _ _ _ _ _ (second .put-lines2 .ensures) (c .put-from-third .ensures))
+    let fourth = c .before .before in
+    let third = fourth .before .before .before in
+    let second = third .before .before .before in
+    let first = second .before .before .before in
+    then-lines _ _ _ _ _ _ _ _ (first .put-lines .ensures I refl)
+    (then-lines _ _ _ _ _ _ _ _ (second .put-lines2 .ensures II refl)
+    (then-lines _ _ _ _ _ _ _ _ (third .put-lines3 .ensures III refl)
+    (then-lines _ _ _ _ _ _ _ _ (fourth .put-lines4 .ensures IV refl) (c .put-river .ensures))))
 
 pub put-later-spec : {M : Type 1} → statement M
 put-later-spec =
     tie.close
     (tie.spec
+    slice-aggregate-put-lines
     put-lines-requires
+    slice-aggregate-put-lines-2
     put-lines-requires-2
-    put-from-third-requires
+    slice-aggregate-put-lines-3
+    put-lines-requires-3
+    slice-aggregate-put-lines-4
+    put-lines-requires-4
+    put-river-requires
     returns)

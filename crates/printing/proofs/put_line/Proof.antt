@@ -1,7 +1,10 @@
 -- The fields are put one behind the other; a missing line has no text.
-use mathlib.Core.Path.{ap}
+use mathlib.Core.Path.{ap, sym}
+use mathlib.Core.List.{_∷_}
 use Rattle.lines.specs.Lines.{check-line}
-use Rattle.printing.proofs.Printed.{no-line, check-printed}
+use Rattle.line_fields.specs.Text.{HYPHEN}
+use Rattle.block.proofs.Pages.{spelled}
+use Rattle.printing.proofs.Printed.{no-line, combination-put, check-printed}
 use borrow.Author.Needs.{needs}
 use Rattle.printing.proofs.put_line.Statement.{statement}
 use Rattle.printing.proofs.put_line.Tie as tie
@@ -15,11 +18,14 @@ enum-known-line c = search needs
 put-key-requires : tie.Need-put-key-requires
 put-key-requires c κs = search needs
 
-put-combination-requires : tie.Need-put-combination-requires
-put-combination-requires c κs = search needs
+put-requires : tie.Need-put-requires
+put-requires c κs = search needs
 
-put-check-requires : tie.Need-put-check-requires
-put-check-requires c κs = search needs
+slice-aggregate-put : tie.Need-slice-aggregate-put
+slice-aggregate-put c = search needs
+
+put-requires-2 : tie.Need-put-requires-2
+put-requires-2 c κs = search needs
 
 put-figure-requires : tie.Need-put-figure-requires
 put-figure-requires c κs = search needs
@@ -35,18 +41,19 @@ put-ending-requires c κs = search needs
 
 returns : tie.Need-returns
 unfolding check-line
-returns c = no-line _ _ _ _ (ap (check-line _ _) (c .enum-told .given .1))
+returns c of by e f = no-line _ _ _ _ (ap (check-line _ _) (c .enum-told .given .1))
 
 returns-2 : tie.Need-returns-2
-returns-2 c =
+returns-2 c of by e f =
     let set = c .before .before in
     let limit = set .before .before in
     let figure = limit .before .before in
     let check = figure .before .before in
-    let combination = check .before .before in
+    let combination = check .before .before .before in
     let key = combination .before .before in
-    check-printed _ _ _ _ _ _ _ _ _ _ _ _ _ _ _ _ (key .before .before .before .line .given .1)
-    (key .put-key .ensures) (combination .put-combination .ensures) (check .put-check .ensures) (figure .put-figure .ensures)
+    check-printed _ _ _ _ _ _ _ _ _ of by _ _ _ _ _ (key .before .before .before .line .given .1)
+    (key .put-key .ensures) (combination-put _ _ of _ e (combination .put .ensures))
+    (spelled _ _ _ _ 3 (ap (λ t. HYPHEN ∷ t) (sym f)) (check .put2 .ensures) tt) (figure .put-figure .ensures)
     (limit .put-number .ensures) (set .put-number2 .ensures) (c .put-ending .ensures)
 
 pub put-line-spec : {M : Type 1} → statement M
@@ -56,8 +63,9 @@ put-line-spec =
     enum-told
     enum-known-line
     put-key-requires
-    put-combination-requires
-    put-check-requires
+    put-requires
+    slice-aggregate-put
+    put-requires-2
     put-figure-requires
     put-number-requires
     put-number-requires-2

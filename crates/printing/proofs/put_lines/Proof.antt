@@ -1,5 +1,8 @@
 -- The five lines of a combination, one behind the other.
+use mathlib.Core.Path.{refl}
+use Rattle.checks.specs.declared.Check.the-variants.{OP, OM, SL, PR, RK}
 use Rattle.lines.specs.Lines.{combination-lines}
+use Rattle.line_fields.specs.Text.{check-text}
 use Rattle.printing.specs.Room.{lines-room}
 use Rattle.printing.proofs.Printed.{then-lines}
 use borrow.Author.Needs.{needs}
@@ -22,16 +25,16 @@ put-line-requires-5 : tie.Need-put-line-requires-5
 put-line-requires-5 c κs = search needs
 
 returns : tie.Need-returns
-unfolding combination-lines lines-room
-returns c =
+unfolding combination-lines lines-room check-text
+returns c of e =
     let fourth = c .before .before in
     let third = fourth .before .before in
     let second = third .before .before in
     let first = second .before .before in
-    then-lines _ _ _ _ _ _ _ _ (first .put-line .ensures)
-    (then-lines _ _ _ _ _ _ _ _ (second .put-line2 .ensures)
-    (then-lines _ _ _ _ _ _ _ _ (third .put-line3 .ensures)
-    (then-lines _ _ _ _ _ _ _ _ (fourth .put-line4 .ensures) (c .put-line5 .ensures))))
+    then-lines _ _ _ _ _ _ _ _ (first .put-line .ensures of OP e refl)
+    (then-lines _ _ _ _ _ _ _ _ (second .put-line2 .ensures of OM e refl)
+    (then-lines _ _ _ _ _ _ _ _ (third .put-line3 .ensures of SL e refl)
+    (then-lines _ _ _ _ _ _ _ _ (fourth .put-line4 .ensures of PR e refl) (c .put-line5 .ensures of RK e refl))))
 
 pub put-lines-spec : {M : Type 1} → statement M
 put-lines-spec =

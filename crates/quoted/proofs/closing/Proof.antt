@@ -3,11 +3,12 @@
 use Prim.Native.Nat.{_≤_, _-_, _+_}
 use mathlib.Core.Path.{sym, subst}
 use borrow.Author.Needs.{needs}
-use lib.ListN.{length}
+use lib.ListN.{length, getD}
 use native.Mathlib.Omega.{arith}
 use Rattle.rfc4180.specs.Rfc4180.{Inside, DQUOTE}
 use Rattle.decides.specs.Decides.{decided, refuted}
 use Rattle.rfc4180.proofs.Parts.{begins-is, begins-lt, past-begins}
+use Rattle.quoted.proofs.Bytes.{inside-decides}
 use Rattle.quoted.proofs.Scan.{Escape, escape-none, escape-more, escape-quotes, escape-closes, never-closes}
 use Rattle.quoted.proofs.closing.Statement.{statement}
 use Rattle.quoted.proofs.closing.Tie as tie
@@ -50,8 +51,8 @@ returns c =
     let k = c .before .before .before .before .loop-test .taken in
     escape-closes _ _ _ (inv .0) k (c .before .before .if1 .taken) (refuted (c .before .byte-is .result) (c .if2 .left) (c .before .byte-is .ensures)) (inv .2)
 
-is-inside-requires : tie.Need-is-inside-requires Inv-loop μ-loop
-is-inside-requires c κs = search needs
+is-text-requires : tie.Need-is-text-requires Inv-loop μ-loop
+is-text-requires c κs = search needs
 
 add-i-2 : tie.Need-add-i-2 Inv-loop μ-loop
 add-i-2 c = search needs
@@ -61,17 +62,20 @@ loop-less-2 c = search needs
 
 loop-again-2 : tie.Need-loop-again-2 Inv-loop μ-loop
 loop-again-2 c =
-    let inv = c .before .before .before .before .before .loop .inv in
-    let k = c .before .before .before .before .loop-test .taken in
-    (search needs, search needs, escape-more _ _ _ (inv .0) k (decided (c .before .is-inside .result) (c .if3 .taken) (c .before .is-inside .ensures)) (inv .2))
+    let at-loop = c .before .before .before .before .before in
+    let s = at-loop .before .before .args .s .now in
+    let i = at-loop .loop .i in
+    let inside = decided _ (c .if3 .taken) (inside-decides (getD s i 0) (c .before .is-text .result) (c .before .is-text .ensures)) in
+    (search needs, search needs, escape-more s _ i (at-loop .loop .inv .0) (c .before .before .before .before .loop-test .taken) inside (at-loop .loop .inv .2))
 
 returns-2 : tie.Need-returns-2 Inv-loop μ-loop
 returns-2 c =
     let at-loop = c .before .before .before .before .before in
     let s = at-loop .before .before .args .s .now in
     let i = at-loop .loop .i in
+    let outside = refuted _ (c .if3 .left) (inside-decides (getD s i 0) (c .before .is-text .result) (c .before .is-text .ensures)) in
     never-closes _ _ _ (at-loop .loop .inv .0)
-    (λ b h g. refuted (c .before .is-inside .result) (c .if3 .left) (c .before .is-inside .ensures) (subst Inside (sym (begins-is s i b (g .behind) (g .begins))) h))
+    (λ b h g. outside (subst Inside (sym (begins-is s i b (g .behind) (g .begins))) h))
     (λ g. c .before .before .if1 .left (begins-is s i _ (g .behind) (g .begins)))
     (at-loop .loop .inv .2)
 
@@ -96,7 +100,7 @@ closing-spec =
     loop-less
     loop-again
     returns
-    is-inside-requires
+    is-text-requires
     add-i-2
     loop-less-2
     loop-again-2

@@ -1,17 +1,17 @@
 -- Only a stretch of two bytes or more with a quote at each end stands between quotes; any other is its own answer.
-use Rattle.quotes.proofs.Contents.{bare-between, bare-unclosed, bare-unopened, bare-short}
+use Rattle.quotes.proofs.Contents.{bare-between, bare-open, bare-short}
 use borrow.Author.Needs.{needs}
 use Rattle.quotes.proofs.bare.Statement.{statement}
 use Rattle.quotes.proofs.bare.Tie as tie
 
-shared-slice-read-if2 : tie.Need-shared-slice-read-if2
-shared-slice-read-if2 c = search needs
-
 sub-e : tie.Need-sub-e
 sub-e c = search needs
 
-shared-slice-read-if3 : tie.Need-shared-slice-read-if3
-shared-slice-read-if3 c = search needs
+shared-slice-read-if2 : tie.Need-shared-slice-read-if2
+shared-slice-read-if2 c = search needs
+
+shared-slice-read-if2-2 : tie.Need-shared-slice-read-if2-2
+shared-slice-read-if2-2 c = search needs
 
 sub-result : tie.Need-sub-result
 sub-result c = search needs
@@ -23,28 +23,24 @@ part-result-end : tie.Need-part-result-end
 part-result-end c = search needs
 
 returns : tie.Need-returns
-returns c = bare-between (c .before .before .before .before .before .before .args .raw .now) (c .before .before .before .before .before .if1 .taken) (c .before .before .before .if2 .taken) (c .before .if3 .taken)
+returns c = bare-between (c .before .before .before .before .before .args .raw .now) (c .before .before .before .before .if1 .taken) (c .before .if2 .taken)
 
 returns-2 : tie.Need-returns-2
-returns-2 c = bare-unclosed _ (c .if3 .left)
+returns-2 c = bare-open (c .before .before .before .before .args .raw .now) (c .if2 .left)
 
 returns-3 : tie.Need-returns-3
-returns-3 c = bare-unopened _ (c .if2 .left)
-
-returns-4 : tie.Need-returns-4
-returns-4 c = bare-short _ (c .if1 .left)
+returns-3 c = bare-short _ (c .if1 .left)
 
 pub bare-spec : {M : Type 1} → statement M
 bare-spec =
     tie.close
     (tie.spec
-    shared-slice-read-if2
     sub-e
-    shared-slice-read-if3
+    shared-slice-read-if2
+    shared-slice-read-if2-2
     sub-result
     part-result-start
     part-result-end
     returns
     returns-2
-    returns-3
-    returns-4)
+    returns-3)

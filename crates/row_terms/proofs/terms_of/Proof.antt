@@ -1,17 +1,60 @@
 -- A row's terms, part by part: each natural part is that of the whole number that the definition names.
 use borrow.Author.Needs.{needs}
 use native.Mathlib.Omega.{arith}
-use mathlib.Core.Path.{_≡_, _∙_, refl, subst⁻¹}
-use Prim.Native.Nat.{ℕ, _≤_}
+use mathlib.Core.Path.{_≡_, _∙_, refl, sym, ap}
+use mathlib.Core.List.{[], _∷_}
+use mathlib.Core.Logic.{⊎-elim}
+use Prim.Native.Nat.{ℕ, _+_, _*_, _≤_}
+use types.Run.{OneOf}
+use denote.Enum.Declared.{tagOf}
 use Rattle.signed.specs.declared.Parts.{Parts}
-use Rattle.signed.specs.Whole.{worth, partsOf}
-use Rattle.sets.specs.Sums.{termsOf, armBy, balanceBy, momentBy}
-use Rattle.sets.proofs.Adding.{same-sums, parts-low, arm-room, arm-plus, arm-minus, balance-plus, balance-minus, moment-by}
+use Rattle.signed.specs.Whole.{worth, above, below, partsOf, times, Small}
+use Rattle.signed.proofs.Laws.{same-parts, times-low}
+use Rattle.sets.specs.declared.Class.{Class}
+use Rattle.sets.specs.declared.Class.the-variants.{Permanent, Free, Wind, Earthquake}
+use Rattle.sets.specs.declared.Load.{Load}
+use Rattle.sets.proofs.Class.{the-type}
+use Rattle.sets.specs.Totals.{plus, minus}
+use Rattle.sets.specs.Sums.{termsOf, momentOf, balanceOf, isWind, isQuake, armBy, balanceBy, momentBy}
+use Rattle.sets.proofs.Adding.{same-sums, parts-low, arm-plus, arm-minus, balance-plus, balance-minus, moment-by}
 use Rattle.row_terms.proofs.terms_of.Statement.{statement}
 use Rattle.row_terms.proofs.terms_of.Tie as tie
 
-arm-low : {width toward away : ℕ} {p : Parts} → width ≤ 30000 → toward ≤ 32000 → away ≤ 32000 → p ≡ armBy width toward away → (p .above ≤ 94000) × (p .below ≤ 94000)
-arm-low {width} {toward} {away} w t a e = subst⁻¹ (λ (p : Parts). (p .above ≤ 94000) × (p .below ≤ 94000)) e (arm-room width toward away w t a)
+-- a class that comes to the arm of three, known by its place among the four
+windless : (k : Class) → OneOf (0 ∷ 1 ∷ 3 ∷ []) (tagOf the-type k) → 0 ≡ isWind k
+unfolding isWind
+windless Permanent t = refl
+windless Free t = refl
+windless Wind t = ⊎-elim (λ e. omega arith) (⊎-elim (λ e. omega arith) (λ e. omega arith)) t
+windless Earthquake t = refl
+
+quakeless : (k : Class) → OneOf (0 ∷ 1 ∷ 2 ∷ []) (tagOf the-type k) → 0 ≡ isQuake k
+unfolding isQuake
+quakeless Permanent t = refl
+quakeless Free t = refl
+quakeless Wind t = refl
+quakeless Earthquake t = ⊎-elim (λ e. omega arith) (⊎-elim (λ e. omega arith) (λ e. omega arith)) t
+
+-- V and x are small, and the twist is not much larger
+abbrev start : tie.After-parts-of4 → tie.Start
+start c = c .before .before .before .before
+
+x-low : (c : tie.After-parts-of4) → (c .before .before .parts-of2 .result .above ≤ 32000) × (c .before .before .parts-of2 .result .below ≤ 32000)
+x-low c = parts-low _ _ (c .before .before .parts-of2 .ensures) ((start c) .pre .1 .x)
+
+twist-low : (c : tie.After-parts-of4) → (c .parts-of4 .result .above ≤ 3000000000) × (c .parts-of4 .result .below ≤ 3000000000)
+twist-low c = parts-low _ _ (c .parts-of4 .ensures) ((start c) .pre .1 .twist)
+
+v-small : (c : tie.After-parts-of4) → Small (c .before .before .before .parts-of .result)
+v-small c =
+    let v = parts-low _ _ (c .before .before .before .parts-of .ensures) ((start c) .pre .1 .v) in
+    record { above = omega arith; below = omega arith }
+
+x-small : (c : tie.After-parts-of4) → Small (c .before .before .parts-of2 .result)
+x-small c = let x = x-low c in record { above = omega arith; below = omega arith }
+
+turned-low : (c : tie.After-product) → (c .product .result .above ≤ 2000000000000) × (c .product .result .below ≤ 2000000000000)
+turned-low c = times-low _ _ (v-small (c .before)) (x-small (c .before)) (c .product .ensures)
 
 parts-of-requires : tie.Need-parts-of-requires
 parts-of-requires c κs = search needs
@@ -25,69 +68,120 @@ parts-of-requires-3 c κs = search needs
 parts-of-requires-4 : tie.Need-parts-of-requires-4
 parts-of-requires-4 c κs = search needs
 
-arm-of-requires : tie.Need-arm-of-requires
-arm-of-requires c κs =
-    let e = c .before .before .before .before in
-    let x = parts-low _ _ (c .before .before .parts-of2 .ensures) (e .pre .1 .x) in
-    (e .pre .0, x .0, x .1)
+product-requires : tie.Need-product-requires
+product-requires c κs = (v-small c, x-small c)
 
-arm-of-requires-2 : tie.Need-arm-of-requires-2
-arm-of-requires-2 c κs =
-    let e = c .before .before .before .before .before in
-    let x = parts-low _ _ (c .before .before .before .parts-of2 .ensures) (e .pre .1 .x) in
-    (e .pre .0, x .1, x .0)
+add-t15 : tie.Need-add-t15
+add-t15 c = omega (arith, turned-low (c .before .before), twist-low (c .before .before .before))
 
-moment-of-requires : tie.Need-moment-of-requires
-moment-of-requires c κs =
-    let e = c .before .before .before .before .before .before in
-    let v = parts-low _ _ (c .before .before .before .before .before .parts-of .ensures) (e .pre .1 .v) in
-    let x = parts-low _ _ (c .before .before .before .before .parts-of2 .ensures) (e .pre .1 .x) in
-    let t = parts-low _ _ (c .before .before .parts-of4 .ensures) (e .pre .1 .twist) in
-    (record { above = omega arith; below = omega arith }, (record { above = omega arith; below = omega arith }, record { above = omega arith; below = omega arith }))
+mul-t16 : tie.Need-mul-t16
+mul-t16 c = omega (arith, turned-low (c .before .before), twist-low (c .before .before .before))
+
+add-t17 : tie.Need-add-t17
+add-t17 c = omega (arith, turned-low (c .before .before .before .before), twist-low (c .before .before .before .before .before))
+
+mul-t18 : tie.Need-mul-t18
+mul-t18 c = omega (arith, turned-low (c .before .before .before .before), twist-low (c .before .before .before .before .before))
 
 balance-of-requires : tie.Need-balance-of-requires
 balance-of-requires c κs =
-    let e = c .before .before .before .before .before .before .before in
-    let v = parts-low _ _ (c .before .before .before .before .before .before .parts-of .ensures) (e .pre .1 .v) in
-    let x = parts-low _ _ (c .before .before .before .before .before .parts-of2 .ensures) (e .pre .1 .x) in
-    let a = arm-low (e .pre .0) (x .0) (x .1) (c .before .before .arm-of .ensures) in
-    let t = parts-low _ _ (c .before .before .before .parts-of4 .ensures) (e .pre .1 .twist) in
-    (record { above = omega arith; below = omega arith }, (record { above = omega arith; below = omega arith }, (t .1, t .0)))
+    let p = c .before .before .before .before .before in
+    let x = x-low p in
+    let t = twist-low p in
+    (v-small p, (((start p) .pre .0, omega arith, omega arith), (omega arith, omega arith)))
 
 balance-of-requires-2 : tie.Need-balance-of-requires-2
 balance-of-requires-2 c κs =
-    let e = c .before .before .before .before .before .before .before .before in
-    let v = parts-low _ _ (c .before .before .before .before .before .before .before .parts-of .ensures) (e .pre .1 .v) in
-    let x = parts-low _ _ (c .before .before .before .before .before .before .parts-of2 .ensures) (e .pre .1 .x) in
-    let a = arm-low (e .pre .0) (x .1) (x .0) (c .before .before .arm-of2 .ensures) in
-    let t = parts-low _ _ (c .before .before .before .before .parts-of4 .ensures) (e .pre .1 .twist) in
-    (record { above = omega arith; below = omega arith }, (record { above = omega arith; below = omega arith }, (t .0, t .1)))
+    let p = c .before .before .before .before .before .before in
+    let x = x-low p in
+    let t = twist-low p in
+    (v-small p, (((start p) .pre .0, omega arith, omega arith), (omega arith, omega arith)))
 
-wind-of-requires : tie.Need-wind-of-requires
-wind-of-requires c κs = search needs
+enum-told : tie.Need-enum-told
+enum-told c = search needs
 
-quake-of-requires : tie.Need-quake-of-requires
-quake-of-requires c κs = search needs
+enum-told-2 : tie.Need-enum-told-2
+enum-told-2 c = search needs
+
+-- the moment: twice a sum is the sum of twice its parts
+twice : (p v x t : Parts) → p ≡ times v x → record { above = 2 * (p .above + t .above); below = 2 * (p .below + t .below) } ≡ momentBy v x t
+unfolding momentBy
+twice p v x t e = rw e (same-parts (omega arith) (omega arith))
+
+-- all but the counts of wind and earthquake rows
+module _ (c : tie.After-balance-of2) where
+  abbrev turned : tie.After-product
+  turned = c .before .before .before .before .before .before
+
+  abbrev load : Load
+  load = (start (turned .before)) .args .load
+
+  abbrev width : ℕ
+  width = (start (turned .before)) .args .width
+
+  v-is : turned .before .before .before .before .parts-of .result ≡ partsOf (worth (load .v))
+  v-is = turned .before .before .before .before .parts-of .ensures
+
+  x-is : turned .before .before .before .parts-of2 .result ≡ partsOf (worth (load .x))
+  x-is = turned .before .before .before .parts-of2 .ensures
+
+  h-is : turned .before .before .parts-of3 .result ≡ partsOf (worth (load .h))
+  h-is = turned .before .before .parts-of3 .ensures
+
+  twist-is : turned .before .parts-of4 .result ≡ partsOf (worth (load .twist))
+  twist-is = turned .before .parts-of4 .ensures
+
+  m-is : record { above = 2 * (turned .product .result .above + turned .before .parts-of4 .result .above); below = 2 * (turned .product .result .below + turned .before .parts-of4 .result .below) } ≡ momentOf load
+  m-is = twice _ _ _ _ (turned .product .ensures) ∙ (λ i. momentBy (v-is i) (x-is i) (twist-is i)) ∙ moment-by load
+
+  plus-is : c .before .balance-of .result ≡ balanceOf plus width load
+  unfolding partsOf
+  plus-is =
+      c .before .balance-of .ensures
+      ∙ (λ i. balanceBy (v-is i) (armBy width ((x-is i) .above) ((x-is i) .below)) ((twist-is i) .below) ((twist-is i) .above))
+      ∙ (λ i. balanceBy (partsOf (worth (load .v))) (arm-plus width (worth (load .x)) i) (below (worth (load .twist))) (above (worth (load .twist))))
+      ∙ balance-plus width load
+
+  minus-is : c .balance-of2 .result ≡ balanceOf minus width load
+  unfolding partsOf
+  minus-is =
+      c .balance-of2 .ensures
+      ∙ (λ i. balanceBy (v-is i) (armBy width ((x-is i) .below) ((x-is i) .above)) ((twist-is i) .above) ((twist-is i) .below))
+      ∙ (λ i. balanceBy (partsOf (worth (load .v))) (arm-minus width (worth (load .x)) i) (above (worth (load .twist))) (below (worth (load .twist))))
+      ∙ balance-minus width load
+
+winds-is : (c : tie.At-match-came) → c .match .winds ≡ isWind (load (c .before) .class)
+unfolding isWind
+winds-is c =
+    ⊎-elim (λ w. w .2 ∙ sym (ap isWind (w .1 .given .1))) (λ w. w .1 ∙ windless (load (c .before) .class) (w .0 .keys2)) (c .match .came)
 
 returns : tie.Need-returns
-unfolding partsOf termsOf
+unfolding isQuake termsOf
 returns c =
-    let load = c .before .before .before .before .before .before .before .before .before .before .before .args .load in
-    let width = c .before .before .before .before .before .before .before .before .before .before .before .args .width in
-    let v = c .before .before .before .before .before .before .before .before .before .before .parts-of .ensures in
-    let x = c .before .before .before .before .before .before .before .before .before .parts-of2 .ensures in
-    let h = c .before .before .before .before .before .before .before .before .parts-of3 .ensures in
-    let t = c .before .before .before .before .before .before .before .parts-of4 .ensures in
-    let near = c .before .before .before .before .before .before .arm-of .ensures ∙ (λ i. armBy width ((x i) .above) ((x i) .below)) ∙ arm-plus width (worth (load .x)) in
-    let far = c .before .before .before .before .before .arm-of2 .ensures ∙ (λ i. armBy width ((x i) .below) ((x i) .above)) ∙ arm-minus width (worth (load .x)) in
+    let d = c .before .before .before in
     same-sums (record {
-      v = v;
-      h = h;
-      m = c .before .before .before .before .moment-of .ensures ∙ (λ i. momentBy (v i) (x i) (t i)) ∙ moment-by load;
-      plus = c .before .before .before .balance-of .ensures ∙ (λ i. balanceBy (v i) (near i) ((t i) .below) ((t i) .above)) ∙ balance-plus width load;
-      minus = c .before .before .balance-of2 .ensures ∙ (λ i. balanceBy (v i) (far i) ((t i) .above) ((t i) .below)) ∙ balance-minus width load;
-      winds = c .before .wind-of .ensures;
-      quakes = c .quake-of .ensures;
+      v = v-is d;
+      h = h-is d;
+      m = m-is d;
+      plus = plus-is d;
+      minus = minus-is d;
+      winds = winds-is (c .before .before);
+      quakes = sym (ap isQuake (c .enum-told2 .given .1));
+      set = refl;
+    })
+
+returns-2 : tie.Need-returns-2
+unfolding termsOf
+returns-2 c =
+    let d = c .before .before in
+    same-sums (record {
+      v = v-is d;
+      h = h-is d;
+      m = m-is d;
+      plus = plus-is d;
+      minus = minus-is d;
+      winds = winds-is (c .before);
+      quakes = quakeless (load d .class) (c .match2 .keys2);
       set = refl;
     })
 
@@ -99,11 +193,14 @@ terms-of-spec =
     parts-of-requires-2
     parts-of-requires-3
     parts-of-requires-4
-    arm-of-requires
-    arm-of-requires-2
-    moment-of-requires
+    product-requires
+    add-t15
+    mul-t16
+    add-t17
+    mul-t18
     balance-of-requires
     balance-of-requires-2
-    wind-of-requires
-    quake-of-requires
-    returns)
+    enum-told
+    enum-told-2
+    returns
+    returns-2)

@@ -1,24 +1,113 @@
--- Ten cells mean what `row_of` finds in them, and any other number of cells means no row; the next row starts at the same place either way.
-use Rattle.rows.proofs.Reading.{seen-ten, seen-not-ten}
+-- What is read of a cell's stretch holds of its content, which is one; so a cell without a name or a kind leaves no form. The numbers are
+-- asked by the columns of the kind that was read, and no other kind is written with those letters. The next row starts at one place either way.
+use mathlib.Core.Path.{refl, subst}
+use mathlib.Core.Bool.{Bool}
+use lib.Dec.{lit<}
 use borrow.Author.Needs.{needs}
+use Rattle.decides.specs.Decides.{decided, refuted}
+use Rattle.letters.specs.Form.{KindAt}
+use Rattle.rows.specs.Answer.{numbers-are}
+use Rattle.rows.proofs.Reading.{cell-name, cell-good, cell-kind, cell-no-kind, numbers-good, seen-row, seen-none, passed}
 use Rattle.rows.proofs.read_row.Statement.{statement}
 use Rattle.rows.proofs.read_row.Tie as tie
 
 row-at-requires : tie.Need-row-at-requires
 row-at-requires c κs = search needs
 
-row-of-requires : tie.Need-row-of-requires
-row-of-requires c κs = search needs
+cell-requires : tie.Need-cell-requires
+cell-requires c κs = search needs
+
+kind-at-requires : tie.Need-kind-at-requires
+kind-at-requires c κs = search needs
+
+enum-known-kind-read : tie.Need-enum-known-kind-read
+enum-known-kind-read c = search needs
+
+enum-told : tie.Need-enum-told
+enum-told c = search needs
+
+unread-requires : tie.Need-unread-requires
+unread-requires c κs = search needs
 
 returns : tie.Need-returns
-returns c = λ cs css q. seen-ten (c .before .before .before .row-at .ensures) cs css q (c .before .before .if1 .taken) (c .before .row-of .result) (c .before .row-of .ensures)
+returns c = λ cs css q.
+    let at-kind = c .before .before .before in
+    seen-none (at-kind .before .before .row-at .ensures) cs css q (c .unread .result) (c .unread .ensures)
+    (λ n t b f. cell-no-kind t 2 _ (lit< tt) (at-kind .before .cell .ensures) (subst (KindAt _) (c .before .enum-told .given .1) (at-kind .kind-at .ensures)) (b .keyed .row .kind) (f .kind))
 
-blank-row-requires : tie.Need-blank-row-requires
-blank-row-requires c κs = search needs
+numbers-of-requires : tie.Need-numbers-of-requires
+numbers-of-requires c κs = search needs
+
+cell-requires-2 : tie.Need-cell-requires-2
+cell-requires-2 c κs = search needs
+
+name-at-requires : tie.Need-name-at-requires
+name-at-requires c κs = search needs
+
+cell-requires-3 : tie.Need-cell-requires-3
+cell-requires-3 c κs = search needs
+
+name-at-requires-2 : tie.Need-name-at-requires-2
+name-at-requires-2 c κs = search needs
 
 returns-2 : tie.Need-returns-2
-returns-2 c = λ cs css q. seen-not-ten (c .before .before .row-at .ensures) cs css q (c .before .if1 .left) (c .blank-row .result) (c .blank-row .ensures)
+returns-2 c = λ cs css q.
+    let at-job = c .before .before .before .before .before .before .before .before in
+    let at-member = at-job .before .before in
+    let at-numbers = at-member .before .before in
+    let numbers = at-numbers .numbers-of .result in
+    let at-x = at-numbers .before .before in
+    let at-kind = at-x .before .before in
+    let kind = at-x .kind-read .given .0 .0 in
+    let at-row = at-kind .before .before in
+    let tests = decided _ (c .before .before .before .if1 .taken) (passed (at-row .row-at .result .count) (at-member .name-at .result .good) (at-job .name-at2 .result .good) (numbers .good)) in
+    seen-row (at-row .row-at .ensures) cs css q (tests .0 .0 .0) _ (λ t. record {
+      ten = t .ten;
+      member = cell-name t 0 _ (lit< tt) (at-member .before .cell2 .ensures) (at-member .name-at .result) (tests .0 .0 .1) (at-member .name-at .ensures);
+      job = cell-name t 1 _ (lit< tt) (at-job .before .cell3 .ensures) (at-job .name-at2 .result) (tests .0 .1) (at-job .name-at2 .ensures);
+      kind = cell-kind t 2 _ (lit< tt) (at-kind .before .cell .ensures) kind (subst (KindAt _) (at-x .kind-read .given .1) (at-kind .kind-at .ensures));
+      numbers = subst (λ (g : Bool). numbers-are g (numbers .numbers) kind cs) (tests .1) (at-numbers .numbers-of .ensures cs t);
+      note = refl;
+    })
+
+unread-requires-2 : tie.Need-unread-requires-2
+unread-requires-2 c κs = search needs
+
+returns-3 : tie.Need-returns-3
+returns-3 c = λ cs css q.
+    let at-job = c .before .before .before .before .before .before in
+    let at-member = at-job .before .before in
+    let at-numbers = at-member .before .before in
+    let numbers = at-numbers .numbers-of .result in
+    let at-x = at-numbers .before .before in
+    let at-kind = at-x .before .before in
+    let kind = at-x .kind-read .given .0 .0 in
+    let at-row = at-kind .before .before in
+    let tests = refuted _ (c .before .if1 .left) (passed (at-row .row-at .result .count) (at-member .name-at .result .good) (at-job .name-at2 .result .good) (numbers .good)) in
+    seen-none (at-row .row-at .ensures) cs css q (c .unread2 .result) (c .unread2 .ensures)
+    (λ n t b f.
+    let m = cell-good t 0 _ (lit< tt) (at-member .before .cell2 .ensures) (at-member .name-at .result) (at-member .name-at .ensures) (b .keyed .key .member) (f .member) in
+    let j = cell-good t 1 _ (lit< tt) (at-job .before .cell3 .ensures) (at-job .name-at2 .result) (at-job .name-at2 .ensures) (b .keyed .key .job) (f .job) in
+    let e = cell-kind t 2 _ (lit< tt) (at-kind .before .cell .ensures) kind (subst (KindAt _) (at-x .kind-read .given .1) (at-kind .kind-at .ensures)) in
+    let g = numbers-good kind cs e (numbers .good) (numbers .numbers) (at-numbers .numbers-of .ensures cs t) b f in
+    tests (((n, m), j), g))
 
 pub read-row-spec : {M : Type 1} → statement M
 read-row-spec =
-    tie.close (tie.spec row-at-requires row-of-requires returns blank-row-requires returns-2)
+    tie.close
+    (tie.spec
+    row-at-requires
+    cell-requires
+    kind-at-requires
+    enum-known-kind-read
+    enum-told
+    unread-requires
+    returns
+    numbers-of-requires
+    cell-requires-2
+    name-at-requires
+    cell-requires-3
+    name-at-requires-2
+    returns-2
+    unread-requires-2
+    returns-3)

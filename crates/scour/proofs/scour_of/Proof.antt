@@ -1,9 +1,11 @@
 -- `scour::scour_of` meets its contract: each rule bounds the number that it hands to the next, and each way out is one case of what is told.
-use Prim.Native.Nat.{_≤_}
+use Prim.Native.Nat.{ℕ, _≤_}
 use native.Mathlib.Omega.{arith}
+use mathlib.Core.Path.{subst⁻¹}
+use mathlib.Core.Logic.{⊎-elim}
 use borrow.Author.Needs.{needs}
 use Rattle.decides.specs.Decides.{decided, refuted}
-use Rattle.scour.specs.Scour.{Constricted, regime, constricted, large-catchment, too-intense, needed}
+use Rattle.scour.specs.Scour.{Constricted, LaceyDepth, regime, constricted, large-catchment, too-intense, needed}
 use Rattle.discharge.proofs.Bounds.{discharge-most}
 use Rattle.scour.proofs.scour_of.Statement.{statement}
 use Rattle.scour.proofs.scour_of.Tie as tie
@@ -21,6 +23,19 @@ narrow c = record {
   intensity = c .up .ensures;
 }
 
+-- Lacey's depth, by the rule that applies, is at most 41,000
+module _ (c : tie.Joined2) where
+  abbrev Depth : ℕ → Type 0
+  Depth D = let a = c .before .before .before .before .args in LaceyDepth (a .q) (a .z) (a .f) (a .w) D × (D ≤ 41000)
+
+  depth : Depth (c .if2 .depth)
+  depth =
+      let tested = c .before in
+      ⊎-elim
+      (λ w. subst⁻¹ Depth (w .2) (regime (tested .before .foundation-discharge .ensures) (decided (tested .meets-regime .result) (w .0 .taken) (tested .meets-regime .ensures)) (w .1 .ensures .0), w .1 .ensures .1))
+      (λ w. subst⁻¹ Depth (w .4) (constricted (narrow record { before = record { before = tested; if2 = w .0 }; up = w .1 }) (w .2 .left) (w .3 .ensures .0), w .3 .ensures .1))
+      (c .if2 .came)
+
 returns : tie.Need-returns
 returns c = large-catchment (c .if1 .taken)
 
@@ -33,37 +48,23 @@ meets-regime-requires c κs = search needs
 regime-depth-requires : tie.Need-regime-depth-requires
 regime-depth-requires c κs = omega (arith, most (c .before .before))
 
-depth-needed-requires : tie.Need-depth-needed-requires
-depth-needed-requires c κs = search needs
-
-returns-2 : tie.Need-returns-2
-returns-2 c =
-    let tested = c .before .before .before in
-    needed
-    (regime (tested .before .foundation-discharge .ensures)
-    (decided (tested .meets-regime .result) (c .before .before .if2 .taken) (tested .meets-regime .ensures))
-    (c .before .regime-depth .ensures .0))
-    (c .depth-needed .ensures)
-
 mul-up : tie.Need-mul-up
 mul-up c = omega (arith, most (c .before .before))
 
 up-requires : tie.Need-up-requires
 up-requires c κs = search needs
 
-returns-3 : tie.Need-returns-3
-returns-3 c = too-intense (narrow (c .before)) (c .if3 .taken)
+returns-2 : tie.Need-returns-2
+returns-2 c = too-intense (narrow (c .before)) (c .if3 .taken)
 
 constricted-depth-requires : tie.Need-constricted-depth-requires
 constricted-depth-requires c κs = search needs
 
-depth-needed-requires-2 : tie.Need-depth-needed-requires-2
-depth-needed-requires-2 c κs = search needs
+depth-needed-requires : tie.Need-depth-needed-requires
+depth-needed-requires c κs = omega (arith, depth c .1)
 
-returns-4 : tie.Need-returns-4
-returns-4 c =
-    let limited = c .before .before in
-    needed (constricted (narrow (limited .before)) (limited .if3 .left) (c .before .constricted-depth .ensures .0)) (c .depth-needed2 .ensures)
+returns-3 : tie.Need-returns-3
+returns-3 c = needed (depth (c .before) .0) (c .depth-needed .ensures)
 
 pub scour-of-spec : {M : Type 1} → statement M
 scour-of-spec =
@@ -73,11 +74,9 @@ scour-of-spec =
     foundation-discharge-requires
     meets-regime-requires
     regime-depth-requires
-    depth-needed-requires
-    returns-2
     mul-up
     up-requires
-    returns-3
+    returns-2
     constricted-depth-requires
-    depth-needed-requires-2
-    returns-4)
+    depth-needed-requires
+    returns-3)

@@ -1,9 +1,8 @@
 -- Each check by its own rank, at the parts of N, H and M.
 use borrow.Author.Needs.{needs}
-use native.Mathlib.Nat.{le-trans}
-use lib.Dec.{lit≤}
+use native.Mathlib.Omega.{arith}
 use mathlib.Core.Path.{subst⁻¹, subst₂}
-use Prim.Native.Nat.{ℕ}
+use Prim.Native.Nat.{ℕ, _^_, _≤_}
 use Rattle.checks.specs.declared.Check.{Check}
 use Rattle.pressure.specs.Pressure.{Presses}
 use Rattle.ranks.specs.Figures.{Slides, Leans}
@@ -22,82 +21,91 @@ distance-requires c κs = search needs
 distance-requires-2 : tie.Need-distance-requires-2
 distance-requires-2 c κs = search needs
 
+-- the sizes of N, H and M
+abbrev start : tie.After-distance2 → tie.Start
+start c = c .before .before .before
+
+n-low : (c : tie.After-distance2) → c .before .before .excess .result ≤ 2 ^ 20
+n-low c = rw (c .before .before .excess .ensures) (slight ((start c) .pre .1) .n)
+
+h-low : (c : tie.After-distance2) → c .before .distance .result ≤ 2 ^ 24
+unfolding apart
+h-low c = rw (c .before .distance .ensures) (slight ((start c) .pre .1) .h)
+
+m-low : (c : tie.After-distance2) → c .distance2 .result ≤ 2 ^ 40
+unfolding apart
+m-low c = rw (c .distance2 .ensures) (slight ((start c) .pre .1) .m)
+
 enum-told : tie.Need-enum-told
 enum-told c = search needs
 
 tip-rank-requires : tie.Need-tip-rank-requires
-tip-rank-requires c κs = slight (c .before .before .before .before .before .before .before .pre .1) .plus
+tip-rank-requires c κs = omega (arith, slight ((start (c .before .before)) .pre .1))
 
 enum-told-2 : tie.Need-enum-told-2
 enum-told-2 c = search needs
 
 tip-rank-requires-2 : tie.Need-tip-rank-requires-2
-tip-rank-requires-2 c κs = slight (c .before .before .before .before .before .before .before .pre .1) .minus
+tip-rank-requires-2 c κs = omega (arith, slight ((start (c .before .before)) .pre .1))
 
 enum-told-3 : tie.Need-enum-told-3
 enum-told-3 c = search needs
 
 slide-rank-requires : tie.Need-slide-rank-requires
-unfolding apart
-slide-rank-requires c κs =
-    let e = c .before .before .before .before .before .before .before in
-    let s = slight (e .pre .1) in
-    (e .pre .0 .friction, rw (c .before .before .before .before .before .before .excess .ensures) (s .n), rw (c .before .before .before .before .before .distance .ensures) (le-trans (s .h) (lit≤ tt)))
+slide-rank-requires c κs = let d = c .before .before in ((start d) .pre .0 .friction, n-low d, omega (arith, h-low d, m-low d))
 
 enum-told-4 : tie.Need-enum-told-4
 enum-told-4 c = search needs
 
 press-rank-requires : tie.Need-press-rank-requires
-unfolding apart
 press-rank-requires c κs =
-    let e = c .before .before .before .before .before .before .before in
-    let s = slight (e .pre .1) in
-    ((e .pre .0 .wide, e .pre .0 .width, e .pre .0 .long, e .pre .0 .length), (rw (c .before .before .before .before .before .before .excess .ensures) (s .n), rw (c .before .before .before .before .distance2 .ensures) (s .m)))
+    let d = c .before .before in
+    let b = (start d) .pre .0 in
+    ((b .wide, b .width, b .long, b .length), (n-low d, omega (arith, h-low d, m-low d)))
 
 enum-told-5 : tie.Need-enum-told-5
 enum-told-5 c = search needs
 
 lean-rank-requires : tie.Need-lean-rank-requires
-unfolding apart
 lean-rank-requires c κs =
-    let e = c .before .before .before .before .before .before .before in
-    let s = slight (e .pre .1) in
-    ((e .pre .0 .wide, e .pre .0 .width), (rw (c .before .before .before .before .before .before .excess .ensures) (s .n), rw (c .before .before .before .before .distance2 .ensures) (s .m)))
+    let d = c .before .before in
+    let b = (start d) .pre .0 in
+    ((b .wide, b .width), (n-low d, omega (arith, h-low d, m-low d)))
 
 returns : tie.Need-returns
 unfolding side Judged apart
 returns c =
-    let e = c .before .before .before .before .before .before .before .before in
+    let e = c .before .before .before .before .before .before in
     subst⁻¹ (λ (k : Check). Ranks (side k) (Judged k (e .args .base) (e .args .sums)) (c .tip-rank .result)) (c .before .enum-told .given .1) (c .tip-rank .ensures)
 
 returns-2 : tie.Need-returns-2
 unfolding side Judged apart
 returns-2 c =
-    let e = c .before .before .before .before .before .before .before .before in
+    let e = c .before .before .before .before .before .before in
     subst⁻¹ (λ (k : Check). Ranks (side k) (Judged k (e .args .base) (e .args .sums)) (c .tip-rank2 .result)) (c .before .enum-told2 .given .1) (c .tip-rank2 .ensures)
 
 returns-3 : tie.Need-returns-3
 unfolding side Judged apart
 returns-3 c =
-    let e = c .before .before .before .before .before .before .before .before in
-    let n = c .before .before .before .before .before .before .before .excess .ensures in
-    let h = c .before .before .before .before .before .before .distance .ensures in
+    let e = c .before .before .before .before .before .before in
+    let n = c .before .before .before .before .before .excess .ensures in
+    let h = c .before .before .before .before .distance .ensures in
     subst⁻¹ (λ (k : Check). Ranks (side k) (Judged k (e .args .base) (e .args .sums)) (c .slide-rank .result)) (c .before .enum-told3 .given .1) (subst₂ (λ (a b : ℕ). Ranks lowest (Slides (e .args .base .friction) a b) (c .slide-rank .result)) n h (c .slide-rank .ensures))
 
 returns-4 : tie.Need-returns-4
 unfolding side Judged apart
 returns-4 c =
-    let e = c .before .before .before .before .before .before .before .before in
-    let n = c .before .before .before .before .before .before .before .excess .ensures in
-    let m = c .before .before .before .before .before .distance2 .ensures in
+    let e = c .before .before .before .before .before .before in
+    let n = c .before .before .before .before .before .excess .ensures in
+    let m = c .before .before .before .distance2 .ensures in
     subst⁻¹ (λ (k : Check). Ranks (side k) (Judged k (e .args .base) (e .args .sums)) (c .press-rank .result)) (c .before .enum-told4 .given .1) (subst₂ (λ (a b : ℕ). Ranks highest (Presses (e .args .base .width) (e .args .base .length) a b) (c .press-rank .result)) n m (c .press-rank .ensures))
 
 returns-5 : tie.Need-returns-5
 unfolding side Judged apart
 returns-5 c =
-    let e = c .before .before .before .before .before .before .before .before in
-    let n = c .before .before .before .before .before .before .before .excess .ensures in
-    let m = c .before .before .before .before .before .distance2 .ensures in
+    let e = c .before .before .before .before .before .before in
+    let n = c .before .before .before .before .before .excess .ensures in
+    let m = c .before .before .before .distance2 .ensures in
     subst⁻¹ (λ (k : Check). Ranks (side k) (Judged k (e .args .base) (e .args .sums)) (c .lean-rank .result)) (c .before .enum-told5 .given .1) (subst₂ (λ (a b : ℕ). Ranks highest (Leans (e .args .base .width) a b) (c .lean-rank .result)) n m (c .lean-rank .ensures))
 
 pub rank-of-spec : {M : Type 1} → statement M

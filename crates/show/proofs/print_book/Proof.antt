@@ -2,8 +2,8 @@
 use Prim.Native.Nat.{ℕ}
 use mathlib.Core.Path.{_≡_, subst}
 use mathlib.Core.List.{List}
-use Rattle.book.specs.declared.Book.{Book}
-use Rattle.book.specs.declared.Count.{Count}
+use Rattle.counted.specs.declared.Book.{Book}
+use Rattle.counted.specs.declared.Count.{Count}
 use Rattle.book.specs.Says.{Says, told, BookIs, CountIs}
 use borrow.Author.Needs.{needs}
 use Rattle.show.proofs.print_book.Statement.{statement}

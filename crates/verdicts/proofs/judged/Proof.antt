@@ -1,4 +1,4 @@
--- The lines are handed on untouched. Six answers joined say whether all of them say Y, and the verdict is about the answer that it stands in.
+-- The lines are handed on untouched. Five answers joined say whether all of them say Y, and the verdict is about the answer that it stands in.
 use mathlib.Core.Path.{refl, sym, subst}
 use Rattle.lines.specs.declared.Answer.{Answer}
 use Rattle.lines.specs.declared.Verdict.{Verdict}
@@ -20,19 +20,15 @@ lines-yes-requires-3 c κs = search needs
 lines-yes-requires-4 : tie.Need-lines-yes-requires-4
 lines-yes-requires-4 c κs = search needs
 
-depth-yes-requires : tie.Need-depth-yes-requires
-depth-yes-requires c κs = search needs
-
-clear-yes-requires : tie.Need-clear-yes-requires
-clear-yes-requires c κs = search needs
+river-yes-requires : tie.Need-river-yes-requires
+river-yes-requires c κs = search needs
 
 verdict-of-requires : tie.Need-verdict-of-requires
 verdict-of-requires c κs = search needs
 
 returns : tie.Need-returns
 returns c =
-    let at-f = c .before in
-    let at-e = at-f .before in
+    let at-e = c .before in
     let at-d = at-e .before in
     let at-c = at-d .before in
     let at-b = at-c .before in
@@ -55,8 +51,8 @@ returns c =
       depth = refl;
       clear = refl;
       verdict = subst (λ (v : Verdict). VerdictIs v answer) (sym (c .verdict-of .ensures))
-          (verdict-decided answer (at-a .lines-yes .result) (at-b .lines-yes2 .result) (at-c .lines-yes3 .result) (at-d .lines-yes4 .result) (at-e .depth-yes .result) (at-f .clear-yes .result)
-          (at-a .lines-yes .ensures) (at-b .lines-yes2 .ensures) (at-c .lines-yes3 .ensures) (at-d .lines-yes4 .ensures) (at-e .depth-yes .ensures) (at-f .clear-yes .ensures));
+          (verdict-decided answer (at-a .lines-yes .result) (at-b .lines-yes2 .result) (at-c .lines-yes3 .result) (at-d .lines-yes4 .result) (at-e .river-yes .result)
+          (at-a .lines-yes .ensures) (at-b .lines-yes2 .ensures) (at-c .lines-yes3 .ensures) (at-d .lines-yes4 .ensures) (at-e .river-yes .ensures));
     }
 
 pub judged-spec : {M : Type 1} → statement M
@@ -67,7 +63,6 @@ judged-spec =
     lines-yes-requires-2
     lines-yes-requires-3
     lines-yes-requires-4
-    depth-yes-requires
-    clear-yes-requires
+    river-yes-requires
     verdict-of-requires
     returns)

@@ -1,16 +1,18 @@
 -- `waters::rows_of` meets its contract: a refusal of the S row is one of the job, whatever its strata; and where there is none the depth needed is
 -- what the row is told.
-use mathlib.Core.Path.{sym, subst}
+use mathlib.Core.Path.{refl, sym, subst}
+use mathlib.Core.Logic.{⊎-elim}
 use Prim.Native.Nat.{ℕ, _≤_, _<_}
 use borrow.Author.Tests.{not-true, not-false}
-use Rattle.decides.specs.Decides.{decided, refuted}
+use Rattle.decides.specs.Decides.{decided, refuted, decides-at-most}
 use Rattle.jobs.specs.declared.Job.{Job}
 use Rattle.scour.specs.Scour.{told, needs as needs-depth}
 use Rattle.river.specs.River.{Says}
 use Rattle.job_ranges.specs.Rows.{HasScour}
 use Rattle.waters.specs.Waters.{DepthTold, ClearTold, RiverSays}
+use Rattle.lines.specs.declared.DepthLine.{DepthLine}
 use Rattle.waters.specs.declared.RiverRead.the-variants.{Refused}
-use Rattle.waters.proofs.Telling.{dry-shown, scour-refused, scour-needs, scour-passed, scour-line}
+use Rattle.waters.proofs.Telling.{DepthLineIs, dry-shown, scour-refused, scour-needs, scour-passed, scour-line}
 use borrow.Author.Needs.{needs}
 use Rattle.waters.proofs.rows_of.Statement.{statement}
 use Rattle.waters.proofs.rows_of.Tie as tie
@@ -50,21 +52,24 @@ returns-2 c =
 depth-of-requires : tie.Need-depth-of-requires
 depth-of-requires c κs = search needs
 
-depth-line-requires : tie.Need-depth-line-requires
-depth-line-requires c κs = search needs
-
 clear-of-requires : tie.Need-clear-of-requires
 clear-of-requires c κs = search needs
 
 returns-3 : tie.Need-returns-3
 returns-3 c =
     λ job s t.
-    let line = c .before in
-    let scoured = line .before .before .before .before in
-    let depth = says (line .before) job s t in
+    let joined = c .before in
+    let depth = joined .before in
+    let scoured = depth .before .before .before in
+    let a = scoured .before .before .args in
+    let needed = says depth job s t in
+    let line : DepthLineIs (a .rock) (depth .depth-of .result) (a .found) (joined .if3 .line) =
+    ⊎-elim (λ w. subst (λ (l : DepthLine). DepthLineIs (a .rock) (depth .depth-of .result) (a .found) l) (sym (w .1)) (w .0 .taken))
+    (λ w. subst (λ (l : DepthLine). DepthLineIs (a .rock) (depth .depth-of .result) (a .found) l) (sym (w .1)) (w .0 .left, refl, refl, decides-at-most (depth .depth-of .result) (a .found)))
+    (joined .if3 .came) in
     c .clear-of .ensures job t
-    (scour-passed job (t .ranged) (has scoured job t) _ depth)
-    (scour-line job (t .ranged) (has scoured job t) _ depth (scoured .before .before .args .rock) _ (line .depth-line .result) (s .strata) (s .limit) (line .depth-line .ensures))
+    (scour-passed job (t .ranged) (has scoured job t) _ needed)
+    (scour-line job (t .ranged) (has scoured job t) _ needed (a .rock) _ (joined .if3 .line) (s .strata) (s .limit) line)
 
 pub rows-of-spec : {M : Type 1} → statement M
 rows-of-spec =
@@ -75,6 +80,5 @@ rows-of-spec =
     refusal-of-requires
     returns-2
     depth-of-requires
-    depth-line-requires
     clear-of-requires
     returns-3)

@@ -57,34 +57,28 @@ walk-requires c κs =
     (c .before .before .pre .0, (c .before .before .pre .1, decided (c .before .opens .result) (not-false (c .before .opens .result) (c .if1 .left)) (c .before .opens .ensures)))
 
 line-at-requires : tie.Need-line-at-requires
-unfolding Walked markOf
-line-at-requires c κs =
-    (c .before .before .before .before .before .before .before .before .pre .0 .allowable, λ h. c .before .before .before .before .before .walk .ensures OP h)
+line-at-requires c κs = c .before .before .before .pre .0 .allowable
 
 line-at-requires-2 : tie.Need-line-at-requires-2
-unfolding Walked markOf
-line-at-requires-2 c κs =
-    (c .before .before .before .before .before .before .before .before .before .pre .0 .allowable, λ h. c .before .before .before .before .before .before .walk .ensures OM h)
+line-at-requires-2 c κs = c .before .before .before .before .pre .0 .allowable
 
 line-at-requires-3 : tie.Need-line-at-requires-3
-unfolding Walked markOf
-line-at-requires-3 c κs =
-    (c .before .before .before .before .before .before .before .before .before .before .pre .0 .allowable, λ h. c .before .before .before .before .before .before .before .walk .ensures SL h)
+line-at-requires-3 c κs = c .before .before .before .before .before .pre .0 .allowable
 
 line-at-requires-4 : tie.Need-line-at-requires-4
-unfolding Walked markOf
-line-at-requires-4 c κs =
-    (c .before .before .before .before .before .before .before .before .before .before .before .pre .0 .allowable, λ h. c .before .before .before .before .before .before .before .before .walk .ensures PR h)
+line-at-requires-4 c κs = c .before .before .before .before .before .before .pre .0 .allowable
 
 line-at-requires-5 : tie.Need-line-at-requires-5
-unfolding Walked markOf
-line-at-requires-5 c κs =
-    (c .before .before .before .before .before .before .before .before .before .before .before .before .pre .0 .allowable, λ h. c .before .before .before .before .before .before .before .before .before .walk .ensures RK h)
+line-at-requires-5 c κs = c .before .before .before .before .before .before .before .pre .0 .allowable
 
 returns-2 : tie.Need-returns-2
-unfolding line
+unfolding line Walked markOf
 returns-2 c =
-    each (c .before .before .before .before .before .before .before .before .before .before .before .before .before .args .combination) (c .before .before .before .before .before .before .before .before .before .before .before .before .before .args .base) (c .before .before .before .before .before .before .before .before .before .before .before .before .before .args .loads) _ (c .before .before .before .before .line-at .ensures) (c .before .before .before .line-at2 .ensures) (c .before .before .line-at3 .ensures) (c .before .line-at4 .ensures) (c .line-at5 .ensures)
+    let found = c .before .before .before .before .before in
+    let a = found .before .before .before .args in
+    let walked = found .walk .ensures in
+    each (a .combination) (a .base) (a .loads) _ (c .before .before .before .before .line-at .ensures (a .loads) (walked OP)) (c .before .before .before .line-at2 .ensures (a .loads) (walked OM))
+    (c .before .before .line-at3 .ensures (a .loads) (walked SL)) (c .before .line-at4 .ensures (a .loads) (walked PR)) (c .line-at5 .ensures (a .loads) (walked RK))
 
 pub worst-lines-spec : {M : Type 1} → statement M
 worst-lines-spec =

@@ -1,13 +1,34 @@
 -- A row out of place leaves the job as it stood; one in place gives the job with exactly that row more.
--- A load row in place has fewer than 16 before it, which is the room that `with_row` asks.
-use mathlib.Core.Path.{_≡_, refl}
+-- A load row in place has fewer than 16 before it, which is the room that `joined` asks.
+use Prim.Native.Nat.{ℕ}
+use native.Mathlib.Omega.{arith}
+use mathlib.Core.Path.{_≡_, refl, sym, ap, _∙_}
 use mathlib.Core.Bool.{true}
+use mathlib.Core.Logic.{⊎-elim}
+use mathlib.Core.List.{[], _∷_}
+use types.Run.{OneOf}
+use denote.Enum.Declared.{tagOf}
 use borrow.Author.Needs.{needs}
-use borrow.Author.Tests.{not-true, not-false}
 use Rattle.decides.specs.Decides.{decided, refuted}
-use Rattle.jobs.proofs.Placing.{out-of-place, bears-few, taken}
+use Rattle.kinds.specs.declared.Role.{Role}
+use Rattle.kinds.specs.declared.Role.the-variants.{Base, Scour, Clearance, Load}
+use Rattle.kinds.proofs.Role.{the-type}
+use Rattle.keys.specs.declared.Keyed.{Keyed}
+use Rattle.jobs.specs.Place.{with-row}
+use Rattle.jobs.specs.Taking.{told, Says}
+use Rattle.jobs.specs.declared.Job.{Job}
+use Rattle.jobs.specs.declared.Took.{Took}
+use Rattle.jobs.specs.declared.Took.the-variants.{Started, Joined}
+use Rattle.jobs.proofs.Placing.{answer-to, out-of-place, bears-few, taken}
 use Rattle.jobs.proofs.Job.take.Statement.{statement}
 use Rattle.jobs.proofs.Job.take.Tie as tie
+
+-- the three roles of one arm all join, and none is a B row's
+joins : (x : Role) → OneOf (1 ∷ 2 ∷ 3 ∷ []) (tagOf the-type x) → (x ≡ Base → ⊥) × (Joined ≡ answer-to x)
+joins Base h = absurd (⊎-elim (λ e. omega arith) (⊎-elim (λ e. omega arith) (λ e. omega arith)) h)
+joins Scour h = (λ e. let z : _≡_ {A = ℕ} 0 1 = cc in omega arith, refl)
+joins Clearance h = (λ e. let z : _≡_ {A = ℕ} 0 1 = cc in omega arith, refl)
+joins Load h = (λ e. let z : _≡_ {A = ℕ} 0 1 = cc in omega arith, refl)
 
 role-of-requires : tie.Need-role-of-requires
 role-of-requires c κs = search needs
@@ -18,32 +39,57 @@ same-key-requires c κs = search needs
 fits-requires : tie.Need-fits-requires
 fits-requires c κs = search needs
 
+enum-told : tie.Need-enum-told
+enum-told c = search needs
+
+fresh-requires : tie.Need-fresh-requires
+fresh-requires c κs = search needs
+
+-- a row in place is taken up, by its role
+module _ (c : tie.Then1) where
+  abbrev own : Role
+  own = c .before .before .before .before .before .role-of .result
+
+  abbrev self : Job
+  self = c .before .before .before .before .before .before .args .self
+
+  abbrev row : Keyed
+  row = c .before .before .before .before .before .before .args .row
+
+  in-place : (a : Took) (next : Job) → a ≡ answer-to own → next ≡ with-row own self row → Says self row (told a) next
+  in-place =
+      let at-fits = c .before in
+      let at-same = at-fits .before in
+      let at-role = at-same .before .before .before in
+      taken self row own (at-role .role-of .ensures) (at-same .same-key .result) (at-same .same-key .ensures) (decided (at-fits .fits2 .result) (c .if1 .taken) (at-fits .fits2 .ensures))
+
+joined-requires : tie.Need-joined-requires
+joined-requires c κs =
+    let at-if = c .before in
+    let at-fits = at-if .before in (
+      joins (own at-if) (c .match .keys2) .0,
+      bears-few (own at-if) (self at-if .stage) (self at-if .count) (at-fits .before .same-key .result ≡ true) (decided (at-fits .fits2 .result) (at-if .if1 .taken) (at-fits .fits2 .ensures)),
+    )
+
 returns : tie.Need-returns
 returns c =
-    let at-fits = c .before in
-    let at-same = at-fits .before in
-    let at-role = at-same .before .before .before in
-    let args = at-role .before .before .args in
-    (refl, out-of-place (args .self) (args .row) (at-role .role-of .result) (at-role .role-of .ensures) (at-same .same-key .result) (at-same .same-key .ensures) (refuted (at-fits .fits2 .result) (not-true _ (c .if1 .taken)) (at-fits .fits2 .ensures)), refl)
-
-answer-to-requires : tie.Need-answer-to-requires
-answer-to-requires c κs = search needs
-
-with-row-requires : tie.Need-with-row-requires
-with-row-requires c κs =
-    let at-fits = c .before .before in
-    let at-same = at-fits .before in
-    let at-role = at-same .before .before .before in
-    let args = at-role .before .before .args in
-    bears-few (at-role .role-of .result) (args .self .stage) (args .self .count) (at-same .same-key .result ≡ true) (decided (at-fits .fits2 .result) (not-false _ (c .before .if1 .left)) (at-fits .fits2 .ensures))
+    let at-arm = c .before in
+    let at-if = at-arm .before .before in
+    let q = sym (at-arm .enum-told .given .1) in
+    in-place at-if Started (c .fresh .result) (ap answer-to q) (c .fresh .ensures ∙ ap (λ (x : Role). with-row x (self at-if) (row at-if)) q)
 
 returns-2 : tie.Need-returns-2
 returns-2 c =
-    let at-fits = c .before .before .before in
+    let at-if = c .before .before in
+    in-place at-if Joined (c .joined .result) (joins (own at-if) (c .before .match .keys2) .1) (c .joined .ensures)
+
+returns-3 : tie.Need-returns-3
+returns-3 c =
+    let at-fits = c .before in
     let at-same = at-fits .before in
     let at-role = at-same .before .before .before in
-    let args = at-role .before .before .args in
-    taken (args .self) (args .row) (at-role .role-of .result) (at-role .role-of .ensures) (at-same .same-key .result) (at-same .same-key .ensures) (decided (at-fits .fits2 .result) (not-false _ (c .before .before .if1 .left)) (at-fits .fits2 .ensures)) (c .before .answer-to .result) (c .with-row .result) (c .before .answer-to .ensures) (c .with-row .ensures)
+    let args = at-role .before .args in
+    (refl, out-of-place (args .self) (args .row) (at-role .role-of .result) (at-role .role-of .ensures) (at-same .same-key .result) (at-same .same-key .ensures) (refuted (at-fits .fits2 .result) (c .if1 .left) (at-fits .fits2 .ensures)), refl)
 
 pub take-spec : {M : Type 1} → statement M
 take-spec =
@@ -52,7 +98,9 @@ take-spec =
     role-of-requires
     same-key-requires
     fits-requires
+    enum-told
+    fresh-requires
+    joined-requires
     returns
-    answer-to-requires
-    with-row-requires
-    returns-2)
+    returns-2
+    returns-3)
