@@ -1,33 +1,20 @@
 -- A job has one answer.
 use Prim.Native.Nat.{ℕ}
 use mathlib.Core.Path.{_≡_, sym, ap, subst, _∙_}
-use Rattle.rounding.proofs.Laws.{least-one}
+use Rattle.arithmetic.proofs.rounding.Laws.{least-one}
 use Rattle.jobs.specs.declared.Job.{Job}
-use Rattle.table2.specs.declared.Coefficient.{Coefficient}
+use Rattle.earth.specs.declared.table2.Coefficient.{Coefficient}
 use Rattle.sets.specs.declared.Combination.{Combination}
 use Rattle.sets.specs.declared.Combination.the-variants.{I, II, III, IV}
 use Rattle.sets.specs.declared.Loads.{Loads}
-use Rattle.checks.specs.declared.Base.{Base}
-use Rattle.checks.specs.declared.Check.the-variants.{OP, OM, SL, PR, RK}
 use Rattle.lines.specs.declared.Lines.{Lines}
-use Rattle.worst.specs.Lines.{line}
-use Rattle.worst.proofs.Naming.{says-one}
-use Rattle.loads.specs.Taken.{rowsOf}
+use Rattle.worst.proofs.Naming.{lines-one}
+use Rattle.loads.specs.Taken.{row-count}
 use Rattle.loads.proofs.Loaded.{loads-one}
 use Rattle.lines.specs.declared.Answer.{Answer}
-use Rattle.verdicts.proofs.Answers.{Alike, alike-one}
-use Rattle.waters.proofs.Answers.{depth-one, clear-one}
+use Rattle.lines.proofs.verdicts.Answers.{Alike, alike-one}
+use Rattle.answer.proofs.river.Answers.{depth-one, clear-one}
 use Rattle.answer.specs.Answer.{base-of, LinesAre, Given, refusal, AnswerIs, refused, answered}
-
-lines-one : (combination : Combination) (base : Base) (loads : Loads) (l m : Lines) → LinesAre combination base loads l → LinesAre combination base loads m → l ≡ m
-unfolding line
-lines-one combination base loads l m p q =
-    let op = says-one combination OP base loads (l .op) (m .op) (p OP) (q OP) in
-    let om = says-one combination OM base loads (l .om) (m .om) (p OM) (q OM) in
-    let sl = says-one combination SL base loads (l .sl) (m .sl) (p SL) (q SL) in
-    let pr = says-one combination PR base loads (l .pr) (m .pr) (p PR) (q PR) in
-    let rk = says-one combination RK base loads (l .rk) (m .rk) (p RK) (q RK) in
-    λ i. record { op = op i; om = om i; sl = sl i; pr = pr i; rk = rk i }
 
 module _ (fill : ℕ → ℕ → Coefficient) (job : Job) where
   lines-same : (c : Combination) {s t : Loads} (l m : Lines) → s ≡ t → LinesAre c (base-of (job .base)) s l → LinesAre c (base-of (job .base)) t m → l ≡ m
@@ -35,7 +22,7 @@ module _ (fill : ℕ → ℕ → Coefficient) (job : Job) where
 
   given-one : (a b : Answer) → Given fill job a → Given fill job b → a ≡ b
   given-one a b p q =
-      let e = loads-one fill (job .loads) (rowsOf (job .count)) (p .loads) (q .loads) (p .are) (q .are) in
+      let e = loads-one fill (job .loads) (row-count (job .count)) (p .loads) (q .loads) (p .are) (q .are) in
       let k : Alike a b = record {
         one = lines-same I (a .one) (b .one) e (p .one) (q .one);
         two = lines-same II (a .two) (b .two) e (p .two) (q .two);

@@ -4,55 +4,55 @@ use native.Mathlib.Omega.{arith}
 use mathlib.Core.Path.{_≡_, refl, sym, ap, subst}
 use mathlib.Core.List.{List}
 use lib.Dec.{lit≤}
-use Rattle.ranges.specs.Range.{Ranged}
+use Rattle.arithmetic.proofs.Cases.{impossible}
+use Rattle.kinds.specs.ranges.Range.{Ranged}
 use Rattle.kinds.specs.declared.Kind.the-variants.{B}
 use Rattle.kinds.specs.declared.Numbers.{Numbers}
 use Rattle.kinds.specs.declared.Row.{Row}
 use Rattle.jobs.specs.declared.Job.{Job}
-use Rattle.table2.specs.declared.Coefficient.{Coefficient}
+use Rattle.earth.specs.declared.table2.Coefficient.{Coefficient}
 use Rattle.sets.specs.declared.Loads.{Loads}
 use Rattle.checks.specs.Sized.{Sized}
 use Rattle.loads.specs.LoadRows.{AllRanged, NoneBlank, optionals, AreLoads}
-use Rattle.loads.specs.Taken.{rowsOf, Told, refused, given, told, toldBy, Says, out-of-range, blank, too-many, loaded, Answers}
-use Rattle.loads.specs.declared.Answer as answering
-use Rattle.loads.specs.declared.Answer.the-variants as taking
-use Rattle.loads.specs.declared.Taken.{Taken}
-use Rattle.job_ranges.specs.Rows.{RowsRanged}
-use Rattle.waters.specs.Waters.{LargeCatchment, TooIntense, OverObstructed, Passed, DepthIs, ClearIs, RiverSays, large, intense, obstructed, shown}
-use Rattle.waters.specs.declared.RiverRead.{RiverRead}
-use Rattle.waters.specs.declared.RiverRead.the-variants as river
+use Rattle.loads.specs.Taken.{row-count, LoadsTold, refused, given, loads-told, loads-told-by, LoadsSays, out-of-range, blank, too-many, loaded, LoadsAnswered}
+use Rattle.loads.specs.declared.LoadsAnswer as answering
+use Rattle.loads.specs.declared.LoadsAnswer.the-variants as taking
+use Rattle.loads.specs.declared.LoadsRead.{LoadsRead}
+use Rattle.answer.specs.river.River.{LargeCatchment, TooIntense, OverObstructed, RiverRanged, Passed, DepthIs, ClearIs, RiverSays, large, intense, obstructed, shown}
+use Rattle.answer.specs.river.River as says
+use Rattle.answer.specs.declared.river.RiverRead.{RiverRead}
+use Rattle.answer.specs.declared.river.RiverRead.the-variants as river
 use Rattle.answer.specs.Rules as rules
-use Rattle.answer.specs.Rules.{AllInRange, Filled, When, Refuses}
+use Rattle.answer.specs.Rules.{AllInRange, AllFilled, When, Refuses}
 use Rattle.lines.specs.declared.Answer.{Answer}
-use Rattle.lines.specs.declared.DepthLine.{DepthLine}
-use Rattle.lines.specs.declared.ClearLine.{ClearLine}
+use Rattle.lines.specs.declared.RiverLine.{RiverLine}
 use Rattle.checks.specs.declared.Base.{Base}
 use Rattle.answer.specs.Answer.{base-of, Given, WholeIs, earlier, told-first}
 
 -- what the load rows are told
 module _ {fill : ℕ → ℕ → Coefficient} {rows : List Row} {n : ℕ} where
-  told-11 : {t : Told} → Says fill rows n t → t ≡ refused 11 → AllRanged rows n → ⊥
+  told-11 : {t : LoadsTold} → LoadsSays fill rows n t → t ≡ refused 11 → AllRanged rows n → ⊥
   told-11 (out-of-range h) e = h
   told-11 (blank a b) e = let z : _≡_ {A = ℕ} 15 11 = cc in absurd (omega arith)
   told-11 (too-many a b c) e = let z : _≡_ {A = ℕ} 16 11 = cc in absurd (omega arith)
-  told-11 (loaded a b c d) e = let z : _≡_ {A = ℕ} 0 1 = cc in absurd (omega arith)
+  told-11 (loaded a b c d) e = impossible cc
 
-  told-15 : {t : Told} → Says fill rows n t → t ≡ refused 15 → AllRanged rows n × (NoneBlank fill rows n → ⊥)
+  told-15 : {t : LoadsTold} → LoadsSays fill rows n t → t ≡ refused 15 → AllRanged rows n × (NoneBlank fill rows n → ⊥)
   told-15 (out-of-range h) e = let z : _≡_ {A = ℕ} 11 15 = cc in absurd (omega arith)
   told-15 (blank a b) e = (a, b)
   told-15 (too-many a b c) e = let z : _≡_ {A = ℕ} 16 15 = cc in absurd (omega arith)
-  told-15 (loaded a b c d) e = let z : _≡_ {A = ℕ} 0 1 = cc in absurd (omega arith)
+  told-15 (loaded a b c d) e = impossible cc
 
-  told-16 : {t : Told} → Says fill rows n t → t ≡ refused 16 → AllRanged rows n × NoneBlank fill rows n × (12 < optionals rows n)
+  told-16 : {t : LoadsTold} → LoadsSays fill rows n t → t ≡ refused 16 → AllRanged rows n × NoneBlank fill rows n × (12 < optionals rows n)
   told-16 (out-of-range h) e = let z : _≡_ {A = ℕ} 11 16 = cc in absurd (omega arith)
   told-16 (blank a b) e = let z : _≡_ {A = ℕ} 15 16 = cc in absurd (omega arith)
   told-16 (too-many a b c) e = (a, b, c)
-  told-16 (loaded a b c d) e = let z : _≡_ {A = ℕ} 0 1 = cc in absurd (omega arith)
+  told-16 (loaded a b c d) e = impossible cc
 
-  told-loads : {t : Told} {loads : Loads} → Says fill rows n t → t ≡ given loads → AllRanged rows n × NoneBlank fill rows n × (optionals rows n ≤ 12) × AreLoads fill rows n loads
-  told-loads (out-of-range h) e = let z : _≡_ {A = ℕ} 0 1 = cc in absurd (omega arith)
-  told-loads (blank a b) e = let z : _≡_ {A = ℕ} 0 1 = cc in absurd (omega arith)
-  told-loads (too-many a b c) e = let z : _≡_ {A = ℕ} 0 1 = cc in absurd (omega arith)
+  told-loads : {t : LoadsTold} {loads : Loads} → LoadsSays fill rows n t → t ≡ given loads → AllRanged rows n × NoneBlank fill rows n × (optionals rows n ≤ 12) × AreLoads fill rows n loads
+  told-loads (out-of-range h) e = impossible cc
+  told-loads (blank a b) e = impossible cc
+  told-loads (too-many a b c) e = impossible cc
   told-loads (loaded a b c d) e = (a, b, c, subst (AreLoads fill rows n) (cc) d)
 
 -- what is asked only of the numbers before n is not asked of n or of a later one
@@ -63,7 +63,7 @@ late h l = absurd (omega arith)
 module _ (fill : ℕ → ℕ → Coefficient) (job : Job) where
   -- no number before n has its condition, if the conditions before n's own are known not to hold
   module _ (n : ℕ) (ranged : 11 < n → AllInRange job) (catchment : 12 < n → LargeCatchment job → ⊥) (intensity : 13 < n → TooIntense job → ⊥)
-      (obstruction : 14 < n → OverObstructed job → ⊥) (filled : 15 < n → Filled fill job) (few : 16 < n → optionals (job .loads) (rowsOf (job .count)) ≤ 12) where
+      (obstruction : 14 < n → OverObstructed job → ⊥) (filled : 15 < n → AllFilled fill job) (few : 16 < n → optionals (job .loads) (row-count (job .count)) ≤ 12) where
     not-before : {m : ℕ} → (m < n → ⊥) → n ≤ m
     not-before h = omega (arith, h)
 
@@ -90,61 +90,62 @@ module _ (fill : ℕ → ℕ → Coefficient) (job : Job) where
       refuses-14 h = record { holds = rules.over-obstructed h; least = least 14 (λ _. a) (λ _. p .catchment) (λ _. p .intensity) (late (lit≤ tt)) (late (lit≤ tt)) (late (lit≤ tt)) }
 
       module _ (o : OverObstructed job → ⊥) where
-        refuses-15 : (Filled fill job → ⊥) → Refuses fill job 15
+        refuses-15 : (AllFilled fill job → ⊥) → Refuses fill job 15
         refuses-15 h = record { holds = rules.blank h; least = least 15 (λ _. a) (λ _. p .catchment) (λ _. p .intensity) (λ _. o) (late (lit≤ tt)) (late (lit≤ tt)) }
 
-        refuses-16 : Filled fill job → 12 < optionals (job .loads) (rowsOf (job .count)) → Refuses fill job 16
+        refuses-16 : AllFilled fill job → 12 < optionals (job .loads) (row-count (job .count)) → Refuses fill job 16
         refuses-16 f h = record { holds = rules.too-many h; least = least 16 (λ _. a) (λ _. p .catchment) (λ _. p .intensity) (λ _. o) (λ _. f) (late (lit≤ tt)) }
 
-        unrefused : Filled fill job → optionals (job .loads) (rowsOf (job .count)) ≤ 12 → {m : ℕ} → When fill job m → ⊥
+        unrefused : AllFilled fill job → optionals (job .loads) (row-count (job .count)) ≤ 12 → {m : ℕ} → When fill job m → ⊥
         unrefused f h {m} w = omega (arith, least (m + 1) (λ _. a) (λ _. p .catchment) (λ _. p .intensity) (λ _. o) (λ _. f) (λ _. h) m w)
+
+  -- what is left to show where the base and the load rows are in range
+  module _ (b : Ranged B (job .base)) (l : AllRanged (job .loads) (row-count (job .count))) where
+    pub all-ranged : RiverRanged job → AllInRange job
+    all-ranged r = record { rows = record { base = b; scour = r .scour; clearance = r .clearance }; loads = l }
 
     -- the river's refusals come before 15 and 16
     river-first : {n : ℕ} → RiverSays job (river.Refused n) → Refuses fill job n
-    river-first (large l) = refuses-12 l
-    river-first (intense k i) = refuses-13 k i
-    river-first (obstructed q o) = refuses-14 q o
+    river-first (says.out-of-range h) = refuses-11 (λ a. h (record { scour = a .rows .scour; clearance = a .rows .clearance }))
+    river-first (large r c) = refuses-12 (all-ranged r) c
+    river-first (intense r k i) = refuses-13 (all-ranged r) k i
+    river-first (obstructed r q o) = refuses-14 (all-ranged r) q o
 
-    first : (x : RiverRead) (n : ℕ) → RiverSays job x → (Passed job → (OverObstructed job → ⊥) → Refuses fill job n) → Refuses fill job (earlier x n)
+    first : (x : RiverRead) (n : ℕ) → RiverSays job x → (AllInRange job → Passed job → (OverObstructed job → ⊥) → Refuses fill job n) → Refuses fill job (earlier x n)
     first (river.Refused m) n s f = river-first s
-    first (river.Shown d c) n (shown q o x y) f = f q o
+    first (river.Shown d c) n (shown r q o x y) f = f (all-ranged r) q o
 
-module _ (fill : ℕ → ℕ → Coefficient) (job : Job) (t : Taken) (w : Answers fill (job .loads) (job .count) t) where
+module _ (fill : ℕ → ℕ → Coefficient) (job : Job) (t : LoadsRead) (w : LoadsAnswered fill (job .loads) (job .count) t) where
   loads-11 : t .answer ≡ taking.OutOfRange → Refuses fill job 11
-  unfolding told toldBy
-  loads-11 e = refuses-11 fill job (λ a. told-11 (w .says) (ap (λ x. toldBy x (t .loads)) e) (a .loads))
+  unfolding loads-told loads-told-by
+  loads-11 e = refuses-11 fill job (λ a. told-11 (w .says) (ap (λ x. loads-told-by x (t .loads)) e) (a .loads))
 
-  module _ (r : RowsRanged job) where
+  module _ (b : Ranged B (job .base)) where
     loads-15 : t .answer ≡ taking.NoCoefficient → (x : RiverRead) → RiverSays job x → Refuses fill job (earlier x 15)
-    unfolding told toldBy
+    unfolding loads-told loads-told-by
     loads-15 e x s =
-        let k = told-15 (w .says) (ap (λ a. toldBy a (t .loads)) e) in
-        let a : AllInRange job = record { rows = r; loads = k .0 } in
-        first fill job a x 15 s (λ p o. refuses-15 fill job a p o (k .1))
+        let k = told-15 (w .says) (ap (λ a. loads-told-by a (t .loads)) e) in
+        first fill job b (k .0) x 15 s (λ a p o. refuses-15 fill job a p o (k .1))
 
     loads-16 : t .answer ≡ taking.TooMany → (x : RiverRead) → RiverSays job x → Refuses fill job (earlier x 16)
-    unfolding told toldBy
+    unfolding loads-told loads-told-by
     loads-16 e x s =
-        let k = told-16 (w .says) (ap (λ a. toldBy a (t .loads)) e) in
-        let a : AllInRange job = record { rows = r; loads = k .0 } in
-        first fill job a x 16 s (λ p o. refuses-16 fill job a p o (k .1) (k .2))
+        let k = told-16 (w .says) (ap (λ a. loads-told-by a (t .loads)) e) in
+        first fill job b (k .0) x 16 s (λ a p o. refuses-16 fill job a p o (k .1) (k .2))
 
     module _ (e : t .answer ≡ taking.Given) where
-      told-given : AllRanged (job .loads) (rowsOf (job .count)) × NoneBlank fill (job .loads) (rowsOf (job .count)) × (optionals (job .loads) (rowsOf (job .count)) ≤ 12) × AreLoads fill (job .loads) (rowsOf (job .count)) (t .loads)
-      unfolding told toldBy
-      told-given = told-loads (w .says) (ap (λ a. toldBy a (t .loads)) e)
-
-      in-range : AllInRange job
-      in-range = record { rows = r; loads = told-given .0 }
+      told-given : AllRanged (job .loads) (row-count (job .count)) × NoneBlank fill (job .loads) (row-count (job .count)) × (optionals (job .loads) (row-count (job .count)) ≤ 12) × AreLoads fill (job .loads) (row-count (job .count)) (t .loads)
+      unfolding loads-told loads-told-by
+      told-given = told-loads (w .says) (ap (λ a. loads-told-by a (t .loads)) e)
 
       river-refuses : {n : ℕ} → RiverSays job (river.Refused n) → Refuses fill job n
-      river-refuses s = river-first fill job in-range s
+      river-refuses s = river-first fill job b (told-given .0) s
 
-      pub given-answer : {d : DepthLine} {c : ClearLine} {base : Base} {a : Answer} → RiverSays job (river.Shown d c) → base ≡ base-of (job .base) → WholeIs base (t .loads) d c a → Given fill job a
-      given-answer {d} {c} {a = a} (shown q k x y) e w =
+      pub given-answer : {d c : RiverLine} {base : Base} {a : Answer} → RiverSays job (river.Shown d c) → base ≡ base-of (job .base) → WholeIs base (t .loads) d c a → Given fill job a
+      given-answer {d} {c} {a = a} (shown r q k x y) e w =
           let v = subst (λ (b : Base). WholeIs b (t .loads) d c a) e w in
           record {
-            unrefused = λ n h. unrefused fill job in-range q k (told-given .1) (told-given .2) h;
+            unrefused = λ n h. unrefused fill job (all-ranged fill job b (told-given .0) r) q k (told-given .1) (told-given .2) h;
             loads = t .loads;
             are = told-given .3;
             one = v .one;
@@ -160,21 +161,21 @@ module _ (fill : ℕ → ℕ → Coefficient) (job : Job) (t : Taken) (w : Answe
 refused-number : {m n : ℕ} → river.Refused m ≡ river.Refused n → m ≡ n
 refused-number e = cc
 
-refused-shown : {n : ℕ} {d : DepthLine} {c : ClearLine} → river.Refused n ≡ river.Shown d c → ⊥
-refused-shown e = let z : _≡_ {A = ℕ} 0 1 = cc in omega arith
+refused-shown : {n : ℕ} {d c : RiverLine} → river.Refused n ≡ river.Shown d c → ⊥
+refused-shown e = impossible cc
 
-pub first-given : (a : answering.Answer) (x : RiverRead) {d : DepthLine} {c : ClearLine} → told-first a x ≡ river.Shown d c → (a ≡ taking.Given) × (x ≡ river.Shown d c)
+pub first-given : (a : answering.LoadsAnswer) (x : RiverRead) {d c : RiverLine} → told-first a x ≡ river.Shown d c → (a ≡ taking.Given) × (x ≡ river.Shown d c)
 first-given taking.OutOfRange x e = absurd (refused-shown e)
 first-given taking.NoCoefficient x e = absurd (refused-shown e)
 first-given taking.TooMany x e = absurd (refused-shown e)
 first-given taking.Given x e = (refl, e)
 
-module _ (fill : ℕ → ℕ → Coefficient) (job : Job) (t : Taken) (w : Answers fill (job .loads) (job .count) t) (r : RowsRanged job) (x : RiverRead) (s : RiverSays job x) where
-  by-loads : {n : ℕ} (a : answering.Answer) → t .answer ≡ a → told-first a x ≡ river.Refused n → Refuses fill job n
+module _ (fill : ℕ → ℕ → Coefficient) (job : Job) (t : LoadsRead) (w : LoadsAnswered fill (job .loads) (job .count) t) (b : Ranged B (job .base)) (x : RiverRead) (s : RiverSays job x) where
+  by-loads : {n : ℕ} (a : answering.LoadsAnswer) → t .answer ≡ a → told-first a x ≡ river.Refused n → Refuses fill job n
   by-loads taking.OutOfRange e q = subst (Refuses fill job) (refused-number q) (loads-11 fill job t w e)
-  by-loads taking.NoCoefficient e q = subst (Refuses fill job) (refused-number q) (loads-15 fill job t w r e x s)
-  by-loads taking.TooMany e q = subst (Refuses fill job) (refused-number q) (loads-16 fill job t w r e x s)
-  by-loads taking.Given e q = river-refuses fill job t w r e (subst (RiverSays job) q s)
+  by-loads taking.NoCoefficient e q = subst (Refuses fill job) (refused-number q) (loads-15 fill job t w b e x s)
+  by-loads taking.TooMany e q = subst (Refuses fill job) (refused-number q) (loads-16 fill job t w b e x s)
+  by-loads taking.Given e q = river-refuses fill job t w b e (subst (RiverSays job) q s)
 
   pub first-refuses : {n : ℕ} → told-first (t .answer) x ≡ river.Refused n → Refuses fill job n
   first-refuses q = by-loads (t .answer) refl q

@@ -4,7 +4,7 @@ use mathlib.Core.Path.{_≡_}
 use lib.Dec.{eqb}
 use Rattle.kinds.specs.declared.Numbers.{Numbers}
 use Rattle.jobs.specs.declared.Job.{Job}
-use Rattle.table2.specs.declared.Coefficient.{Coefficient}
+use Rattle.earth.specs.declared.table2.Coefficient.{Coefficient}
 use Rattle.sets.specs.declared.Combination.{Combination}
 use Rattle.sets.specs.declared.Combination.the-variants.{I, II, III, IV}
 use Rattle.sets.specs.declared.Loads.{Loads}
@@ -14,19 +14,17 @@ use Rattle.lines.specs.declared.Lines.{Lines}
 use Rattle.lines.specs.Lines.{no-lines}
 use Rattle.worst.specs.Lines as worst
 use Rattle.loads.specs.LoadRows.{AreLoads}
-use Rattle.loads.specs.Taken.{rowsOf}
-use Rattle.loads.specs.declared.Answer as loads
-use Rattle.loads.specs.declared.Answer.the-variants as taking
+use Rattle.loads.specs.Taken.{row-count}
+use Rattle.loads.specs.declared.LoadsAnswer as loads
+use Rattle.loads.specs.declared.LoadsAnswer.the-variants as taking
 use Rattle.lines.specs.declared.Verdict.the-variants.{Refused}
-use Rattle.lines.specs.declared.DepthLine.{DepthLine}
-use Rattle.lines.specs.declared.DepthLine.the-variants as depth
-use Rattle.lines.specs.declared.ClearLine.{ClearLine}
-use Rattle.lines.specs.declared.ClearLine.the-variants as clear
+use Rattle.lines.specs.declared.RiverLine.{RiverLine}
+use Rattle.lines.specs.declared.RiverLine.the-variants.{Missing}
 use Rattle.lines.specs.declared.Answer.{Answer}
-use Rattle.verdicts.specs.Verdict.{VerdictIs}
-use Rattle.waters.specs.Waters.{DepthIs, ClearIs}
-use Rattle.waters.specs.declared.RiverRead.{RiverRead}
-use Rattle.waters.specs.declared.RiverRead.the-variants as river
+use Rattle.lines.specs.verdicts.Verdict.{VerdictIs}
+use Rattle.answer.specs.river.River.{DepthIs, ClearIs}
+use Rattle.answer.specs.declared.river.RiverRead.{RiverRead}
+use Rattle.answer.specs.declared.river.RiverRead.the-variants as river
 use Rattle.answer.specs.Rules.{Refuses, Unrefused}
 
 -- width B, length L, allowable pressure, friction, and whether the strata are rock
@@ -35,13 +33,13 @@ base-of n = record { width = n .n1 .size; length = n .n2 .size; allowable = n .n
 
 -- the lines of a combination are those of its checks
 abbrev pub LinesAre : Combination → Base → Loads → Lines → Type 0
-LinesAre combination base loads lines = (check : Check) → worst.Says combination check base loads (worst.line check lines)
+LinesAre combination base loads lines = (check : Check) → worst.LineSays combination check base loads (worst.line check lines)
 
 -- the lines of a job that is not refused
 pub record Given (fill : ℕ → ℕ → Coefficient) (job : Job) (a : Answer) : Type 0 where
   pub unrefused : Unrefused fill job
   pub loads : Loads
-  pub are : AreLoads fill (job .loads) (rowsOf (job .count)) loads
+  pub are : AreLoads fill (job .loads) (row-count (job .count)) loads
   pub one : LinesAre I (base-of (job .base)) loads (a .one)
   pub two : LinesAre II (base-of (job .base)) loads (a .two)
   pub three : LinesAre III (base-of (job .base)) loads (a .three)
@@ -52,14 +50,14 @@ pub record Given (fill : ℕ → ℕ → Coefficient) (job : Job) (a : Answer) :
 
 -- "A refused job has only VERDICT."
 abbrev pub refusal : ℕ → Answer
-refusal n = record { verdict = Refused n; one = no-lines; two = no-lines; three = no-lines; four = no-lines; depth = depth.Missing; clear = clear.Missing }
+refusal n = record { verdict = Refused n; one = no-lines; two = no-lines; three = no-lines; four = no-lines; depth = Missing; clear = Missing }
 
 pub data AnswerIs (fill : ℕ → ℕ → Coefficient) (job : Job) (a : Answer) : Type 0 where
   refused : {n : ℕ} → Refuses fill job n → a ≡ refusal n → AnswerIs fill job a
   answered : Given fill job a → AnswerIs fill job a
 
 -- the lines of loads, beside those of the river: what the last step of the code answers
-pub record WholeIs (base : Base) (loads : Loads) (d : DepthLine) (c : ClearLine) (a : Answer) : Type 0 where
+pub record WholeIs (base : Base) (loads : Loads) (d c : RiverLine) (a : Answer) : Type 0 where
   pub one : LinesAre I base loads (a .one)
   pub two : LinesAre II base loads (a .two)
   pub three : LinesAre III base loads (a .three)
@@ -68,13 +66,13 @@ pub record WholeIs (base : Base) (loads : Loads) (d : DepthLine) (c : ClearLine)
   pub clear : a .clear ≡ c
   pub verdict : VerdictIs (a .verdict) a
 
--- the river's refusal, 12 to 14, or another
+-- the river's refusal, 11 to 14, or another
 abbrev pub earlier : RiverRead → ℕ → ℕ
 earlier (river.Refused n) other = n
 earlier (river.Shown d c) other = other
 
--- "Order as numbered": 11 of the load rows before 12 to 14 of the river, and those before 15 and 16
-abbrev pub told-first : loads.Answer → RiverRead → RiverRead
+-- "Order as numbered": 11 of the load rows before 12 to 14 of the river, and all of the river's before 15 and 16
+abbrev pub told-first : loads.LoadsAnswer → RiverRead → RiverRead
 told-first taking.OutOfRange x = river.Refused 11
 told-first taking.NoCoefficient x = river.Refused (earlier x 15)
 told-first taking.TooMany x = river.Refused (earlier x 16)

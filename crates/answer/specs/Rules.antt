@@ -1,21 +1,21 @@
 -- Document 01, Refusals of a job: 11 to 16, over the whole job. `fill` is what is held for a soil and a slope: today Table 2.
 use Prim.Native.Nat.{ℕ, _<_}
-use Rattle.rounding.specs.Least.{Least}
+use Rattle.arithmetic.specs.rounding.Least.{Least}
 use Rattle.jobs.specs.declared.Job.{Job}
-use Rattle.table2.specs.declared.Coefficient.{Coefficient}
+use Rattle.earth.specs.declared.table2.Coefficient.{Coefficient}
 use Rattle.loads.specs.LoadRows.{AllRanged, NoneBlank, optionals}
-use Rattle.loads.specs.Taken.{rowsOf}
-use Rattle.job_ranges.specs.Rows.{RowsRanged}
-use Rattle.waters.specs.Waters.{LargeCatchment, TooIntense, OverObstructed}
+use Rattle.loads.specs.Taken.{row-count}
+use Rattle.jobs.specs.stages.Rows.{RowsRanged}
+use Rattle.answer.specs.river.River.{LargeCatchment, TooIntense, OverObstructed}
 
 -- every number of every row is in its range
 pub record AllInRange (job : Job) : Type 0 where
   pub rows : RowsRanged job
-  pub loads : AllRanged (job .loads) (rowsOf (job .count))
+  pub loads : AllRanged (job .loads) (row-count (job .count))
 
 -- Table 2 is blank for no E row
-abbrev pub Filled : (ℕ → ℕ → Coefficient) → Job → Type 0
-Filled fill job = NoneBlank fill (job .loads) (rowsOf (job .count))
+abbrev pub AllFilled : (ℕ → ℕ → Coefficient) → Job → Type 0
+AllFilled fill job = NoneBlank fill (job .loads) (row-count (job .count))
 
 -- "given exactly when"
 pub data When (fill : ℕ → ℕ → Coefficient) (job : Job) : ℕ → Type 0 where
@@ -28,9 +28,9 @@ pub data When (fill : ℕ → ℕ → Coefficient) (job : Job) : ℕ → Type 0 
   -- a above A
   over-obstructed : OverObstructed job → When fill job 14
   -- Table 2 is blank there
-  blank : (Filled fill job → ⊥) → When fill job 15
+  blank : (AllFilled fill job → ⊥) → When fill job 15
   -- more than 12 optional load rows
-  too-many : 12 < optionals (job .loads) (rowsOf (job .count)) → When fill job 16
+  too-many : 12 < optionals (job .loads) (row-count (job .count)) → When fill job 16
 
 -- "Order as numbered": a job is refused with the least of its numbers
 abbrev pub Refuses : (ℕ → ℕ → Coefficient) → Job → ℕ → Type 0

@@ -2,19 +2,21 @@
 //
 // What is hard is the order: a job is refused with the lowest of its numbers, over all its rows, whatever row shows it
 // first. The answer is total on every `Job` value, and depends on the job alone: Table 2 is a constant.
+pub mod river;
+
 use checks::Base;
 use jobs::Job;
+use kinds::Kind;
 use kinds::Numbers;
 use lines::Answer;
-use lines::ClearLine;
-use lines::DepthLine;
+use lines::RiverLine;
 use lines::Verdict;
+use river::RiverRead;
 use sets::Combination;
 use sets::Loads;
-use waters::RiverRead;
 ghost use mathlib.Core.Path.{_≡_};
 ghost use Rattle.sets.specs.Sets.{Bounded};
-ghost use Rattle.table2.specs.Table2.{table2-fill};
+ghost use Rattle.earth.specs.table2.Table2.{table2-fill};
 ghost use Rattle.checks.specs.Sized.{Sized};
 ghost use Rattle.answer.specs.Answer.{base-of, refusal, WholeIs, AnswerIs, told-first};
 
@@ -27,12 +29,12 @@ fn base_at(numbers: Numbers) -> Base
         length: numbers.n2.size as u64,
         allowable: numbers.n3.size as u64,
         friction: numbers.n4.size as u64,
-        rock: river_marks::is_rock(numbers.n5.size),
+        rock: numbers.n5.size == 1,
     }
 }
 
 // A refused job has only VERDICT.
-fn refused(number: u8) -> Answer
+fn refused_answer(number: u8) -> Answer
     ensures { λ r. ⌜ r ≡ refusal number ⌝ }
 {
     let none = lines::no_lines();
@@ -42,13 +44,13 @@ fn refused(number: u8) -> Answer
         two: none,
         three: none,
         four: none,
-        depth: DepthLine::Missing,
-        clear: ClearLine::Missing,
+        depth: RiverLine::Missing,
+        clear: RiverLine::Missing,
     }
 }
 
 // The lines and the verdict of a job that is not refused.
-fn whole(base: Base, loads: Loads, depth: DepthLine, clear: ClearLine) -> Answer
+fn whole(base: Base, loads: Loads, depth: RiverLine, clear: RiverLine) -> Answer
     requires { ⌜ Sized base ⌝ }
     requires { ⌜ Bounded loads ⌝ }
     ensures { λ r. ⌜ WholeIs base loads depth clear r ⌝ }
@@ -57,18 +59,18 @@ fn whole(base: Base, loads: Loads, depth: DepthLine, clear: ClearLine) -> Answer
     let two = worst::worst_lines(Combination::II, base, loads);
     let three = worst::worst_lines(Combination::III, base, loads);
     let four = worst::worst_lines(Combination::IV, base, loads);
-    verdicts::judged(one, two, three, four, depth, clear)
+    lines::verdicts::judged(one, two, three, four, depth, clear)
 }
 
 // The river's answer, or the refusal that the loads give where it comes first.
-fn joined(told: loads::Answer, river: RiverRead) -> RiverRead
+fn first_told(told: loads::LoadsAnswer, river: RiverRead) -> RiverRead
     ensures { λ r. ⌜ r ≡ told-first told river ⌝ }
 {
     let other = match told {
-        loads::Answer::OutOfRange => return RiverRead::Refused(11),
-        loads::Answer::NoCoefficient => 15,
-        loads::Answer::TooMany => 16,
-        loads::Answer::Given => return river,
+        loads::LoadsAnswer::OutOfRange => return RiverRead::Refused(11),
+        loads::LoadsAnswer::NoCoefficient => 15,
+        loads::LoadsAnswer::TooMany => 16,
+        loads::LoadsAnswer::Given => return river,
     };
     match river {
         RiverRead::Refused(_) => river,
@@ -80,15 +82,15 @@ fn joined(told: loads::Answer, river: RiverRead) -> RiverRead
 pub fn answer_of(job: Job) -> Answer
     ensures { λ r. ⌜ AnswerIs table2-fill job r ⌝ }
 {
-    if !job_ranges::rows_ranged(job) {
-        return refused(11);
+    if !kinds::ranges::is_ranged(Kind::B, job.base) {
+        return refused_answer(11);
     }
     let rows = job.loads;
     let taken = loads::loads_of(rows, job.count);
     let told = taken.answer;
-    let river = waters::river_of(job);
-    match joined(told, river) {
-        RiverRead::Refused(number) => refused(number),
+    let river = river::river_of(job);
+    match first_told(told, river) {
+        RiverRead::Refused(number) => refused_answer(number),
         RiverRead::Shown(depth, clear) => whole(base_at(job.base), taken.loads, depth, clear),
     }
 }

@@ -7,8 +7,8 @@ use native.Mathlib.Decide.{decLt}
 use native.Mathlib.Nat.{pow-suc}
 use lib.ListN.{length, length-append, getD}
 use borrow.Author.Tests.{lt-ltb, le-ltb}
-use Rattle.digits.specs.Numerals.{Numeral, one, more}
-use Rattle.digits.proofs.Numerals.{Digit, numeral-digit, numeral-some, numeral-unique}
+use Rattle.fields.specs.digits.Numerals.{Numeral, one, more}
+use Rattle.fields.proofs.digits.Numerals.{Digit, numeral-digit, numeral-some, numeral-unique}
 use Rattle.block.specs.Decimal.{last-digit, digits, decimal}
 
 -- a number below ten, and one that is not

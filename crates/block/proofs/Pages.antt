@@ -11,7 +11,7 @@ use lib.ListN.{length, length-append, take, drop, getD, set, replicate, drop-of-
 use lib.Seq.{drop-cons, set-append-seam, append-snoc, take-append-seam, take-all}
 use Rattle.block.specs.declared.Block.{Block}
 use Rattle.block.specs.Decimal.{decimal, last-digit}
-use Rattle.block.specs.Block.{page, blank, filled, block-of, held, pushed, puts, Put}
+use Rattle.block.specs.Block.{page, blank, filled, block-of, text-held, pushed, puts, Put}
 use Rattle.block.proofs.Numbers.{decimal-small, decimal-more}
 
 -- ---- text behind text
@@ -119,8 +119,8 @@ puts-blank t = elim (decLe (length t) 2048) [ yes h ↦ puts-short t h | no h �
 
 -- ---- a text that fits is held whole
 
-pub block-held : (t : List ℕ) → length t ≤ 2048 → held (block-of t) ≡ t
-unfolding held block-of filled
+pub block-held : (t : List ℕ) → length t ≤ 2048 → text-held (block-of t) ≡ t
+unfolding text-held block-of filled
 block-held t h = rw (take-all 2048 t h) (take-append-seam t _)
 
 pub block-length : (t : List ℕ) → length t ≤ 2048 → block-of t .len ≡ length t

@@ -5,7 +5,7 @@ use mathlib.Core.Bool.{cond}
 use mathlib.Core.List.{List, [], _∷_, _++_}
 use lib.Dec.{ltb}
 use lib.ListN.{length, take, set, replicate}
-use Rattle.rfc4180.specs.Rfc4180.{CR, LF, COMMA}
+use Rattle.csv.specs.rfc4180.Rfc4180.{CR, LF, COMMA}
 use Rattle.block.specs.declared.Block.{Block}
 
 -- bytes, the first so many of which are the text
@@ -21,8 +21,8 @@ unfoldable pub block-of : List ℕ → Block
 block-of t = filled (take 2048 t)
 
 -- the text that a block holds
-unfoldable pub held : Block → List ℕ
-held block = take (block .len) (block .bytes)
+unfoldable pub text-held : Block → List ℕ
+text-held block = take (block .len) (block .bytes)
 
 -- ---- how a text is written
 

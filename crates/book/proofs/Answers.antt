@@ -7,21 +7,22 @@ use mathlib.Core.List.{List, [], _∷_, _++_, append-assoc, append-nil}
 use lib.ListN.{length}
 use native.Mathlib.Decide.{decLt}
 use lib.Seq.{append-snoc}
-use Rattle.rfc4180.specs.Rfc4180.{Cell, File, Readable}
-use Rattle.rfc4180.proofs.Unique.{file-unique}
-use Rattle.notes.proofs.Answers.{level}
+use Rattle.arithmetic.proofs.Cases.{impossible, by-cases}
+use Rattle.csv.specs.rfc4180.Rfc4180.{Cell, File, Readable}
+use Rattle.csv.proofs.rfc4180.Unique.{file-unique}
+use Rattle.csv.proofs.Lists.{level}
 use Rattle.rows.specs.Form.{BookRow, Form}
 use Rattle.rows.proofs.Forms.{form-one}
 use Rattle.jobs.specs.declared.Job.{Job}
 use Rattle.book.specs.JobBook.{Jobs, count, Loaded, Different, Placed, rows-of, Forms, no-form, form, Begins, JobBook, Shaped, no-job, one-more, Whole, no-whole, one-whole}
-use Rattle.counted.specs.Places.{places}
+use Rattle.book.specs.counted.Places.{places}
 use Rattle.book.specs.Values.{values}
-use Rattle.book.specs.Says.{Told, given, refused, Fault, formless, misplaced, surplus, reused, number, Unplaced, Surplus, Reused, Bad, FirstBad, Unfinished, Says, too-long, not-csv, bad-row, unfinished, book, told, jobs-told, BookIs, CountIs}
-use Rattle.refusals.specs.Numbers.{refusal-number}
-use Rattle.refusals.proofs.Numbers.{number-one}
-use Rattle.counted.specs.declared.Count.{Count}
-use Rattle.counted.specs.declared.Count.the-variants.{Given, Refused}
-use Rattle.counted.specs.declared.Book.{Book}
+use Rattle.book.specs.Says.{BookTold, given, refused, Fault, formless, misplaced, surplus, reused, number, Unplaced, Surplus, Reused, Bad, FirstBad, Unfinished, BookSays, too-long, not-csv, bad-row, unfinished, book, book-told, jobs-told, BookIs, CountIs}
+use Rattle.rows.specs.refusals.Numbers.{refusal-number}
+use Rattle.rows.proofs.refusals.Numbers.{number-one}
+use Rattle.book.specs.declared.counted.Count.{Count}
+use Rattle.book.specs.declared.counted.Count.the-variants.{Given, Refused}
+use Rattle.book.specs.declared.counted.Book.{Book}
 use Rattle.book.proofs.Steps.{retract, placed-one, step-count, step-keys}
 
 forms-one : {css : List (List Cell)} {rs qs : List BookRow} → Forms css rs → Forms css qs → rs ≡ qs
@@ -144,29 +145,28 @@ whole : {why : Fault} {rows : List (List Cell)} {n : ℕ} (f : FirstBad why rows
 whole f b = not-beyond f (record { mid = f .behind; are = f .split }) b
 
 first-one : {why na : Fault} {rows : List (List Cell)} {n m : ℕ} → FirstBad why rows n → FirstBad na rows m → (why ≡ na) × (n ≡ m)
-first-one {why} {na} {rows} {n} {m} f g = by (decLt (length (f .before)) (length (g .before))) (decLt (length (g .before)) (length (f .before)))
-  where
-    both : f .before ++ f .row ∷ f .behind ≡ g .before ++ g .row ∷ g .behind
-    both = sym (f .split) ∙ g .split
-
-    by : Dec (length (f .before) < length (g .before)) → Dec (length (g .before) < length (f .before)) → (why ≡ na) × (n ≡ m)
-    by (yes a) d = absurd (not-beyond f (beyond (f .before) (g .before) (f .behind) (g .behind) (f .row) (g .row) both a) (begun (g .begins)))
-    by (no a) (yes b) = absurd (not-beyond g (beyond (g .before) (f .before) (g .behind) (f .behind) (g .row) (f .row) (sym both) b) (begun (f .begins)))
-    by (no a) (no b) =
-        let w = level (f .before) (g .before) (f .behind) (g .behind) (f .row) (g .row) both (omega arith) in
-        let x = f .number in
-        let y = g .number in
-        let u = forms-one (f .begins .forms) (subst (λ (c : List (List Cell)). Forms c (g .typed)) (sym (w .0)) (g .begins .forms)) in
-        let k = subst (λ (t : List BookRow). Bad na t (f .row)) (sym u) (subst (Bad na (g .typed)) (sym (w .1)) (g .bad)) in
-        (bad-one (f .begins) (f .row) why na (f .bad) k, omega (arith, ap length (w .0)))
+first-one {why} {na} f g =
+    let both : f .before ++ f .row ∷ f .behind ≡ g .before ++ g .row ∷ g .behind = sym (f .split) ∙ g .split in
+    by-cases (decLt (length (f .before)) (length (g .before)))
+    (λ a. absurd (not-beyond f (beyond (f .before) (g .before) (f .behind) (g .behind) (f .row) (g .row) both a) (begun (g .begins))))
+    (λ a.
+    by-cases (decLt (length (g .before)) (length (f .before)))
+    (λ b. absurd (not-beyond g (beyond (g .before) (f .before) (g .behind) (f .behind) (g .row) (f .row) (sym both) b) (begun (f .begins))))
+    (λ b.
+    let w = level (f .before) (g .before) (f .behind) (g .behind) (f .row) (g .row) both (omega arith) in
+    let x = f .number in
+    let y = g .number in
+    let u = forms-one (f .begins .forms) (subst (λ (c : List (List Cell)). Forms c (g .typed)) (sym (w .0)) (g .begins .forms)) in
+    let k = subst (λ (t : List BookRow). Bad na t (f .row)) (sym u) (subst (Bad na (g .typed)) (sym (w .1)) (g .bad)) in
+    (bad-one (f .begins) (f .row) why na (f .bad) k, omega (arith, ap length (w .0)))))
 
 -- what the rows of a text say, by what a job book may begin with
-data RowsSay (rows : List (List Cell)) (t : Told) : Type 0 where
+data RowsSay (rows : List (List Cell)) (t : BookTold) : Type 0 where
   bad : {why : Fault} {n : ℕ} → FirstBad why rows n → t ≡ refused (number why) n → RowsSay rows t
   lacking : Unfinished rows → t ≡ refused 4 (length rows + 1) → RowsSay rows t
   all : {rs : List BookRow} {js : Jobs} → Begins rows rs js → Loaded js → t ≡ given (count js) (values js) → RowsSay rows t
 
-rows-one : {rows : List (List Cell)} {t u : Told} → RowsSay rows t → RowsSay rows u → t ≡ u
+rows-one : {rows : List (List Cell)} {t u : BookTold} → RowsSay rows t → RowsSay rows u → t ≡ u
 rows-one (bad f p) (bad g q) =
     let w = first-one f g in
     let a = w .0 in
@@ -199,19 +199,19 @@ begins-book {rows = rows} {rs} n q b l =
     record { size = n; rows = rows; text = q; typed = rs; forms = b .forms; parts = b .placed .are; each = shaped-whole (b .placed .shaped) l; few = b .few; keys = b .different }
 
 -- what the bytes say, by size, by RFC 4180, and by the rows
-data Sorted (s : List ℕ) (t : Told) : Type 0 where
+data Sorted (s : List ℕ) (t : BookTold) : Type 0 where
   long : 65536 < length s → t ≡ refused 1 0 → Sorted s t
   other : length s ≤ 65536 → (Readable s → ⊥) → t ≡ refused 2 0 → Sorted s t
   text : {rows : List (List Cell)} → length s ≤ 65536 → File s rows → RowsSay rows t → Sorted s t
 
-sorted : {s : List ℕ} {t : Told} → Says s t → Sorted s t
+sorted : {s : List ℕ} {t : BookTold} → BookSays s t → Sorted s t
 sorted (too-long h p) = long h p
 sorted (not-csv h n p) = other h n p
 sorted (bad-row h q f p) = text h q (bad f p)
 sorted (unfinished h q u p) = text h q (lacking u p)
 sorted (book b p) = text (b .size) (b .text) (all (book-begins b) (whole-shaped (b .each) .1) p)
 
-sorted-one : {s : List ℕ} {t u : Told} → Sorted s t → Sorted s u → t ≡ u
+sorted-one : {s : List ℕ} {t u : BookTold} → Sorted s t → Sorted s u → t ≡ u
 sorted-one (long h p) (long k q) = p ∙ sym q
 sorted-one (long h p) (other k n q) = absurd (omega arith)
 sorted-one (long h p) (text k f r) = absurd (omega arith)
@@ -223,8 +223,8 @@ sorted-one (text h f r) (other k n q) = absurd (n (record { rows = _; reading = 
 sorted-one {t = t} (text h f r) (text k g u) = rows-one (subst (λ (x : List (List Cell)). RowsSay x t) (file-unique f g refl) r) u
 
 -- bytes say one thing
-pub says-one : {s : List ℕ} {t u : Told} → Says s t → Says s u → t ≡ u
-says-one p q = sorted-one (sorted p) (sorted q)
+pub book-says-one : {s : List ℕ} {t u : BookTold} → BookSays s t → BookSays s u → t ≡ u
+book-says-one p q = sorted-one (sorted p) (sorted q)
 
 -- a job book has one list of jobs, and one reading
 pub book-one : {s : List ℕ} {js ks : Jobs} → JobBook s js → JobBook s ks → js ≡ ks
@@ -240,37 +240,37 @@ pub record Accepted (s : List ℕ) (n : ℕ) (vs : List Job) : Type 0 where
   pub many : n ≡ count jobs
   pub are : vs ≡ values jobs
 
-accepted : {s : List ℕ} {t : Told} {n : ℕ} {vs : List Job} → Says s t → t ≡ given n vs → Accepted s n vs
-accepted (too-long h p) e = let z : _≡_ {A = ℕ} 0 1 = cc in absurd (omega arith)
-accepted (not-csv h m p) e = let z : _≡_ {A = ℕ} 0 1 = cc in absurd (omega arith)
-accepted (bad-row h q f p) e = let z : _≡_ {A = ℕ} 0 1 = cc in absurd (omega arith)
-accepted (unfinished h q u p) e = let z : _≡_ {A = ℕ} 0 1 = cc in absurd (omega arith)
+accepted : {s : List ℕ} {t : BookTold} {n : ℕ} {vs : List Job} → BookSays s t → t ≡ given n vs → Accepted s n vs
+accepted (too-long h p) e = impossible cc
+accepted (not-csv h m p) e = impossible cc
+accepted (bad-row h q f p) e = impossible cc
+accepted (unfinished h q u p) e = impossible cc
 accepted (book {js} b p) e = record { jobs = js; book = b; many = cc; are = cc }
 
-pub read-exactly : {s : List ℕ} {n : ℕ} {vs : List Job} → (Says s (given n vs) → Accepted s n vs) × (Accepted s n vs → Says s (given n vs))
+pub read-exactly : {s : List ℕ} {n : ℕ} {vs : List Job} → (BookSays s (given n vs) → Accepted s n vs) × (Accepted s n vs → BookSays s (given n vs))
 read-exactly = (λ p. accepted p refl, λ a. let m = a .many in let e = a .are in book (a .book) (cc))
 
 -- and refused exactly if it is none
-pub refused-none : {s : List ℕ} {n row : ℕ} → Says s (refused n row) → (js : Jobs) → JobBook s js → ⊥
-refused-none p js b = let e = says-one p (book b refl) in let z : _≡_ {A = ℕ} 0 1 = cc in omega arith
+pub refused-none : {s : List ℕ} {n row : ℕ} → BookSays s (refused n row) → (js : Jobs) → JobBook s js → ⊥
+refused-none p js b = let e = book-says-one p (book b refl) in impossible cc
 
--- each answer of `src/` is one
-pub told-one : (a b : Count) (js ks : List Job) → told a js ≡ told b ks → a ≡ b
-told-one (Given n) (Given m) js ks e = cc
-told-one (Given n) (Refused why row) js ks e = let z : _≡_ {A = ℕ} 0 1 = cc in absurd (omega arith)
-told-one (Refused why row) (Given n) js ks e = let z : _≡_ {A = ℕ} 0 1 = cc in absurd (omega arith)
-told-one (Refused why row) (Refused na line) js ks e =
+-- what `count_jobs` and `read_book` promise is met by one answer only
+pub book-told-one : (a b : Count) (js ks : List Job) → book-told a js ≡ book-told b ks → a ≡ b
+book-told-one (Given n) (Given m) js ks e = cc
+book-told-one (Given n) (Refused why row) js ks e = impossible cc
+book-told-one (Refused why row) (Given n) js ks e = impossible cc
+book-told-one (Refused why row) (Refused na line) js ks e =
     let p : refusal-number why ≡ refusal-number na = cc in
     let q : row ≡ line = cc in
     let r = number-one why na p in
     cc
 
 pub count-one : {s : List ℕ} {a b : Count} → CountIs s a → CountIs s b → a ≡ b
-count-one {a = a} {b} p q = told-one a b (p .jobs) (q .jobs) (says-one (p .says) (q .says))
+count-one {a = a} {b} p q = book-told-one a b (p .jobs) (q .jobs) (book-says-one (p .says) (q .says))
 
 pub book-is-one : {s : List ℕ} (a b : Book) → BookIs s a → BookIs s b → a ≡ b
 book-is-one a b p q =
-    let e = says-one (p .says) (q .says) in
-    let c = told-one (a .count) (b .count) (a .jobs) (b .jobs) e in
-    let j = p .held ∙ ap (λ (t : Told). places (jobs-told t)) e ∙ sym (q .held) in
+    let e = book-says-one (p .says) (q .says) in
+    let c = book-told-one (a .count) (b .count) (a .jobs) (b .jobs) e in
+    let j = p .held ∙ ap (λ (t : BookTold). places (jobs-told t)) e ∙ sym (q .held) in
     λ i. record { count = c i; jobs = j i }

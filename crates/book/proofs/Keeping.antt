@@ -6,17 +6,18 @@ use mathlib.Core.Path.{_≡_, refl, sym, ap, subst, _∙_}
 use mathlib.Core.List.{List, [], _∷_, _++_}
 use lib.ListN.{length, getD, set, replicate, length-append, List·getD-append}
 use lib.Seq.{set-at, append-snoc, getD-at}
+use Rattle.arithmetic.proofs.Cases.{impossible, by-cases}
 use Rattle.kinds.specs.declared.Role.the-variants.{Base}
 use Rattle.rows.specs.Form.{BookRow}
-use Rattle.keys.specs.Keyed.{no-row}
-use Rattle.keys.specs.declared.Key.{Key}
-use Rattle.jobs.specs.Place.{no-job}
+use Rattle.rows.specs.keys.Keyed.{no-row}
+use Rattle.rows.specs.declared.keys.Key.{Key}
+use Rattle.jobs.specs.Blank.{no-job}
 use Rattle.jobs.specs.declared.Job.{Job}
 use Rattle.book.specs.JobBook.{IsA, dry, job, base, Jobs, none, _and_, count, Different, Used, last, before}
-use Rattle.keys.specs.Among.{void-key, Among}
-use Rattle.counted.specs.Places.{in-places, places}
-use Rattle.book.specs.Values.{value, values, held, keys-of, key-places}
-use Rattle.book.proofs.Roles.{one-role}
+use Rattle.rows.specs.keys.Among.{void-key, Among}
+use Rattle.book.specs.counted.Places.{in-places, places}
+use Rattle.book.specs.Values.{job-value, values}
+use Rattle.book.specs.walk.Kept.{last-value, keys-of, key-places}
 use Rattle.book.proofs.Steps.{Step, starts, scours, crosses, bears, rebased}
 
 -- a value in the first unused place, and a value in place of the last
@@ -38,21 +39,20 @@ keys-many (js and j) = length-append (keys-of js) (base j .keyed .key ∷ []) �
 
 pub values-many : (js : Jobs) → length (values js) ≡ count js
 values-many none = refl
-values-many (js and j) = length-append (values js) (value j ∷ []) ∙ (let h = values-many js in omega arith)
+values-many (js and j) = length-append (values js) (job-value j ∷ []) ∙ (let h = values-many js in omega arith)
 
 -- a key is used exactly if it is among those held
 listed-used : (r : BookRow) (js : Jobs) (i : ℕ) → i < count js → getD (keys-of js) i void-key ≡ r .keyed .key → Used r js
 listed-used r none i h e = absurd (omega arith)
-listed-used r (js and j) i h e = by (decLt i (count js)) (listed-used r js i)
-  where
-    by : Dec (i < count js) → (i < count js → getD (keys-of js) i void-key ≡ r .keyed .key → Used r js) → Used r (js and j)
-    by (yes y) again =
-        let m = keys-many js in
-        let l : i < length (keys-of js) = omega arith in
-        before (again y (sym (List·getD-append (keys-of js) (base j .keyed .key ∷ []) void-key i l) ∙ e))
-    by (no y) again =
-        let m : length (keys-of js) ≡ i = (let q = keys-many js in omega arith) in
-        last (record { same = sym (getD-at (keys-of js) (base j .keyed .key) [] void-key i m) ∙ e })
+listed-used r (js and j) i h e =
+    let m = keys-many js in
+    by-cases (decLt i (count js))
+    (λ y.
+    let l : i < length (keys-of js) = omega arith in
+    before (listed-used r js i y (sym (List·getD-append (keys-of js) (base j .keyed .key ∷ []) void-key i l) ∙ e)))
+    (λ y.
+    let l : length (keys-of js) ≡ i = omega arith in
+    last (record { same = sym (getD-at (keys-of js) (base j .keyed .key) [] void-key i l) ∙ e }))
 
 record Listed (k : Key) (l : List Key) : Type 0 where
   at : ℕ
@@ -95,16 +95,16 @@ pub record Standing (js : Jobs) (n : ℕ) (ks : List Key) (vs : List Job) (last 
   pub many : n ≡ count js
   pub keys : ks ≡ key-places (keys-of js)
   pub jobs : vs ≡ places (values js)
-  pub job : last ≡ held js
+  pub job : last ≡ last-value js
 
 -- a row that starts a job
 pub base-jobs : {js ks : Jobs} {r : BookRow} → IsA Base r → Step js r ks → ks ≡ js and job r dry []
 base-jobs k (starts l h) = refl
-base-jobs k (scours h e) = let z = one-role k h in absurd (omega arith)
-base-jobs k (crosses h e) = let z = one-role k h in absurd (omega arith)
-base-jobs k (bears h e n) = let z = one-role k h in absurd (omega arith)
+base-jobs k (scours h e) = impossible cc
+base-jobs k (crosses h e) = impossible cc
+base-jobs k (bears h e n) = impossible cc
 
-pub standing-starts : {js : Jobs} {n : ℕ} {ks : List Key} {vs : List Job} {last next : Job} (r : BookRow) (k : Key) → Standing js n ks vs last → n < 64 → k ≡ r .keyed .key → held (js and job r dry []) ≡ next
+pub standing-starts : {js : Jobs} {n : ℕ} {ks : List Key} {vs : List Job} {last next : Job} (r : BookRow) (k : Key) → Standing js n ks vs last → n < 64 → k ≡ r .keyed .key → last-value (js and job r dry []) ≡ next
     → Standing (js and job r dry []) (n + 1) (set ks n k) (set vs n next) next
 standing-starts {js} {n} {ks} {vs} {last} {next} r k w h e q =
     let m = w .many in
@@ -122,8 +122,8 @@ standing-starts {js} {n} {ks} {vs} {last} {next} r k w h e q =
 -- a row that joins the last job: the jobs before it stay, and so do the keys
 pub record Joined (js ks : Jobs) : Type 0 where
   pub front : List Job
-  pub was : values js ≡ front ++ held js ∷ []
-  pub now : values ks ≡ front ++ held ks ∷ []
+  pub was : values js ≡ front ++ last-value js ∷ []
+  pub now : values ks ≡ front ++ last-value ks ∷ []
   pub many : count ks ≡ count js
   pub some : 1 ≤ count js
   pub keys : keys-of ks ≡ keys-of js
@@ -135,19 +135,19 @@ joins n (scours {js} {b} {r} h e) = record { front = values js; was = refl; now 
 joins n (crosses {js} h e) = record { front = values js; was = refl; now = refl; many = refl; some = omega arith; keys = refl; different = rebased }
 joins n (bears {js} h e m) = record { front = values js; was = refl; now = refl; many = refl; some = omega arith; keys = refl; different = rebased }
 
-pub standing-joins : {js ks : Jobs} {n : ℕ} {keys : List Key} {vs : List Job} {last next : Job} → Standing js n keys vs last → n ≤ 64 → Joined js ks → held ks ≡ next
+pub standing-joins : {js ks : Jobs} {n : ℕ} {keys : List Key} {vs : List Job} {last next : Job} → Standing js n keys vs last → n ≤ 64 → Joined js ks → last-value ks ≡ next
     → Standing ks n keys (set vs (n - 1) next) next
 standing-joins {js} {ks} {n} {keys} {vs} {last} {next} w h j q =
     let m = w .many in
     let s = j .some in
     let t = values-many js in
-    let l = ap length (j .was) ∙ length-append (j .front) (held js ∷ []) in
+    let l = ap length (j .was) ∙ length-append (j .front) (last-value js ∷ []) in
     let f : length (j .front) ≡ n - 1 = omega arith in
     record {
       many = m ∙ sym (j .many);
       keys = w .keys ∙ ap key-places (sym (j .keys));
       jobs = ap (λ (l : List Job). set l (n - 1) next) (w .jobs ∙ ap places (j .was))
-          ∙ subst (λ (i : ℕ). set (places (j .front ++ held js ∷ [])) i next ≡ places (j .front ++ next ∷ [])) f (places-last no-job (j .front) (omega arith) (held js) next)
+          ∙ subst (λ (i : ℕ). set (places (j .front ++ last-value js ∷ [])) i next ≡ places (j .front ++ next ∷ [])) f (places-last no-job (j .front) (omega arith) (last-value js) next)
           ∙ ap (λ (x : Job). places (j .front ++ x ∷ [])) (sym q) ∙ ap places (sym (j .now));
       job = sym q;
     }

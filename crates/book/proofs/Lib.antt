@@ -1,6 +1,5 @@
 -- Laws of the job book: one reading, and what bytes say is one thing. Other crates' proofs cite them.
 pub mod Ends
-mod Roles
 pub mod Steps
 pub mod Answers
 pub mod Growing

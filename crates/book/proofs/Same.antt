@@ -1,32 +1,31 @@
 -- Two jobs that are the same by key, kinds and numbers have one value, whatever their notes: the kinds say where the river rows end.
-use Prim.Native.Nat.{ℕ, suc, _-_}
-use native.Mathlib.Omega.{arith}
+use Prim.Native.Nat.{suc, _-_}
 use mathlib.Core.Path.{_≡_, refl, sym, ap, _∙_}
 use mathlib.Core.List.{List, [], _∷_, _++_}
 use lib.ListN.{length, replicate}
+use Rattle.arithmetic.proofs.Cases.{impossible}
 use Rattle.kinds.specs.Table.{role}
 use Rattle.kinds.specs.declared.Role.the-variants.{Load}
 use Rattle.rows.specs.Form.{BookRow}
-use Rattle.keys.specs.Keyed.{no-row}
-use Rattle.keys.specs.declared.Keyed.{Keyed}
-use Rattle.book.proofs.Roles.{one-role}
-use Rattle.book.proofs.Ends.{first-same, rest-same}
-use Rattle.book.specs.JobBook.{IsA, River, Written, Loads, no-load, load, Rivers, is-dry, is-scoured, is-crossed, GoodJob, good, river-rows}
-use Rattle.book.specs.Values.{stage-of, scour-of, clearance-of, load-rows, value, keyed-rows, SameJob}
+use Rattle.rows.specs.keys.Keyed.{no-row}
+use Rattle.rows.specs.declared.keys.Keyed.{Keyed}
+use Rattle.csv.proofs.Lists.{heads, tails}
+use Rattle.book.specs.JobBook.{IsA, River, WrittenJob, LoadRows, no-load, load, Rivers, is-dry, is-scoured, is-crossed, GoodJob, good, river-rows}
+use Rattle.book.specs.Values.{stage-of, scour-of, clearance-of, load-rows, job-value, keyed-rows, SameJob}
 
 loads-same : (ls ms : List BookRow) → keyed-rows ls ≡ keyed-rows ms → (load-rows ls ≡ load-rows ms) × (length ls ≡ length ms)
 loads-same [] [] e = (refl, refl)
-loads-same [] (m ∷ ms) e = let z : _≡_ {A = ℕ} 0 1 = cc in absurd (omega arith)
-loads-same (l ∷ ls) [] e = let z : _≡_ {A = ℕ} 0 1 = cc in absurd (omega arith)
+loads-same [] (m ∷ ms) e = impossible cc
+loads-same (l ∷ ls) [] e = impossible cc
 loads-same (l ∷ ls) (m ∷ ms) e =
-    let w = loads-same ls ms (rest-same e) in
-    (λ i. first-same e i .row ∷ w .0 i, ap suc (w .1))
+    let w = loads-same ls ms (tails e) in
+    (λ i. heads e i .row ∷ w .0 i, ap suc (w .1))
 
 -- no load row stands where a river row does
-head-loads : {b : BookRow} {ls : List BookRow} (r : BookRow) (rs : List BookRow) → Loads b ls → keyed-rows ls ≡ keyed-rows (r ∷ rs) → IsA Load r
-head-loads r rs no-load e = let z : _≡_ {A = ℕ} 0 1 = cc in absurd (omega arith)
+head-loads : {b : BookRow} {ls : List BookRow} (r : BookRow) (rs : List BookRow) → LoadRows b ls → keyed-rows ls ≡ keyed-rows (r ∷ rs) → IsA Load r
+head-loads r rs no-load e = impossible cc
 head-loads r rs (load {r = l} k s ls) e =
-    sym (ap (λ (x : Keyed). role (x .row .kind)) (first-same e)) ∙ k
+    sym (ap (λ (x : Keyed). role (x .row .kind)) (heads e)) ∙ k
 
 -- the same river, by its numbers
 record Alike (v w : River) (ls ms : List BookRow) : Type 0 where
@@ -35,28 +34,28 @@ record Alike (v w : River) (ls ms : List BookRow) : Type 0 where
   clearance : clearance-of v ≡ clearance-of w
   rest : keyed-rows ls ≡ keyed-rows ms
 
-rivers-alike : {b c : BookRow} {v w : River} {ls ms : List BookRow} → Rivers b v → Rivers c w → Loads b ls → Loads c ms → keyed-rows (river-rows v ++ ls) ≡ keyed-rows (river-rows w ++ ms) → Alike v w ls ms
+rivers-alike : {b c : BookRow} {v w : River} {ls ms : List BookRow} → Rivers b v → Rivers c w → LoadRows b ls → LoadRows c ms → keyed-rows (river-rows v ++ ls) ≡ keyed-rows (river-rows w ++ ms) → Alike v w ls ms
 rivers-alike is-dry is-dry l m e = record { stage = refl; scour = refl; clearance = refl; rest = e }
-rivers-alike {ms = ms} is-dry (is-scoured {s} k i) l m e = let z = one-role (head-loads s ms l e) k in absurd (omega arith)
-rivers-alike {ms = ms} is-dry (is-crossed {s} {c} k i n j) l m e = let z = one-role (head-loads s (c ∷ ms) l e) k in absurd (omega arith)
-rivers-alike {ls = ls} (is-scoured {s} k i) is-dry l m e = let z = one-role (head-loads s ls m (sym e)) k in absurd (omega arith)
+rivers-alike {ms = ms} is-dry (is-scoured {s} k i) l m e = let z = head-loads s ms l e in impossible cc
+rivers-alike {ms = ms} is-dry (is-crossed {s} {c} k i n j) l m e = let z = head-loads s (c ∷ ms) l e in impossible cc
+rivers-alike {ls = ls} (is-scoured {s} k i) is-dry l m e = let z = head-loads s ls m (sym e) in impossible cc
 rivers-alike {ls = ls} {ms} (is-scoured {s} k i) (is-scoured {s = t} n j) l m e =
-    record { stage = refl; scour = ap (λ (x : Keyed). x .row .numbers) (first-same e); clearance = refl; rest = rest-same e }
+    record { stage = refl; scour = ap (λ (x : Keyed). x .row .numbers) (heads e); clearance = refl; rest = tails e }
 rivers-alike {ls = ls} {ms} (is-scoured {s} k i) (is-crossed {s = t} {c} n j o p) l m e =
-    let z = one-role (head-loads c ms l (rest-same e)) o in
-    absurd (omega arith)
-rivers-alike {ls = ls} (is-crossed {s} {c} k i n j) is-dry l m e = let z = one-role (head-loads s (c ∷ ls) m (sym e)) k in absurd (omega arith)
+    let z = head-loads c ms l (tails e) in
+    impossible cc
+rivers-alike {ls = ls} (is-crossed {s} {c} k i n j) is-dry l m e = let z = head-loads s (c ∷ ls) m (sym e) in impossible cc
 rivers-alike {ls = ls} {ms} (is-crossed {s} {c} k i n j) (is-scoured {s = t} o p) l m e =
-    let z = one-role (head-loads c ls m (sym (rest-same e))) n in
-    absurd (omega arith)
+    let z = head-loads c ls m (sym (tails e)) in
+    impossible cc
 rivers-alike {ls = ls} {ms} (is-crossed {s} {c} k i n j) (is-crossed {s = t} {c = d} o p q u) l m e =
-    let behind = rest-same e in
-    record { stage = refl; scour = ap (λ (x : Keyed). x .row .numbers) (first-same e); clearance = ap (λ (x : Keyed). x .row .numbers) (first-same behind); rest = rest-same behind }
+    let behind = tails e in
+    record { stage = refl; scour = ap (λ (x : Keyed). x .row .numbers) (heads e); clearance = ap (λ (x : Keyed). x .row .numbers) (heads behind); rest = tails behind }
 
-pub same-value : {a b : Written} → GoodJob a → GoodJob b → SameJob a b → value a ≡ value b
+pub same-value : {a b : WrittenJob} → GoodJob a → GoodJob b → SameJob a b → job-value a ≡ job-value b
 same-value (good {b} {v} {ls} p q r s) (good {b = c} {v = w} {ls = ms} t u x y) e =
-    let h : b .keyed ≡ c .keyed = first-same e in
-    let k = rivers-alike q u r x (rest-same e) in
+    let h : b .keyed ≡ c .keyed = heads e in
+    let k = rivers-alike q u r x (tails e) in
     let g = loads-same ls ms (k .rest) in
     λ i. record {
       stage = k .stage i;

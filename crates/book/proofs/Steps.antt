@@ -4,11 +4,12 @@ use native.Mathlib.Omega.{arith}
 use mathlib.Core.Path.{_≡_, refl, sym, ap, subst, _∙_}
 use mathlib.Core.List.{List, [], _∷_, _++_, append-assoc}
 use lib.ListN.{length, length-append}
+use Rattle.arithmetic.proofs.Cases.{impossible}
 use Rattle.rows.specs.Form.{BookRow}
 use Rattle.kinds.specs.declared.Role.the-variants.{Base, Scour, Clearance, Load}
-use Rattle.book.specs.JobBook.{IsA, SameKey, River, dry, scoured, crossed, job, river-rows, Loads, no-load, load, is-dry, is-scoured, is-crossed, good, Jobs, none, _and_, count, rows-of, Loaded, Shaped, one-more, Different, new-key, Placed}
-use Rattle.book.proofs.Roles.{one-role}
-use Rattle.book.proofs.Ends.{Ended, empty, ended, ends, not-empty, ends-same}
+use Rattle.book.specs.JobBook.{IsA, SameKey, River, dry, scoured, crossed, job, river-rows, LoadRows, no-load, load, is-dry, is-scoured, is-crossed, good, Jobs, none, _and_, count, rows-of, Loaded, Shaped, one-more, Different, new-key, Placed}
+use Rattle.csv.proofs.Lists.{not-empty, lasts}
+use Rattle.book.proofs.Ends.{Ended, empty, ended, ends}
 
 -- the jobs grow by a row
 pub data Step : Jobs → BookRow → Jobs → Type 0 where
@@ -17,11 +18,11 @@ pub data Step : Jobs → BookRow → Jobs → Type 0 where
   crosses : {js : Jobs} {b s r : BookRow} → IsA Clearance r → SameKey b r → Step (js and job b (scoured s) []) r (js and job b (crossed s r) [])
   bears : {js : Jobs} {b r : BookRow} {v : River} {ls : List BookRow} → IsA Load r → SameKey b r → length ls < 16 → Step (js and job b v ls) r (js and job b v (ls ++ r ∷ []))
 
-loads-more : {b r : BookRow} {ls : List BookRow} → Loads b ls → IsA Load r → SameKey b r → Loads b (ls ++ r ∷ [])
+loads-more : {b r : BookRow} {ls : List BookRow} → LoadRows b ls → IsA Load r → SameKey b r → LoadRows b (ls ++ r ∷ [])
 loads-more no-load k e = load k e no-load
 loads-more (load h i ls) k e = load h i (loads-more ls k e)
 
-loads-front : {b r : BookRow} (ls : List BookRow) → Loads b (ls ++ r ∷ []) → Loads b ls × IsA Load r × SameKey b r
+loads-front : {b r : BookRow} (ls : List BookRow) → LoadRows b (ls ++ r ∷ []) → LoadRows b ls × IsA Load r × SameKey b r
 loads-front [] (load h i ls) = (no-load, h, i)
 loads-front (x ∷ xs) (load h i ls) =
     let w = loads-front xs ls in
@@ -58,7 +59,7 @@ pub record Back (ts : List BookRow) (r : BookRow) (ks : Jobs) : Type 0 where
 -- where the rows of jobs end with x, what is before it is ts
 back-to : {ts : List BookRow} {r x : BookRow} {ks : Jobs} (js : Jobs) → ts ++ r ∷ [] ≡ rows-of js ++ x ∷ [] → Shaped js → Step js x ks → Back ts r ks
 back-to {ts} {r} {x} {ks} js e s p =
-    let w = ends-same ts (rows-of js) r x e in
+    let w = lasts ts (rows-of js) r x e in
     record { jobs = js; placed = record { are = w .0; shaped = s }; step = subst (λ (y : BookRow). Step js y ks) (sym (w .1)) p }
 
 pub retract : {ts : List BookRow} {r : BookRow} (ks : Jobs) → Placed (ts ++ r ∷ []) ks → Back ts r ks
@@ -86,18 +87,18 @@ retract {ts} {r} (js and job b v ls) p = by-loads (ends ls) (p .are) (p .shaped)
 
 pub step-one : {js ks ls : Jobs} {r : BookRow} → Step js r ks → Step js r ls → ks ≡ ls
 step-one (starts l k) (starts m h) = refl
-step-one (starts l k) (scours h e) = let z = one-role k h in absurd (omega arith)
-step-one (starts l k) (crosses h e) = let z = one-role k h in absurd (omega arith)
-step-one (starts l k) (bears h e n) = let z = one-role k h in absurd (omega arith)
-step-one (scours k e) (starts l h) = let z = one-role k h in absurd (omega arith)
+step-one (starts l k) (scours h e) = impossible cc
+step-one (starts l k) (crosses h e) = impossible cc
+step-one (starts l k) (bears h e n) = impossible cc
+step-one (scours k e) (starts l h) = impossible cc
 step-one (scours k e) (scours h f) = refl
-step-one (scours k e) (bears h f n) = let z = one-role k h in absurd (omega arith)
-step-one (crosses k e) (starts l h) = let z = one-role k h in absurd (omega arith)
+step-one (scours k e) (bears h f n) = impossible cc
+step-one (crosses k e) (starts l h) = impossible cc
 step-one (crosses k e) (crosses h f) = refl
-step-one (crosses k e) (bears h f n) = let z = one-role k h in absurd (omega arith)
-step-one (bears k e n) (starts l h) = let z = one-role k h in absurd (omega arith)
-step-one (bears k e n) (scours h f) = let z = one-role k h in absurd (omega arith)
-step-one (bears k e n) (crosses h f) = let z = one-role k h in absurd (omega arith)
+step-one (crosses k e) (bears h f n) = impossible cc
+step-one (bears k e n) (starts l h) = impossible cc
+step-one (bears k e n) (scours h f) = impossible cc
+step-one (bears k e n) (crosses h f) = impossible cc
 step-one (bears k e n) (bears h f m) = refl
 
 -- no rows, no jobs

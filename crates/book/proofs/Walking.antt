@@ -6,30 +6,33 @@ use mathlib.Core.Bool.{Bool, true, false}
 use mathlib.Core.List.{List, [], _∷_, _++_}
 use lib.ListN.{length, take, set}
 use lib.Seq.{take-at}
-use Rattle.rfc4180.specs.Rfc4180.{Cell, Readable}
-use Rattle.notes.proofs.Reached.{Reached, reached-start, reached-more, reached-last, reached-many}
+use Rattle.arithmetic.proofs.Cases.{impossible}
+use Rattle.csv.specs.rfc4180.Rfc4180.{Cell, Readable}
+use Rattle.csv.proofs.notes.Reached.{Reached, reached-start, reached-more, reached-last, reached-many}
 use Rattle.rows.specs.Form.{BookRow, raw, Form}
-use Rattle.rows.specs.Answer.{formed, RowSeen, SeenAt}
-use Rattle.keys.specs.declared.Key.{Key}
+use Rattle.rows.specs.Answer.{RowGiven, RowSeen, SeenAt}
+use Rattle.rows.specs.declared.keys.Key.{Key}
 use Rattle.rows.specs.declared.RowRead.{RowRead}
 use Rattle.jobs.specs.Place.{InPlace, grown}
 use Rattle.jobs.specs.Taking as taking
 use Rattle.jobs.specs.declared.Job.{Job}
 use Rattle.book.specs.JobBook.{Jobs, none, _and_, job, dry, count, Loaded, no-job, Forms, no-form, form, Begins, JobBook, Different, no-key, new-key, Used}
-use Rattle.keys.specs.Among.{Among}
-use Rattle.keys.specs.Begins as beginning
-use Rattle.keys.specs.declared.Beginning.{Beginning}
-use Rattle.keys.specs.declared.Beginning.the-variants.{Free, Barred}
-use Rattle.counted.specs.Places.{places}
-use Rattle.book.specs.Values.{values, held}
-use Rattle.book.specs.Says.{refused, Fault, formless, misplaced, surplus, reused, number, Bad, Says, bad-row, unfinished, book, told, jobs-told, BookIs, EndedIs, missing, whole}
-use Rattle.refusals.specs.Numbers.{refusal-number}
-use Rattle.refusals.specs.declared.Refusal.{Refusal}
-use Rattle.refusals.specs.declared.Refusal.the-variants.{TooLong, NotCsv, NoForm, NoPlace, TooMany, UsedKey}
-use Rattle.steps.specs.Step.{Refuses}
-use Rattle.counted.specs.declared.Count.{Count}
-use Rattle.counted.specs.declared.Count.the-variants.{Given, Refused}
-use Rattle.counted.specs.declared.Book.{Book}
+use Rattle.rows.specs.keys.Among.{Among}
+use Rattle.rows.specs.keys.Beginning as beginning
+use Rattle.rows.specs.declared.keys.Beginning.{Beginning}
+use Rattle.rows.specs.declared.keys.Beginning.the-variants.{Free, Barred}
+use Rattle.book.specs.counted.Places.{places}
+use Rattle.book.specs.Values.{values}
+use Rattle.book.specs.walk.Kept.{last-value}
+use Rattle.book.specs.Says.{refused, Fault, formless, misplaced, surplus, reused, number, Bad, BookSays, bad-row, unfinished, book, book-told, jobs-told, BookIs}
+use Rattle.book.specs.walk.Ended.{EndedIs, missing, whole}
+use Rattle.rows.specs.refusals.Numbers.{refusal-number}
+use Rattle.rows.specs.declared.refusals.Refusal.{Refusal}
+use Rattle.rows.specs.declared.refusals.Refusal.the-variants.{TooLong, NotCsv, NoForm, NoPlace, TooMany, UsedKey}
+use Rattle.book.specs.step.Step.{RefusesRow}
+use Rattle.book.specs.declared.counted.Count.{Count}
+use Rattle.book.specs.declared.counted.Count.the-variants.{Given, Refused}
+use Rattle.book.specs.declared.counted.Book.{Book}
 use Rattle.book.proofs.Steps.{Step, starts, scours, crosses, bears, extend, grows}
 use Rattle.book.proofs.Answers.{begins-book}
 use Rattle.book.proofs.Growing.{Grown, place-grows, step-place}
@@ -40,13 +43,13 @@ forms-more no-form g = form g no-form
 forms-more (form f fs) g = form f (forms-more fs g)
 
 -- behind a row the last job's value says whether a load row is missing
-lacks : {js ks : Jobs} {r : BookRow} → Step js r ks → held ks .count ≡ 0 → Loaded ks → ⊥
+lacks : {js ks : Jobs} {r : BookRow} → Step js r ks → last-value ks .count ≡ 0 → Loaded ks → ⊥
 lacks (starts l h) e k = omega arith
 lacks (scours h f) e k = omega arith
 lacks (crosses h f) e k = omega arith
 lacks (bears h f n) e k = omega arith
 
-has-load : {js ks : Jobs} {r : BookRow} → Step js r ks → (held ks .count ≡ 0 → ⊥) → Loaded ks
+has-load : {js ks : Jobs} {r : BookRow} → Step js r ks → (last-value ks .count ≡ 0 → ⊥) → Loaded ks
 has-load (starts l h) n = absurd (n refl)
 has-load (scours h f) n = absurd (n refl)
 has-load (crosses h f) n = absurd (n refl)
@@ -56,24 +59,24 @@ used-twice : {js : Jobs} {r : BookRow} → Used r js → Different (js and job r
 used-twice u (new-key d n) = n u
 
 -- where a job begins, it is one of 64, and its key is new
-pub begun-new : {ks : List Key} {n : ℕ} {k : Key} {b : Beginning} → beginning.BeginsIs ks n k b → b ≡ Free → (n < 64) × (Among ks n k → ⊥)
-begun-new (beginning.surplus m e) f = let z : _≡_ {A = ℕ} 0 1 = cc in absurd (omega arith)
-begun-new (beginning.reused m a e) f = let z : _≡_ {A = ℕ} 0 1 = cc in absurd (omega arith)
+pub begun-new : {ks : List Key} {n : ℕ} {k : Key} {b : Beginning} → beginning.BeginningIs ks n k b → b ≡ Free → (n < 64) × (Among ks n k → ⊥)
+begun-new (beginning.surplus m e) f = impossible cc
+begun-new (beginning.reused m a e) f = impossible cc
 begun-new (beginning.free m a e) f = (m, a)
 
 -- an answer, from what it is told
-pub refused-is : {s : List ℕ} (b : Book) (why : Refusal) (row : ℕ) → (b .count ≡ Refused why row) × (b .jobs ≡ places []) → Says s (refused (refusal-number why) row) → BookIs s b
+pub refused-is : {s : List ℕ} (b : Book) (why : Refusal) (row : ℕ) → (b .count ≡ Refused why row) × (b .jobs ≡ places []) → BookSays s (refused (refusal-number why) row) → BookIs s b
 refused-is {s} b why row e p = record {
-  says = subst (λ (c : Count). Says s (told c (b .jobs))) (sym (e .0)) p;
-  held = subst (λ (c : Count). b .jobs ≡ places (jobs-told (told c (b .jobs)))) (sym (e .0)) (e .1);
+  says = subst (λ (c : Count). BookSays s (book-told c (b .jobs))) (sym (e .0)) p;
+  held = subst (λ (c : Count). b .jobs ≡ places (jobs-told (book-told c (b .jobs)))) (sym (e .0)) (e .1);
 }
 
 given-is : {s : List ℕ} {js : Jobs} (b : Book) (n : ℕ) → b .count ≡ Given n → n ≡ count js → b .jobs ≡ places (values js) → JobBook s js → BookIs s b
 given-is {s} {js} b n c m e k =
     let t : take n (b .jobs) ≡ values js = ap (take n) e ∙ take-at (values js) _ n (values-many js ∙ sym m) in
     record {
-      says = subst (λ (x : Count). Says s (told x (b .jobs))) (sym c) (book k (cc));
-      held = subst (λ (x : Count). b .jobs ≡ places (jobs-told (told x (b .jobs)))) (sym c) (e ∙ ap places (sym t));
+      says = subst (λ (x : Count). BookSays s (book-told x (b .jobs))) (sym c) (book k (cc));
+      held = subst (λ (x : Count). b .jobs ≡ places (jobs-told (book-told x (b .jobs)))) (sym c) (e ∙ ap places (sym t));
     }
 
 pub record Walk (s : List ℕ) (last : Job) (jobs : List Job) (keys : List Key) (n row at : ℕ) : Type 0 where
@@ -106,14 +109,14 @@ module _ {s : List ℕ} {last : Job} {jobs : List Job} {keys : List Key} {n row 
   pub walk-on : r .next < length s → at < r .next
   walk-on k = seen .on k
 
-  first-bad : (why : Fault) → Bad why (i .typed) cs → Says s (refused (number why) row)
+  first-bad : (why : Fault) → Bad why (i .typed) cs → BookSays s (refused (number why) row)
   first-bad why x =
       let w = i .reached in
       bad-row {why = why} (i .size) (w .reading)
       (record { before = i .passed; row = cs; behind = w .behind; split = w .are; number = w .number; typed = i .typed; jobs = i .written; begins = i .begins; bad = x }) refl
 
-  walk-formless : r .good ≡ false → Says s (refused 3 row)
-  walk-formless g = first-bad formless (subst (λ (x : Bool). formed x cs (r .row)) g (seen .means) .0)
+  walk-formless : r .good ≡ false → BookSays s (refused 3 row)
+  walk-formless g = first-bad formless (subst (λ (x : Bool). RowGiven x cs (r .row)) g (seen .means) .0)
 
   -- the row has a form
   module _ (g : r .good ≡ true) where
@@ -121,12 +124,12 @@ module _ {s : List ℕ} {last : Job} {jobs : List Job} {keys : List Key} {n row 
     this = record { keyed = r .row; note = raw cs 9 }
 
     means : Form cs this
-    means = subst (λ (x : Bool). formed x cs (r .row)) g (seen .means)
+    means = subst (λ (x : Bool). RowGiven x cs (r .row)) g (seen .means)
 
-    placing : InPlace last (r .row) → InPlace (held (i .written)) (r .row)
+    placing : InPlace last (r .row) → InPlace (last-value (i .written)) (r .row)
     placing w = subst (λ (j : Job). InPlace j (r .row)) (i .stands .job) w
 
-    walk-misplaced : (InPlace last (r .row) → ⊥) → Says s (refused 4 row)
+    walk-misplaced : (InPlace last (r .row) → ⊥) → BookSays s (refused 4 row)
     walk-misplaced w =
         first-bad misplaced
         (record {
@@ -151,7 +154,7 @@ module _ {s : List ℕ} {last : Job} {jobs : List Job} {keys : List Key} {n row 
     begins-more : {js : Jobs} → Step (i .written) this js → count js ≤ 64 → (Different (i .written) → Different js) → Begins (i .passed ++ cs ∷ []) (i .typed ++ this ∷ []) js
     begins-more p few d = record { forms = forms-more (i .begins .forms) means; placed = extend (i .begins .placed) p; few = few; different = d (i .begins .different) }
 
-    pub walk-joined : (next : Job) → taking.Says last (r .row) taking.joins next → After next (set jobs (n - 1) next) keys n
+    pub walk-joined : (next : Job) → taking.TakeSays last (r .row) taking.joins next → After next (set jobs (n - 1) next) keys n
     walk-joined next t =
         let k = grows-by (t .1) (t .2) in
         let j = joins (t .0) (k .step) in
@@ -166,7 +169,7 @@ module _ {s : List ℕ} {last : Job} {jobs : List Job} {keys : List Key} {n row 
         }
 
     -- a row that joins the last job finds one
-    pub walk-some : (next : Job) → taking.Says last (r .row) taking.joins next → (1 ≤ n) × (n ≤ 64)
+    pub walk-some : (next : Job) → taking.TakeSays last (r .row) taking.joins next → (1 ≤ n) × (n ≤ 64)
     walk-some next t =
         let j = joins (t .0) (grows-by (t .1) (t .2) .step) in
         let m = j .some in
@@ -174,39 +177,39 @@ module _ {s : List ℕ} {last : Job} {jobs : List Job} {keys : List Key} {n row 
         let o = i .stands .many in
         (omega arith, omega arith)
 
-    module _ (next : Job) (t : taking.Says last (r .row) taking.starts next) where
+    module _ (next : Job) (t : taking.TakeSays last (r .row) taking.starts next) where
       abbrev started : Jobs
       started = i .written and job this dry []
 
       start : Step (i .written) this started
       start = let k = grows-by (t .1) (t .2) in subst (Step (i .written) this) (base-jobs (t .0) (k .step)) (k .step)
 
-      holds : held started ≡ next
-      holds = let k = grows-by (t .1) (t .2) in ap held (sym (base-jobs (t .0) (k .step))) ∙ k .is
+      holds : last-value started ≡ next
+      holds = let k = grows-by (t .1) (t .2) in ap last-value (sym (base-jobs (t .0) (k .step))) ∙ k .is
 
       key-is : next .key ≡ r .row .key
       key-is = ap (λ (j : Job). j .key) (sym holds)
 
-      walk-surplus : 64 ≤ n → Says s (refused 5 row)
+      walk-surplus : 64 ≤ n → BookSays s (refused 5 row)
       walk-surplus m =
           let o = i .stands .many in
           first-bad surplus (record { row = this; form = means; jobs = started; placed = extend (i .begins .placed) start; many = omega arith })
 
-      walk-reused : n < 64 → Among keys n (next .key) → Says s (refused 6 row)
+      walk-reused : n < 64 → Among keys n (next .key) → BookSays s (refused 6 row)
       walk-reused m a =
           let o = i .stands .many in
           let u = among-used (i .written) n keys o (i .stands .keys) this (subst (Among keys n) key-is a) in
           first-bad reused (record { row = this; form = means; jobs = started; placed = extend (i .begins .placed) start; few = omega arith; same = λ d. used-twice u d })
 
       -- a job that may not begin
-      pub walk-barred : {b : Beginning} (why : Refusal) → beginning.BeginsIs keys n (next .key) b → b ≡ Barred why → Says s (refused (refusal-number why) row)
+      pub walk-barred : {b : Beginning} (why : Refusal) → beginning.BeginningIs keys n (next .key) b → b ≡ Barred why → BookSays s (refused (refusal-number why) row)
       walk-barred why (beginning.surplus m e) f =
           let q : TooMany ≡ why = cc in
-          subst (λ (x : Refusal). Says s (refused (refusal-number x) row)) q (walk-surplus m)
+          subst (λ (x : Refusal). BookSays s (refused (refusal-number x) row)) q (walk-surplus m)
       walk-barred why (beginning.reused m a e) f =
           let q : UsedKey ≡ why = cc in
-          subst (λ (x : Refusal). Says s (refused (refusal-number x) row)) q (walk-reused m a)
-      walk-barred why (beginning.free m a e) f = let z : _≡_ {A = ℕ} 0 1 = cc in absurd (omega arith)
+          subst (λ (x : Refusal). BookSays s (refused (refusal-number x) row)) q (walk-reused m a)
+      walk-barred why (beginning.free m a e) f = impossible cc
 
       pub walk-started : n < 64 → (Among keys n (next .key) → ⊥) → After next (set jobs (n + 1 - 1) next) (set keys n (next .key)) (n + 1)
       walk-started m a =
@@ -248,7 +251,7 @@ module _ {s : List ℕ} {last : Job} {jobs : List Job} {keys : List Key} {n row 
 
 -- a row that is refused where it stands is the first bad one
 module _ {s : List ℕ} {last : Job} {jobs : List Job} {keys : List Key} {n row at : ℕ} (i : Walk s last jobs keys n row at) {r : RowRead} (h : SeenAt s at r) where
-  pub walk-refused : (why : Refusal) → Refuses last (r .good) (r .row) why → Says s (refused (refusal-number why) row)
+  pub walk-refused : (why : Refusal) → RefusesRow last (r .good) (r .row) why → BookSays s (refused (refusal-number why) row)
   walk-refused TooLong w = absurd w
   walk-refused NotCsv w = absurd w
   walk-refused NoForm w = walk-formless i h w

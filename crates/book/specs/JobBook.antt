@@ -3,7 +3,7 @@ use Prim.Native.Nat.{ℕ, suc, _+_, _≤_}
 use mathlib.Core.Path.{_≡_}
 use mathlib.Core.List.{List, [], _∷_, _++_}
 use lib.ListN.{length}
-use Rattle.rfc4180.specs.Rfc4180.{Cell, File}
+use Rattle.csv.specs.rfc4180.Rfc4180.{Cell, File}
 use Rattle.kinds.specs.Table.{role}
 use Rattle.kinds.specs.declared.Role.{Role}
 use Rattle.kinds.specs.declared.Role.the-variants.{Base, Scour, Clearance, Load}
@@ -23,13 +23,13 @@ pub data River : Type 0 where
   crossed : BookRow → BookRow → River
 
 -- a job as the book writes it: a B row, at most one S, at most one C, then load rows
-pub data Written : Type 0 where
-  job : BookRow → River → List BookRow → Written
+pub data WrittenJob : Type 0 where
+  job : BookRow → River → List BookRow → WrittenJob
 
-abbrev pub base : Written → BookRow
+abbrev pub base : WrittenJob → BookRow
 base (job b v ls) = b
 
-abbrev pub loads : Written → List BookRow
+abbrev pub loads : WrittenJob → List BookRow
 loads (job b v ls) = ls
 
 abbrev pub river-rows : River → List BookRow
@@ -37,13 +37,13 @@ river-rows dry = []
 river-rows (scoured s) = s ∷ []
 river-rows (crossed s c) = s ∷ c ∷ []
 
-abbrev pub job-rows : Written → List BookRow
+abbrev pub job-rows : WrittenJob → List BookRow
 job-rows (job b v ls) = b ∷ (river-rows v ++ ls)
 
 -- load rows, all with the key of the B row
-pub data Loads (b : BookRow) : List BookRow → Type 0 where
-  no-load : Loads b []
-  load : {r : BookRow} {rs : List BookRow} → IsA Load r → SameKey b r → Loads b rs → Loads b (r ∷ rs)
+pub data LoadRows (b : BookRow) : List BookRow → Type 0 where
+  no-load : LoadRows b []
+  load : {r : BookRow} {rs : List BookRow} → IsA Load r → SameKey b r → LoadRows b rs → LoadRows b (r ∷ rs)
 
 pub data Rivers (b : BookRow) : River → Type 0 where
   is-dry : Rivers b dry
@@ -51,13 +51,13 @@ pub data Rivers (b : BookRow) : River → Type 0 where
   is-crossed : {s c : BookRow} → IsA Scour s → SameKey b s → IsA Clearance c → SameKey b c → Rivers b (crossed s c)
 
 -- a job that is being taken up: up to 16 load rows, none yet among them
-pub data GoodJob : Written → Type 0 where
-  good : {b : BookRow} {v : River} {ls : List BookRow} → IsA Base b → Rivers b v → Loads b ls → length ls ≤ 16 → GoodJob (job b v ls)
+pub data GoodJob : WrittenJob → Type 0 where
+  good : {b : BookRow} {v : River} {ls : List BookRow} → IsA Base b → Rivers b v → LoadRows b ls → length ls ≤ 16 → GoodJob (job b v ls)
 
 -- jobs in the order of the book: none, or jobs and one job more
 pub data Jobs : Type 0 where
   none : Jobs
-  _and_ : Jobs → Written → Jobs
+  _and_ : Jobs → WrittenJob → Jobs
 
 infixl 20 _and_
 abbrev pub count : Jobs → ℕ
@@ -77,17 +77,17 @@ Loaded (js and j) = 1 ≤ length (loads j)
 -- each a good job; a next one only where the one before has a load row
 pub data Shaped : Jobs → Type 0 where
   no-job : Shaped none
-  one-more : {js : Jobs} {j : Written} → Shaped js → Loaded js → GoodJob j → Shaped (js and j)
+  one-more : {js : Jobs} {j : WrittenJob} → Shaped js → Loaded js → GoodJob j → Shaped (js and j)
 
 -- a job among them has the row's key
 pub data Used (r : BookRow) : Jobs → Type 0 where
-  last : {js : Jobs} {j : Written} → SameKey (base j) r → Used r (js and j)
-  before : {js : Jobs} {j : Written} → Used r js → Used r (js and j)
+  last : {js : Jobs} {j : WrittenJob} → SameKey (base j) r → Used r (js and j)
+  before : {js : Jobs} {j : WrittenJob} → Used r js → Used r (js and j)
 
 -- all keys different
 pub data Different : Jobs → Type 0 where
   no-key : Different none
-  new-key : {js : Jobs} {j : Written} → Different js → (Used (base j) js → ⊥) → Different (js and j)
+  new-key : {js : Jobs} {j : WrittenJob} → Different js → (Used (base j) js → ⊥) → Different (js and j)
 
 -- each row in its place: these rows are those of these jobs, of which the last may lack load rows yet
 pub record Placed (rs : List BookRow) (js : Jobs) : Type 0 where
@@ -109,7 +109,7 @@ pub record Begins (css : List (List Cell)) (rs : List BookRow) (js : Jobs) : Typ
 -- each job has 1 to 16 load rows
 pub data Whole : Jobs → Type 0 where
   no-whole : Whole none
-  one-whole : {js : Jobs} {j : Written} → Whole js → GoodJob j → 1 ≤ length (loads j) → Whole (js and j)
+  one-whole : {js : Jobs} {j : WrittenJob} → Whole js → GoodJob j → 1 ≤ length (loads j) → Whole (js and j)
 
 -- the bytes are a book of these jobs
 pub record JobBook (s : List ℕ) (js : Jobs) : Type 0 where

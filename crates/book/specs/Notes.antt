@@ -3,7 +3,7 @@
 use Prim.Native.Nat.{ℕ}
 use mathlib.Core.Path.{_≡_}
 use mathlib.Core.List.{List, []}
-use Rattle.notes.specs.Notes.{RowIn}
+use Rattle.csv.specs.notes.Notes.{RowIn}
 use Rattle.rows.specs.Form.{BookRow}
 use Rattle.book.specs.JobBook.{Jobs, JobBook}
 

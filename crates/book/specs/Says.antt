@@ -3,22 +3,21 @@ use Prim.Native.Nat.{ℕ, _+_, _≤_, _<_}
 use mathlib.Core.Path.{_≡_}
 use mathlib.Core.List.{List, [], _∷_, _++_}
 use lib.ListN.{length, take}
-use Rattle.rfc4180.specs.Rfc4180.{Cell, File, Readable}
+use Rattle.csv.specs.rfc4180.Rfc4180.{Cell, File, Readable}
 use Rattle.rows.specs.Form.{BookRow, Form}
 use Rattle.jobs.specs.declared.Job.{Job}
-use Rattle.refusals.specs.Numbers.{refusal-number}
-use Rattle.refusals.specs.declared.Refusal.the-variants.{NoPlace}
+use Rattle.rows.specs.refusals.Numbers.{refusal-number}
 use Rattle.book.specs.JobBook.{Jobs, count, Loaded, Different, Placed, Begins, JobBook}
-use Rattle.counted.specs.Places.{places}
+use Rattle.book.specs.counted.Places.{places}
 use Rattle.book.specs.Values.{values}
-use Rattle.counted.specs.declared.Count.{Count}
-use Rattle.counted.specs.declared.Count.the-variants.{Given, Refused}
-use Rattle.counted.specs.declared.Book.{Book}
+use Rattle.book.specs.declared.counted.Count.{Count}
+use Rattle.book.specs.declared.counted.Count.the-variants.{Given, Refused}
+use Rattle.book.specs.declared.counted.Book.{Book}
 
 -- what a book is told: so many jobs, and these; or a refusal's number, and its row
-pub data Told : Type 0 where
-  given : ℕ → List Job → Told
-  refused : ℕ → ℕ → Told
+pub data BookTold : Type 0 where
+  given : ℕ → List Job → BookTold
+  refused : ℕ → ℕ → BookTold
 
 -- how a row can be bad, and the number for it
 pub data Fault : Type 0 where
@@ -83,33 +82,28 @@ pub record Unfinished (rows : List (List Cell)) : Type 0 where
   pub missing : Loaded jobs → ⊥
 
 -- what the bytes say: 1, then 2, then the first bad row, a load row missing at the end counting as one past the last row
-pub data Says (s : List ℕ) (t : Told) : Type 0 where
-  too-long : 65536 < length s → t ≡ refused 1 0 → Says s t
-  not-csv : length s ≤ 65536 → (Readable s → ⊥) → t ≡ refused 2 0 → Says s t
-  bad-row : {rows : List (List Cell)} {why : Fault} {n : ℕ} → length s ≤ 65536 → File s rows → FirstBad why rows n → t ≡ refused (number why) n → Says s t
-  unfinished : {rows : List (List Cell)} → length s ≤ 65536 → File s rows → Unfinished rows → t ≡ refused 4 (length rows + 1) → Says s t
-  book : {js : Jobs} → JobBook s js → t ≡ given (count js) (values js) → Says s t
+pub data BookSays (s : List ℕ) (t : BookTold) : Type 0 where
+  too-long : 65536 < length s → t ≡ refused 1 0 → BookSays s t
+  not-csv : length s ≤ 65536 → (Readable s → ⊥) → t ≡ refused 2 0 → BookSays s t
+  bad-row : {rows : List (List Cell)} {why : Fault} {n : ℕ} → length s ≤ 65536 → File s rows → FirstBad why rows n → t ≡ refused (number why) n → BookSays s t
+  unfinished : {rows : List (List Cell)} → length s ≤ 65536 → File s rows → Unfinished rows → t ≡ refused 4 (length rows + 1) → BookSays s t
+  book : {js : Jobs} → JobBook s js → t ≡ given (count js) (values js) → BookSays s t
 
 -- an answer in the paper's numbers and values
-abbrev pub told : Count → List Job → Told
-told (Given n) js = given n (take n js)
-told (Refused why row) js = refused (refusal-number why) row
+abbrev pub book-told : Count → List Job → BookTold
+book-told (Given n) js = given n (take n js)
+book-told (Refused why row) js = refused (refusal-number why) row
 
-abbrev pub jobs-told : Told → List Job
+abbrev pub jobs-told : BookTold → List Job
 jobs-told (given n js) = js
 jobs-told (refused n row) = []
 
 -- the answer with the jobs by value, in 64 places
 pub record BookIs (s : List ℕ) (b : Book) : Type 0 where
-  pub says : Says s (told (b .count) (b .jobs))
-  pub held : b .jobs ≡ places (jobs-told (told (b .count) (b .jobs)))
+  pub says : BookSays s (book-told (b .count) (b .jobs))
+  pub held : b .jobs ≡ places (jobs-told (book-told (b .count) (b .jobs)))
 
 -- the answer with the number of jobs alone
 pub record CountIs (s : List ℕ) (c : Count) : Type 0 where
   pub jobs : List Job
-  pub says : Says s (told c jobs)
-
--- behind the last row, which is this one: the jobs, or a load row is missing
-pub data EndedIs (jobs : List Job) (n loads row : ℕ) (b : Book) : Type 0 where
-  missing : loads ≡ 0 → b .count ≡ Refused NoPlace (row + 1) → b .jobs ≡ places [] → EndedIs jobs n loads row b
-  whole : (loads ≡ 0 → ⊥) → b .count ≡ Given n → b .jobs ≡ jobs → EndedIs jobs n loads row b
+  pub says : BookSays s (book-told c jobs)

@@ -7,15 +7,12 @@ use Rattle.kinds.specs.Table.{blank-numbers}
 use Rattle.kinds.specs.declared.Numbers.{Numbers}
 use Rattle.kinds.specs.declared.Row.{Row}
 use Rattle.rows.specs.Form.{BookRow}
-use Rattle.keys.specs.Keyed.{no-row}
-use Rattle.keys.specs.declared.Key.{Key}
-use Rattle.keys.specs.declared.Keyed.{Keyed}
-use Rattle.jobs.specs.Place.{no-job}
+use Rattle.rows.specs.keys.Keyed.{no-row}
+use Rattle.rows.specs.declared.keys.Keyed.{Keyed}
 use Rattle.jobs.specs.declared.Job.{Job}
-use Rattle.placing.specs.declared.Stage.{Stage}
-use Rattle.placing.specs.declared.Stage.the-variants.{Dry, Scoured, Crossed}
-use Rattle.counted.specs.Places.{in-places}
-use Rattle.book.specs.JobBook.{River, dry, scoured, crossed, Written, job, base, Jobs, none, _and_, job-rows}
+use Rattle.jobs.specs.declared.stages.Stage.{Stage}
+use Rattle.jobs.specs.declared.stages.Stage.the-variants.{Dry, Scoured, Crossed}
+use Rattle.book.specs.JobBook.{River, dry, scoured, crossed, WrittenJob, job, Jobs, none, _and_, job-rows}
 
 abbrev pub stage-of : River → Stage
 stage-of dry = Dry
@@ -37,8 +34,8 @@ load-rows [] = []
 load-rows (r ∷ rs) = r .keyed .row ∷ load-rows rs
 
 -- a job that the book writes, as a value
-abbrev pub value : Written → Job
-value (job b v ls) = record {
+abbrev pub job-value : WrittenJob → Job
+job-value (job b v ls) = record {
   stage = stage-of v;
   key = b .keyed .key;
   base = b .keyed .row .numbers;
@@ -50,25 +47,12 @@ value (job b v ls) = record {
 
 abbrev pub values : Jobs → List Job
 values none = []
-values (js and j) = values js ++ value j ∷ []
-
--- the last of the jobs, as a value; before the first there is none
-abbrev pub held : Jobs → Job
-held none = no-job
-held (js and j) = value j
+values (js and j) = values js ++ job-value j ∷ []
 
 -- two jobs are the same by key, kinds and numbers, though every note differs
 abbrev pub keyed-rows : List BookRow → List Keyed
 keyed-rows [] = []
 keyed-rows (r ∷ rs) = r .keyed ∷ keyed-rows rs
 
-abbrev pub SameJob : Written → Written → Type 0
+abbrev pub SameJob : WrittenJob → WrittenJob → Type 0
 SameJob a b = keyed-rows (job-rows a) ≡ keyed-rows (job-rows b)
-
--- the keys of the jobs, in 64 places
-abbrev pub keys-of : Jobs → List Key
-keys-of none = []
-keys-of (js and j) = keys-of js ++ base j .keyed .key ∷ []
-
-abbrev pub key-places : List Key → List Key
-key-places ks = in-places (no-row .key) ks

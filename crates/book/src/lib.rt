@@ -1,68 +1,47 @@
-// The rows of a job book (document 01, "The job book" and "Refusals of a book"): the number of its jobs, and the jobs by
-// value; or the first bad row, with its refusal, 3 to 6.
+// The reading of a job book (document 01, "The job book" and "Refusals of a book"): its jobs by value and their number, or
+// the refusal, 1 to 6, with its row; and the note of a row, as the stretch of the lent book that it is.
 //
-// What a job book is stands in `specs/JobBook.antt`, with no reader in it. The loop's invariant is in the same words:
-// the rows passed are rows that a job book may begin with, and the values held are those of their jobs. What is hard
-// is that the first bad row is the first with which no job book begins, wherever one might cut the jobs.
+// A book is refused by its length before its form, and by its form before its rows, which `walk` goes through. What is hard is the note: it
+// is the tenth cell of a row of the text, and the forms of the book's rows say the same of it.
+pub mod counted;
+mod step;
+mod walk;
+
 use counted::Book;
 use counted::Count;
-use jobs::Job;
-use keys::Beginning;
-use refusals::Refusal;
-use steps::Way;
-ghost use Prim.Native.Nat.{_≤_};
-ghost use lib.ListN.{length};
-ghost use Rattle.rfc4180.specs.Rfc4180.{Readable};
-ghost use Rattle.book.specs.Says.{BookIs, EndedIs};
+use rows::refusals::Refusal;
+ghost use Rattle.book.specs.Says.{BookIs, CountIs};
+ghost use Rattle.book.specs.Notes.{NoteIs};
 
-// Behind the last row: the jobs; or a load row is missing, one past the last row.
-fn ended(jobs: [Job; 64], n: usize, loads: usize, row: usize) -> Book
-    requires { ⌜ row ≤ 65537 ⌝ }
-    ensures { λ r. ⌜ EndedIs jobs n loads row r ⌝ }
+// The jobs of a book, by value; or why it is refused.
+pub fn read_book(book: &[u8]) -> Book
+    ensures { λ r. ⌜ BookIs (now (book .entry)) r ⌝ }
 {
-    if loads == 0 {
-        return counted::refused(Refusal::NoPlace, row + 1);
+    if 65536 < book.len() {
+        return counted::refused(Refusal::TooLong, 0);
     }
-    Book {
-        count: Count::Given(n),
-        jobs,
+    if !csv::is_csv(book) {
+        return counted::refused(Refusal::NotCsv, 0);
     }
+    walk::read_rows(book)
 }
 
-// The rows of an RFC 4180 text, one by one, into the jobs that they are.
-pub fn read_rows(s: &[u8]) -> Book
-    requires { ⌜ length (now s) ≤ 65536 ⌝ }
-    requires { ⌜ Readable (now s) ⌝ }
-    ensures { λ r. ⌜ BookIs (now (s .entry)) r ⌝ }
+// The number of jobs of a book; or why it is refused.
+pub fn count_jobs(book: &[u8]) -> Count
+    ensures { λ r. ⌜ CountIs (now (book .entry)) r ⌝ }
 {
-    let mut job = jobs::blank_job();
-    let mut jobs = [job; 64];
-    let none = job.key;
-    let mut keys = [none; 64];
-    let mut n: usize = 0;
-    let mut row: usize = 1;
-    let mut at: usize = 0;
-    loop {
-        let step = steps::step_at(s, at, job);
-        job = step.job;
-        at = step.next;
-        let way = step.way;
-        match way {
-            Way::Refused(why) => return counted::refused(why, row),
-            Way::Joined => {}
-            Way::Started => {
-                let key = job.key;
-                if let Beginning::Barred(why) = keys::begins(keys, n, key) {
-                    return counted::refused(why, row);
-                }
-                keys[n] = key;
-                n += 1;
-            }
-        }
-        jobs[n - 1] = job;
-        if s.len() <= at {
-            return ended(jobs, n, job.count, row);
-        }
-        row += 1;
+    let read = read_book(book);
+    let count = read.count;
+    count
+}
+
+// The note of a row of a book, counted from 1, as the stretch of the lent book that it is; nothing where the book is
+// refused or has no such row.
+pub fn note_of(book: &[u8], row: usize) -> &[u8]
+    ensures { λ r. ⌜ NoteIs (now (book .entry)) row (now r) ⌝ }
+{
+    match count_jobs(book) {
+        Count::Given(_) => csv::notes::note_at(book, row),
+        Count::Refused(_, _) => &book[0..0],
     }
 }

@@ -3,13 +3,14 @@
 // book). Each call shows what was asked, what came, and in brackets the whole buffer after the call, or the note.
 //
 // A buffer is lent full of dots, so that a byte which is written shows, and one which is not.
-use calls::Written;
+use debtarush::Written;
+use libc::STDERR_FILENO;
 use libc::STDOUT_FILENO;
 ghost use Prim.Native.Nat.{_≤_};
 ghost use Rattle.io.specs.Counts.{Counts};
 
 // Words, and the number that they end with.
-fn put_number(words: &[u8], n: usize) {
+fn show_number(words: &[u8], n: usize) {
     io::write_all(STDOUT_FILENO, words);
     io::print_decimal(STDOUT_FILENO, n as u64);
 }
@@ -22,8 +23,8 @@ fn put_bytes(bytes: &[u8]) {
 }
 
 fn put_refusal(number: usize, row: usize) {
-    put_number(b": refused ", number);
-    put_number(b" row ", row);
+    show_number(b": refused ", number);
+    show_number(b" row ", row);
 }
 
 // A call for the lines of the job at a place, with so many dots lent.
@@ -32,12 +33,12 @@ fn call(book: &[u8], place: usize, lent: usize)
 {
     let mut dots = [b'.'; 160];
     let out = &mut dots[0..lent];
-    put_number(b"place ", place);
-    put_number(b" buffer ", lent);
+    show_number(b"place ", place);
+    show_number(b" buffer ", lent);
     let told = debtarush::job_lines(book, place, out);
     match told {
-        Written::Length(n) => put_number(b": written ", n),
-        Written::Book(why, row) => put_refusal(refusals::number_of(why) as usize, row),
+        Written::Length(n) => show_number(b": written ", n),
+        Written::Book(why, row) => put_refusal(rows::refusals::number_of(why) as usize, row),
         Written::NoPlace => put_refusal(10, 0),
         Written::TooShort => put_refusal(7, 0),
     }
@@ -46,8 +47,8 @@ fn call(book: &[u8], place: usize, lent: usize)
 
 // A call for the note of a row.
 fn note(book: &[u8], row: usize) {
-    put_number(b"note of row ", row);
-    put_bytes(reader::note_of(book, row));
+    show_number(b"note of row ", row);
+    put_bytes(book::note_of(book, row));
 }
 
 fn three_jobs(book: &[u8]) {
@@ -97,6 +98,10 @@ fn read(name: &[u8], text: &mut [u8; 4096]) -> usize
 }
 
 fn main() {
+    if os::arg_count() > 1 {
+        io::write_all(STDERR_FILENO, b"calls_run: it takes no argument\n");
+        return;
+    }
     let mut text = io::buffer();
     let len = read(b"three.book", &mut text);
     three_jobs(&text[..len]);

@@ -11,6 +11,13 @@ fn has_ended() -> bool {
 
 // One byte past the limit is enough to refuse a book of any length.
 fn main() {
+    if os::arg_count() > 1 {
+        io::write_all(
+            STDERR_FILENO,
+            b"check_book: it takes no argument, and reads a book from standard input\n",
+        );
+        return;
+    }
     let mut text = [0u8; 65537];
     let len = io::read_full(STDIN_FILENO, &mut text);
     if len < 65537 {
@@ -22,5 +29,5 @@ fn main() {
             return;
         }
     }
-    show::print_book(&text[..len]);
+    show::print_book(b"check_book", &text[..len]);
 }

@@ -5,7 +5,8 @@ use native.Mathlib.Omega.{arith}
 use lib.Dec.{lit<}
 use Rattle.checks.specs.declared.Figure.{Figure}
 use Rattle.checks.specs.declared.Figure.the-variants.{Nothing, Number, Off}
-use Rattle.checks.specs.Order.{Side, lowest, highest, WorseNumber, Worse, Sound, rank, Ranks}
+use Rattle.checks.specs.Order.{Side, lowest, highest, WorseNumber, Worse}
+use Rattle.checks.specs.steps.Ranks.{HasRank, rank, Ranks}
 
 -- ---- of two figures that differ, one is the worse
 number-connex : (s : Side) (a b : ℕ) → (WorseNumber s a b → ⊥) → (WorseNumber s b a → ⊥) → a ≡ b
@@ -26,8 +27,8 @@ connex s Nothing (Number b) p q = absurd (q tt)
 connex s Nothing Nothing p q = refl
 
 -- ---- the worse figure has the lower rank, and two figures of one rank are one
-pub rank-worse : (s : Side) (v w : Figure) → Sound s v → Sound s w → Worse s v w → rank s v < rank s w
-unfolding Worse WorseNumber Sound rank
+pub rank-worse : (s : Side) (v w : Figure) → HasRank s v → HasRank s w → Worse s v w → rank s v < rank s w
+unfolding Worse WorseNumber HasRank rank
 rank-worse lowest Off w p q h = absurd p
 rank-worse lowest (Number a) Off p q h = absurd h
 rank-worse lowest (Number a) (Number b) p q h = h
@@ -43,8 +44,8 @@ rank-worse highest (Number a) (Number b) p q h = omega arith
 rank-worse highest (Number a) Nothing p q h = absurd q
 rank-worse highest Nothing w p q h = absurd p
 
-pub rank-low : (s : Side) (v : Figure) → Sound s v → rank s v < 2 ^ 64
-unfolding Sound rank
+pub rank-low : (s : Side) (v : Figure) → HasRank s v → rank s v < 2 ^ 64
+unfolding HasRank rank
 rank-low lowest Off p = absurd p
 rank-low lowest (Number a) p = omega arith
 rank-low lowest Nothing p = lit< tt
@@ -52,7 +53,7 @@ rank-low highest Off p = lit< tt
 rank-low highest (Number a) p = omega arith
 rank-low highest Nothing p = absurd p
 
-pub rank-one : (s : Side) (v w : Figure) → Sound s v → Sound s w → rank s v ≡ rank s w → v ≡ w
+pub rank-one : (s : Side) (v w : Figure) → HasRank s v → HasRank s w → rank s v ≡ rank s w → v ≡ w
 rank-one s v w p q e =
     connex s v w (λ h. absurd (omega (arith, rank-worse s v w p q h))) (λ h. absurd (omega (arith, rank-worse s w v q p h)))
 

@@ -2,8 +2,15 @@
 //
 // What is hard is that the search compares figures as numbers: a figure's rank is one number of 64 bits whose order is that of the
 // figures, the worst first, with "none" at one end and "off" at the other, and the figure is read back from it.
+pub mod limits;
+pub mod passing;
+pub mod ranks;
+pub mod service;
+pub mod set_figures;
+
 ghost use mathlib.Core.Path.{_≡_};
-ghost use Rattle.checks.specs.Order.{side, Sound, rank};
+ghost use Rattle.checks.specs.Order.{side};
+ghost use Rattle.checks.specs.steps.Ranks.{HasRank, rank};
 
 // The base: its width along the axis and its length in mm, the allowable pressure in kN/m², the friction in thousandths.
 pub struct Base {
@@ -34,7 +41,7 @@ pub const TOP: u64 = 18446744073709551615;
 
 // The figure of a rank: for OP, OM and SL a number is its own rank; for PR and RK the rank falls as the number grows, down to "off".
 pub fn figure_at(check: Check, r: u64) -> Figure
-    ensures { λ v. ⌜ Sound (side check) v × (rank (side check) v ≡ r) ⌝ }
+    ensures { λ v. ⌜ HasRank (side check) v × (rank (side check) v ≡ r) ⌝ }
 {
     match check {
         Check::OP | Check::OM | Check::SL => if r == TOP {

@@ -3,17 +3,19 @@ use mathlib.Core.Path.{_≡_, refl, sym, ap, _∙_}
 use Prim.Native.Nat.{ℕ}
 use native.Mathlib.Omega.{arith}
 use lib.IntN.{ℤ, pos, _-ℤ_}
-use Rattle.rounding.proofs.Laws.{least-one}
-use Rattle.fields.specs.declared.Entry.{Entry}
+use mathlib.Core.Bool.{Bool, true, false, not, _&&_}
+use lib.Dec.{leb}
+use Rattle.arithmetic.specs.decides.Decides.{Decides, decides-at-most}
+use Rattle.arithmetic.proofs.rounding.Laws.{least-one}
 use Rattle.kinds.specs.declared.Numbers.{Numbers}
-use Rattle.afflux.proofs.Rules.{clearance-needed-one}
-use Rattle.levels.specs.Told.{Told, Answers}
-use Rattle.levels.specs.declared.ClearanceAnswer.{ClearanceAnswer}
-use Rattle.levels.proofs.Told.{told-one}
-use Rattle.clearance.specs.Clear.{Cleared, over-obstructed, clear, Says, out-of-range, in-range}
+use Rattle.clearance.proofs.afflux.Rules.{clearance-needed-one}
+use Rattle.clearance.specs.Told.{ClearanceTold, ClearanceAnswered}
+use Rattle.clearance.specs.declared.ClearanceAnswer.{ClearanceAnswer}
+use Rattle.clearance.proofs.Told.{clearance-told-one}
+use Rattle.clearance.specs.Clear.{Cleared, over-obstructed, clear, ClearanceSays, out-of-range, in-range, AtLeast}
 
 module _ {v A a : ℕ} {underside flood : ℤ} {Q : ℕ} where
-  pub cleared-one : {t u : Told} → Cleared v A a underside flood Q t → Cleared v A a underside flood Q u → t ≡ u
+  pub cleared-one : {t u : ClearanceTold} → Cleared v A a underside flood Q t → Cleared v A a underside flood Q u → t ≡ u
   cleared-one (over-obstructed h) (over-obstructed k) = refl
   cleared-one (over-obstructed h) (clear k l e n) = absurd (omega arith)
   cleared-one (clear h l d m) (over-obstructed k) = absurd (omega arith)
@@ -22,12 +24,17 @@ module _ {v A a : ℕ} {underside flood : ℤ} {Q : ℕ} where
       let needed = clearance-needed-one m n in
       cc
 
-pub says-one : {row : Numbers} {discharge : Entry} {t u : Told} → Says row discharge t → Says row discharge u → t ≡ u
-says-one (out-of-range h) (out-of-range k) = refl
-says-one (out-of-range h) (in-range r s) = absurd (h r)
-says-one (in-range r s) (out-of-range h) = absurd (h r)
-says-one (in-range p s) (in-range q t) = cleared-one s t
+pub clearance-says-one : {row : Numbers} {Q : ℕ} {t u : ClearanceTold} → ClearanceSays row Q t → ClearanceSays row Q u → t ≡ u
+clearance-says-one (out-of-range h) (out-of-range k) = refl
+clearance-says-one (out-of-range h) (in-range r s) = absurd (h r)
+clearance-says-one (in-range r s) (out-of-range h) = absurd (h r)
+clearance-says-one (in-range p s) (in-range q t) = cleared-one s t
 
 -- no second answer meets the promise of `clearance`
-pub clearance-one : (row : Numbers) (discharge : Entry) (r s : ClearanceAnswer) → Answers (Says row discharge) r → Answers (Says row discharge) s → r ≡ s
-clearance-one row discharge r s u v = told-one r s (u .plain) (v .plain) (says-one (u .says) (v .says))
+pub clearance-one : (row : Numbers) (Q : ℕ) (r s : ClearanceAnswer) → ClearanceAnswered (ClearanceSays row Q) r → ClearanceAnswered (ClearanceSays row Q) s → r ≡ s
+clearance-one row Q r s u v = clearance-told-one r s (u .plain) (v .plain) (clearance-says-one (u .says) (v .says))
+
+-- a clearance below zero is never enough, whatever its size; of any other the sizes decide
+pub at-least-decides : (minus : Bool) (size needed : ℕ) → Decides (not minus && leb needed size) (AtLeast minus size needed)
+at-least-decides true size needed = λ h. h
+at-least-decides false size needed = decides-at-most needed size

@@ -1,24 +1,49 @@
 // Prints the lines of each stored book that its arguments name, after a line with the book's name (document 01, The printed
 // answer). What it must print is put together from the lines of programs written apart from this one. The books named
 // using-NN are the examples of docs/USING.md; load-sets.book has 01's figures of OP and PR, and cases of the other checks and of the
-// load sets that the old program got wrong or never tried.
+// load sets that the old program got wrong or never tried. A file that cannot be read to its end is told, and has no lines.
+use libc::STDERR_FILENO;
 use libc::STDOUT_FILENO;
+
+// What is wrong with the file so named, by errno.
+fn fail(name: &[u8]) {
+    io::write_all(STDERR_FILENO, b"corpus: ");
+    os::fail(name);
+}
+
+// Whether the file has no more: a failed read says neither that it ended nor what follows.
+fn has_ended(file: i32) -> bool {
+    let mut more = [0u8; 1];
+    libc::read(file, &mut more) == 0
+}
 
 // The book that an argument names.
 fn print_named(i: usize) {
-    let mut name = [0u8; 64];
+    let mut name = io::buffer();
     let mut text = [0u8; 65537];
     let len = os::arg(i, &mut name);
-    let file = os::open_read(&name[..len]);
+    if os::errno() != 0 {
+        fail(&name);
+        return;
+    }
+    let named = &name[..len];
+    let file = os::open_read(named);
     if file < 0 {
-        os::fail(&name[..len]);
+        fail(named);
         return;
     }
     let got = io::read_full(file, &mut text);
+    let whole = (got == 65537) | has_ended(file);
+    if !whole {
+        fail(named);
+    }
     libc::close(file);
-    io::write_all(STDOUT_FILENO, &name[..len]);
+    if !whole {
+        return;
+    }
+    io::write_all(STDOUT_FILENO, named);
     io::write_all(STDOUT_FILENO, b"\r\n");
-    show::print_book(&text[..got]);
+    show::print_book(b"corpus", &text[..got]);
 }
 
 fn main() {

@@ -1,6 +1,8 @@
 // Counts the jobs of each book that its arguments name. One line a book: its name, the number of its jobs and the
-// length of its first note, or the number and the row of its refusal.
-use counted::Count;
+// length of its first note, or the number and the row of its refusal. A file that cannot be read to its end is told, and
+// has no line.
+use book::counted::Count;
+use libc::STDERR_FILENO;
 use libc::STDOUT_FILENO;
 
 // Two figures, each behind its name, and the line's end.
@@ -13,16 +15,16 @@ fn show_figures(first: &[u8], a: u64, second: &[u8], b: u64) {
 }
 
 fn show(text: &[u8]) {
-    let count = reader::count_jobs(text);
+    let count = book::count_jobs(text);
     match count {
         Count::Given(n) => {
-            let note = reader::note_of(text, 1);
+            let note = book::note_of(text, 1);
             show_figures(b" jobs ", n as u64, b" note ", note.len() as u64);
         }
         Count::Refused(why, row) => {
             show_figures(
                 b" refused ",
-                refusals::number_of(why) as u64,
+                rows::refusals::number_of(why) as u64,
                 b" row ",
                 row as u64,
             );
@@ -30,19 +32,42 @@ fn show(text: &[u8]) {
     }
 }
 
+// What is wrong with the file so named, by errno.
+fn fail(name: &[u8]) {
+    io::write_all(STDERR_FILENO, b"count_books: ");
+    os::fail(name);
+}
+
+// Whether the file has no more: a failed read says neither that it ended nor what follows.
+fn has_ended(file: i32) -> bool {
+    let mut more = [0u8; 1];
+    libc::read(file, &mut more) == 0
+}
+
 // The book that an argument names.
 fn show_book(i: usize) {
-    let mut name = [0u8; 64];
+    let mut name = io::buffer();
     let mut text = [0u8; 65537];
     let len = os::arg(i, &mut name);
+    if os::errno() != 0 {
+        fail(&name);
+        return;
+    }
     let named = &name[..len];
     let file = os::open_read(named);
     if file < 0 {
-        os::fail(named);
+        fail(named);
         return;
     }
     let got = io::read_full(file, &mut text);
+    let whole = (got == 65537) | has_ended(file);
+    if !whole {
+        fail(named);
+    }
     libc::close(file);
+    if !whole {
+        return;
+    }
     io::write_all(STDOUT_FILENO, named);
     show(&text[..got]);
 }

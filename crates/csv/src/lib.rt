@@ -1,54 +1,34 @@
-// RFC 4180 text, read from a lent slice (document 01, the job book): where the field at a place ends.
+// RFC 4180 text, read from a lent slice (document 01, the job book): whether a text is one (refusal 2), where the cells of a row stand, and
+// the note of a row.
 //
-// What RFC 4180 is stands in the room `rfc4180`, and where a quoted field closes in `quoted`. What is hard is that its grammar
-// gives a text one reading at most, so that the field at a place, with what may follow it, is one.
-use quoted::Found;
-ghost use Prim.Native.Nat.{_≤_};
-ghost use lib.ListN.{length};
-ghost use Rattle.csv.specs.Answer.{PlainTo, FieldAt};
+// What RFC 4180 is stands in `rfc4180`, as a relation between a text and its rows. What is hard is that one walk from field to field decides
+// whether a text has rows: from the start of a field, the text is readable exactly if it is from the start of the next.
+pub mod cells;
+mod field;
+pub mod notes;
+mod quoted;
+pub mod rfc4180;
 
-// What follows the field at a place: a comma or a row's end, with the index at which the field ends; the text's end, which is
-// that index itself; or Bad, where no field stands there that may be followed so.
-pub enum Ended {
-    Comma(usize),
-    Row(usize),
-    End,
-    Bad,
-}
+use field::Ended;
+ghost use Rattle.csv.specs.rfc4180.Rfc4180.{Readable};
+ghost use Rattle.arithmetic.specs.decides.Decides.{Decides};
 
-// The end of the longest plain stretch that starts at a place.
-fn plain_end(s: &[u8], at: usize) -> usize
-    requires { ⌜ at ≤ length (now s) ⌝ }
-    ensures { λ r. ⌜ PlainTo (now (s .entry)) at r ⌝ }
+// Whether the text is RFC 4180.
+pub fn is_csv(s: &[u8]) -> bool
+    ensures { λ r. ⌜ Decides r (Readable (now (s .entry))) ⌝ }
 {
-    let mut i = at;
-    while i < s.len() && quoted::is_text(s[i]) {
-        i += 1;
-    }
-    i
-}
-
-// The field that starts at a place: where it ends, and what follows it.
-pub fn field_end(s: &[u8], at: usize) -> Ended
-    requires { ⌜ at ≤ length (now s) ⌝ }
-    ensures { λ r. ⌜ FieldAt (now (s .entry)) at r ⌝ }
-{
-    let end = if quoted::byte_is(s, at, 0x22) {
-        match quoted::closing(s, at + 1) {
-            Found::At(i) => i + 1,
-            Found::Nothing => return Ended::Bad,
+    let mut at: usize = 0;
+    loop {
+        let f = field::field_end(s, at);
+        match f {
+            Ended::Comma(e) => {
+                at = e + 1;
+            }
+            Ended::Row(e) => {
+                at = e + 2;
+            }
+            Ended::End => return true,
+            Ended::Bad => return false,
         }
-    } else {
-        plain_end(s, at)
-    };
-    if end == s.len() {
-        return Ended::End;
     }
-    if quoted::byte_is(s, end, 0x2C) {
-        return Ended::Comma(end);
-    }
-    if quoted::byte_is(s, end, 0x0D) & quoted::byte_is(s, end + 1, 0x0A) {
-        return Ended::Row(end);
-    }
-    Ended::Bad
 }

@@ -5,22 +5,22 @@ use mathlib.Core.Path.{_≡_, sym, ap, _∙_}
 use mathlib.Core.List.{List, _++_}
 use lib.ListN.{length, drop}
 use Rattle.book.specs.Says as book
-use Rattle.book.proofs.Answers.{says-one, refused-none}
-use Rattle.table2.specs.declared.Coefficient.{Coefficient}
-use Rattle.placed.proofs.Answers.{job-one, job-there}
+use Rattle.book.proofs.Answers.{book-says-one, refused-none}
+use Rattle.earth.specs.declared.table2.Coefficient.{Coefficient}
+use Rattle.debtarush.proofs.finding.Answers.{job-one, job-there}
 use Rattle.debtarush.proofs.Texts.{text-one}
-use Rattle.calls.specs.Told.{Told, written, refused}
+use Rattle.debtarush.specs.Told.{CallTold, written, refused}
 use Rattle.debtarush.specs.Called.{Called, no-book, no-place, too-short, lines}
 
 -- a book's refusal as a call's
-refusal : book.Told → Told
+refusal : book.BookTold → CallTold
 refusal (book.given n js) = written n
 refusal (book.refused n row) = refused n row
 
 module _ {fill : ℕ → ℕ → Coefficient} {b : List ℕ} {place : ℕ} {before : List ℕ} where
-  pub called-one : {x y : List ℕ} {t u : Told} → Called fill b place before x t → Called fill b place before y u → (x ≡ y) × (t ≡ u)
+  pub called-one : {x y : List ℕ} {t u : CallTold} → Called fill b place before x t → Called fill b place before y u → (x ≡ y) × (t ≡ u)
   unfolding refusal
-  called-one (no-book p a e) (no-book q c f) = (a ∙ sym c, e ∙ ap refusal (says-one p q) ∙ sym f)
+  called-one (no-book p a e) (no-book q c f) = (a ∙ sym c, e ∙ ap refusal (book-says-one p q) ∙ sym f)
   called-one (no-book p a e) (no-place q m c f) = absurd (refused-none p _ q)
   called-one (no-book p a e) (too-short q r s l c f) = absurd (refused-none p _ q)
   called-one (no-book p a e) (lines q r s l c f) = absurd (refused-none p _ q)

@@ -3,3 +3,4 @@ pub mod Fitting
 pub mod Texts
 pub mod Placing
 pub mod Answers
+pub mod Telling

@@ -3,26 +3,31 @@ use Prim.Native.Nat.{ℕ}
 use mathlib.Core.Path.{_≡_, sym, ap, subst, _∙_}
 use mathlib.Core.List.{List}
 use Rattle.jobs.specs.declared.Job.{Job}
-use Rattle.table2.specs.declared.Coefficient.{Coefficient}
+use Rattle.earth.specs.declared.table2.Coefficient.{Coefficient}
 use Rattle.block.specs.declared.Block.{Block}
 use Rattle.block.specs.Block as block
 use Rattle.block.proofs.Pages.{block-held}
-use Rattle.buffer.specs.Written as buffer
-use Rattle.calls.specs.Told.{Told, written, as-call}
+use Rattle.buffer.specs.Copying as buffer
+use Rattle.debtarush.specs.Told.{CallTold, written, refused}
 use Rattle.debtarush.specs.Lines.{LinesIn}
-use Rattle.placed.proofs.Finding.{HasJob}
+use Rattle.debtarush.proofs.finding.Finding.{HasJob}
 use Rattle.debtarush.specs.Called.{Called, too-short, lines}
 
-module _ {fill : ℕ → ℕ → Coefficient} {s : List ℕ} {place : ℕ} {job : Job} {b : Block} (h : HasJob s place job) (l : LinesIn fill job b) (before after : List ℕ) where
-  whole : block.held b ≡ l .bytes
-  whole = ap block.held (l .held) ∙ block-held (l .bytes) (l .fits)
+-- what is told of writing to the buffer, with the same length, or the same number and row
+abbrev pub as-told : buffer.CopyTold → CallTold
+as-told (buffer.wrote n) = written n
+as-told (buffer.refused number row) = refused number row
 
-  call-as : (w : buffer.Told) → buffer.Wrote (l .bytes) before after w → Called fill s place before after (as-call w)
+module _ {fill : ℕ → ℕ → Coefficient} {s : List ℕ} {place : ℕ} {job : Job} {b : Block} (h : HasJob s place job) (l : LinesIn fill job b) (before after : List ℕ) where
+  whole : block.text-held b ≡ l .bytes
+  whole = ap block.text-held (l .held) ∙ block-held (l .bytes) (l .fits)
+
+  call-as : (w : buffer.CopyTold) → buffer.Wrote (l .bytes) before after w → Called fill s place before after (as-told w)
   unfolding buffer.Wrote
   call-as (buffer.wrote n) v = lines (h .book) (h .row) (l .lines) (v .0) (v .2) (ap written (v .1))
   call-as (buffer.refused number row) v = too-short (h .book) (h .row) (l .lines) (v .0) (v .3) (cc (v .1, v .2))
 
   -- what the call is told is what writing to the buffer is
-  pub call-delivered : (w : buffer.Told) {t : Told} → t ≡ as-call w → buffer.Wrote (block.held b) before after w → Called fill s place before after t
+  pub call-delivered : (w : buffer.CopyTold) {t : CallTold} → t ≡ as-told w → buffer.Wrote (block.text-held b) before after w → Called fill s place before after t
   call-delivered w e v =
       subst (Called fill s place before after) (sym e) (call-as w (subst (λ (bytes : List ℕ). buffer.Wrote bytes before after w) whole v))

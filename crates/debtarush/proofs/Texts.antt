@@ -3,7 +3,7 @@ use Prim.Native.Nat.{ℕ}
 use mathlib.Core.Path.{_≡_, sym, ap, subst, _∙_}
 use mathlib.Core.List.{List}
 use Rattle.jobs.specs.declared.Job.{Job}
-use Rattle.table2.specs.declared.Coefficient.{Coefficient}
+use Rattle.earth.specs.declared.table2.Coefficient.{Coefficient}
 use Rattle.answer.proofs.Answers.{answer-one}
 use Rattle.printing.specs.Text.{text}
 use Rattle.debtarush.specs.Lines.{TextOf}

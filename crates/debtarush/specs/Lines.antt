@@ -4,7 +4,7 @@ use mathlib.Core.Path.{_≡_}
 use mathlib.Core.List.{List}
 use lib.ListN.{length}
 use Rattle.jobs.specs.declared.Job.{Job}
-use Rattle.table2.specs.declared.Coefficient.{Coefficient}
+use Rattle.earth.specs.declared.table2.Coefficient.{Coefficient}
 use Rattle.lines.specs.declared.Answer.{Answer}
 use Rattle.answer.specs.Answer.{AnswerIs}
 use Rattle.printing.specs.Text.{text}

@@ -5,18 +5,19 @@ use mathlib.Core.Path.{_≡_, refl, sym, ap, _∙_}
 use mathlib.Core.Logic.{_⊎_, inl, inr}
 use mathlib.Core.List.{List, _++_, append-nil}
 use lib.ListN.{length, drop}
+use Rattle.arithmetic.proofs.Cases.{impossible}
 use Rattle.jobs.specs.declared.Job.{Job}
 use Rattle.book.specs.JobBook.{Jobs, JobBook}
 use Rattle.book.specs.Values.{values}
-use Rattle.table2.specs.declared.Coefficient.{Coefficient}
-use Rattle.notes.specs.Notes.{RowIn}
+use Rattle.earth.specs.declared.table2.Coefficient.{Coefficient}
+use Rattle.csv.specs.notes.Notes.{RowIn}
 use Rattle.lines.specs.declared.Verdict.the-variants.{Refused}
 use Rattle.lines.specs.Lines.{verdict-line, unless-refused, lines-of}
 use Rattle.answer.specs.Rules.{Refuses}
 use Rattle.answer.specs.Answer as answer
 use Rattle.printing.specs.Text.{line-text, texts, text}
 use Rattle.debtarush.specs.Lines.{TextOf}
-use Rattle.calls.specs.Told.{written, refused}
+use Rattle.debtarush.specs.Told.{written, refused}
 use Rattle.debtarush.specs.Called.{Called, no-book, no-place, too-short, lines}
 use Rattle.debtarush.proofs.Texts.{text-one}
 use Rattle.debtarush.proofs.Answers.{called-one}
@@ -34,13 +35,13 @@ module _ (fill : ℕ → ℕ → Coefficient) {b : List ℕ} {place : ℕ} {befo
   numbers {n} (no-book {n = m} s a e) = let z : n ≡ m = cc in let w = book-numbers s in inl (omega arith, omega arith)
   numbers {n} (no-place p q a e) = let z : n ≡ 10 = cc in inr z
   numbers {n} (too-short p r s l a e) = let z : n ≡ 7 = cc in inl (omega arith, omega arith)
-  numbers (lines p r s l a e) = let z : _≡_ {A = ℕ} 0 1 = cc in absurd (omega arith)
+  numbers (lines p r s l a e) = impossible cc
 
   untouched : {n row : ℕ} → Called fill b place before after (refused n row) → after ≡ before
   untouched (no-book s a e) = a
   untouched (no-place p q a e) = a
   untouched (too-short p r s l a e) = a
-  untouched (lines p r s l a e) = let z : _≡_ {A = ℕ} 0 1 = cc in absurd (omega arith)
+  untouched (lines p r s l a e) = impossible cc
 
   alone : {len : ℕ} → Called fill b place before after (written len) → (js : Jobs) (job : Job) (n : ℕ) → JobBook b js → RowIn (values js) place job → Refuses fill job n
       → (len ≡ length (line-text (job .key) (verdict-line (Refused n)))) × (after ≡ line-text (job .key) (verdict-line (Refused n)) ++ drop len before)

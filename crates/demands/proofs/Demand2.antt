@@ -1,22 +1,22 @@
 -- Demand 2 holds.
 use Prim.Native.Nat.{ℕ}
-use native.Mathlib.Omega.{arith}
 use mathlib.Core.Path.{_≡_, refl, sym, ap, subst, _∙_}
 use mathlib.Core.List.{List, _++_}
 use lib.ListN.{take}
-use Rattle.keys.specs.declared.Key.{Key}
+use Rattle.arithmetic.proofs.Cases.{impossible}
+use Rattle.rows.specs.declared.keys.Key.{Key}
 use Rattle.jobs.specs.declared.Job.{Job}
 use Rattle.book.specs.JobBook.{Jobs, JobBook}
 use Rattle.book.specs.Values.{values}
-use Rattle.table2.specs.declared.Coefficient.{Coefficient}
-use Rattle.notes.specs.Notes.{RowIn}
+use Rattle.earth.specs.declared.table2.Coefficient.{Coefficient}
+use Rattle.csv.specs.notes.Notes.{RowIn}
 use Rattle.sets.specs.declared.Combination.{Combination}
 use Rattle.sets.specs.declared.Loads.{Loads}
 use Rattle.sets.specs.Sets.{Permitted}
 use Rattle.checks.specs.declared.Check.{Check}
-use Rattle.service.specs.Service.{HasCheck}
+use Rattle.checks.specs.service.Service.{HasCheck}
 use Rattle.loads.specs.LoadRows.{AreLoads}
-use Rattle.loads.specs.Taken.{rowsOf}
+use Rattle.loads.specs.Taken.{row-count}
 use Rattle.lines.specs.declared.Verdict.{Verdict}
 use Rattle.lines.specs.declared.Verdict.the-variants.{Accepted, NotAccepted, Refused}
 use Rattle.lines.specs.Lines.{PrintedLine, check, accepted, not-accepted, number, verdict-value, verdict-line, unless-refused, later-lines, lines-of}
@@ -24,9 +24,9 @@ use Rattle.answer.specs.Rules.{Unrefused}
 use Rattle.answer.specs.Answer.{base-of}
 use Rattle.printing.specs.Text.{line-text, texts, text}
 use Rattle.printing.proofs.Injective.{line-injective, texts-injective}
-use Rattle.calls.specs.Told.{written}
+use Rattle.debtarush.specs.Told.{written}
 use Rattle.debtarush.specs.Called.{Called}
-use Rattle.demands.specs.Words.{Begins, Tells, LinesOf, Sound, Named}
+use Rattle.demands.specs.Words.{StartsWith, Tells, LinesOf, Sound, NamesSet}
 use Rattle.demands.specs.Demand2.{Demand2}
 use Rattle.demands.proofs.Keys.{job-key}
 use Rattle.demands.proofs.Sound.{sound-accepted, accepted-sound}
@@ -37,8 +37,8 @@ use Rattle.demands.proofs.Wrote.{Wrote, reached, wrote}
 verdict-same : (v : Verdict) → verdict-line Accepted ≡ verdict-line v → v ≡ Accepted
 unfolding verdict-line verdict-value
 verdict-same Accepted e = refl
-verdict-same NotAccepted e = let v : accepted ≡ not-accepted = ap (λ (l : PrintedLine). l .value) e in let z : _≡_ {A = ℕ} 0 1 = cc in absurd (omega arith)
-verdict-same (Refused n) e = let v : accepted ≡ number n = ap (λ (l : PrintedLine). l .value) e in let z : _≡_ {A = ℕ} 0 1 = cc in absurd (omega arith)
+verdict-same NotAccepted e = let v : accepted ≡ not-accepted = ap (λ (l : PrintedLine). l .value) e in impossible cc
+verdict-same (Refused n) e = let v : accepted ≡ number n = ap (λ (l : PrintedLine). l .value) e in impossible cc
 
 module _ (fill : ℕ → ℕ → Coefficient) {b : List ℕ} {place : ℕ} {before after : List ℕ} {len : ℕ} (c : Called fill b place before after (written len))
     (js : Jobs) (job : Job) (book : JobBook b js) (at : RowIn (values js) place job) where
@@ -74,14 +74,14 @@ module _ (fill : ℕ → ℕ → Coefficient) {b : List ℕ} {place : ℕ} {befo
   unfolding own
   nothing-else key lines t = (key-same key lines t, record { answer = own .text .answer; is = own .text .is; are = lines-same key lines t })
 
-  accepted-bytes : Begins (line-text (job .key) (verdict-line Accepted)) (take len after) → Sound fill job
+  accepted-bytes : StartsWith (line-text (job .key) (verdict-line Accepted)) (take len after) → Sound fill job
   unfolding own
   accepted-bytes p =
       let k = job-key book at in
       let e = line-injective k k _ _ (p .rest) _ (sym (p .are) ∙ bytes-are ∙ laid) .1 in
       accepted-sound fill job (own .text .answer) (own .text .is) (verdict-same (own .text .answer .verdict) e)
 
-  accepts : Sound fill job → Begins (line-text (job .key) (verdict-line Accepted)) (take len after)
+  accepts : Sound fill job → StartsWith (line-text (job .key) (verdict-line Accepted)) (take len after)
   unfolding own
   accepts s =
       let v = sound-accepted fill job (own .text .answer) (own .text .is) s in
@@ -91,12 +91,12 @@ module _ (fill : ℕ → ℕ → Coefficient) {b : List ℕ} {place : ℕ} {befo
       }
 
   named : (key : Key) (lines : List PrintedLine) → Tells (take len after) key lines
-      → (n : ℕ) (line : PrintedLine) (combination : Combination) (of : Check) → RowIn lines n line → line .name ≡ check combination of → Named fill job combination of line
+      → (n : ℕ) (line : PrintedLine) (combination : Combination) (of : Check) → RowIn lines n line → line .name ≡ check combination of → NamesSet fill job combination of line
   unfolding own
   named key lines t n line combination of r e = line-named fill job (own .text .is) (subst (λ (l : List PrintedLine). RowIn l n line) (lines-same key lines t) r) e
 
   shown : (key : Key) (lines : List PrintedLine) → Tells (take len after) key lines → (loads : Loads) (combination : Combination) (of : Check) (set : ℕ) → Unrefused fill job
-      → AreLoads fill (job .loads) (rowsOf (job .count)) loads → HasCheck combination of (base-of (job .base)) → Permitted combination loads set
+      → AreLoads fill (job .loads) (row-count (job .count)) loads → HasCheck combination of (base-of (job .base)) → Permitted combination loads set
       → (n : ℕ) × (line : PrintedLine) × RowIn lines n line × (line .name ≡ check combination of)
   unfolding own
   shown key lines t loads combination of set u are h p =

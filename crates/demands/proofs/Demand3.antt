@@ -4,14 +4,15 @@ use native.Mathlib.Omega.{arith}
 use mathlib.Core.Path.{_≡_, sym, ap, _∙_}
 use mathlib.Core.List.{List}
 use lib.ListN.{length}
+use Rattle.arithmetic.proofs.Cases.{impossible}
 use Rattle.jobs.specs.declared.Job.{Job}
-use Rattle.book.specs.JobBook.{Written, Jobs, JobBook}
-use Rattle.book.specs.Values.{value, SameJob}
-use Rattle.notes.specs.Notes.{RowIn}
+use Rattle.book.specs.JobBook.{WrittenJob, Jobs, JobBook}
+use Rattle.book.specs.Values.{job-value, SameJob}
+use Rattle.csv.specs.notes.Notes.{RowIn}
 use Rattle.book.proofs.Answers as read
 use Rattle.book.proofs.Same.{same-value}
-use Rattle.table2.specs.declared.Coefficient.{Coefficient}
-use Rattle.calls.specs.Told.{Told, written, refused}
+use Rattle.earth.specs.declared.table2.Coefficient.{Coefficient}
+use Rattle.debtarush.specs.Told.{CallTold, written, refused}
 use Rattle.debtarush.specs.Called.{Called, no-book, no-place, too-short, lines}
 use Rattle.debtarush.proofs.Texts.{text-one}
 use Rattle.demands.specs.Words.{listed}
@@ -25,20 +26,20 @@ module _ (fill : ℕ → ℕ → Coefficient) {b : List ℕ} {place : ℕ} {befo
   refused-none (no-book {n = m} {row = q} s a e) l js p = read.refused-none s js p
   refused-none {n} (no-place p q a e) l js x = let z : n ≡ 10 = cc in omega arith
   refused-none {n} (too-short p r s k a e) l js x = let z : n ≡ 7 = cc in omega arith
-  refused-none (lines p r s k a e) l js x = let z : _≡_ {A = ℕ} 0 1 = cc in omega arith
+  refused-none (lines p r s k a e) l js x = impossible cc
 
-  none-refused : {t : Told} → Called fill b place before after t → ((js : Jobs) → JobBook b js → ⊥) → (n : ℕ) × (row : ℕ) × (t ≡ refused n row) × (1 ≤ n) × (n ≤ 6)
+  none-refused : {t : CallTold} → Called fill b place before after t → ((js : Jobs) → JobBook b js → ⊥) → (n : ℕ) × (row : ℕ) × (t ≡ refused n row) × (1 ≤ n) × (n ≤ 6)
   none-refused (no-book {n} {row} s a e) h = (n, row, e, book-numbers s .0, book-numbers s .1)
   none-refused (no-place {js} p q a e) h = absurd (h js p)
   none-refused (too-short {js} p r s l a e) h = absurd (h js p)
   none-refused (lines {js} p r s l a e) h = absurd (h js p)
 
 -- jobs with the same key, kinds and numbers have one value
-same-job : {b c : List ℕ} {p q : ℕ} {js ks : Jobs} {j k : Written} → JobBook b js → JobBook c ks → RowIn (listed js) p j → RowIn (listed ks) q k → SameJob j k → value j ≡ value k
+same-job : {b c : List ℕ} {p q : ℕ} {js ks : Jobs} {j k : WrittenJob} → JobBook b js → JobBook c ks → RowIn (listed js) p j → RowIn (listed ks) q k → SameJob j k → job-value j ≡ job-value k
 same-job x y r s e = same-value (good-job x r) (good-job y s) e
 
 -- the answer goes by the text and the buffer's length
-same-told : {fill : ℕ → ℕ → Coefficient} {j k : Job} {before before′ after after′ : List ℕ} {t u : Told} → j ≡ k → length before ≡ length before′
+same-told : {fill : ℕ → ℕ → Coefficient} {j k : Job} {before before′ after after′ : List ℕ} {t u : CallTold} → j ≡ k → length before ≡ length before′
     → Reached fill j before after t → Reached fill k before′ after′ u → t ≡ u
 same-told e l (short s a p) (short v c q) = p ∙ sym q
 same-told e l (short s a p) (full v c d q) = let z = ap length (text-one e s v) in absurd (omega arith)

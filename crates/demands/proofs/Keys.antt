@@ -3,13 +3,13 @@ use Prim.Native.Nat.{ℕ, _+_}
 use mathlib.Core.Path.{_≡_, refl, sym, ap, subst, _∙_}
 use mathlib.Core.List.{List, [], _∷_, _++_, map, map-append}
 use lib.ListN.{length-map}
-use Rattle.rfc4180.specs.Rfc4180.{Cell}
+use Rattle.csv.specs.rfc4180.Rfc4180.{Cell}
 use Rattle.rows.specs.Form.{BookRow, Form, content}
 use Rattle.jobs.specs.declared.Job.{Job}
-use Rattle.book.specs.JobBook.{Written, job, Jobs, none, _and_, job-rows, rows-of, GoodJob, Forms, no-form, form, Whole, no-whole, one-whole, JobBook}
-use Rattle.book.specs.Values.{value, values}
+use Rattle.book.specs.JobBook.{WrittenJob, job, Jobs, none, _and_, job-rows, rows-of, GoodJob, Forms, no-form, form, Whole, no-whole, one-whole, JobBook}
+use Rattle.book.specs.Values.{job-value, values}
 use Rattle.printing.specs.Keys.{IsKey}
-use Rattle.notes.specs.Notes.{RowIn}
+use Rattle.csv.specs.notes.Notes.{RowIn}
 use Rattle.demands.specs.Words.{listed}
 use Rattle.demands.proofs.All as all
 
@@ -46,17 +46,17 @@ wholes : {js : Jobs} → Whole js → all.All GoodJob (listed js)
 wholes no-whole = all.none
 wholes (one-whole w g l) = all.all-append (wholes w) (all.more g all.none)
 
-pub good-job : {s : List ℕ} {js : Jobs} {n : ℕ} {j : Written} → JobBook s js → RowIn (listed js) n j → GoodJob j
+pub good-job : {s : List ℕ} {js : Jobs} {n : ℕ} {j : WrittenJob} → JobBook s js → RowIn (listed js) n j → GoodJob j
 good-job b r = all.all-at (wholes (b .each)) r
 
-values-listed : (js : Jobs) → values js ≡ map value (listed js)
+values-listed : (js : Jobs) → values js ≡ map job-value (listed js)
 values-listed none = refl
-values-listed (js and j) = ap (λ (l : List Job). l ++ value j ∷ []) (values-listed js) ∙ sym (map-append value (listed js) (j ∷ []))
+values-listed (js and j) = ap (λ (l : List Job). l ++ job-value j ∷ []) (values-listed js) ∙ sym (map-append job-value (listed js) (j ∷ []))
 
-pub value-at : (js : Jobs) {n : ℕ} {j : Written} → RowIn (listed js) n j → RowIn (values js) n (value j)
+pub value-at : (js : Jobs) {n : ℕ} {j : WrittenJob} → RowIn (listed js) n j → RowIn (values js) n (job-value j)
 value-at js {j = j} r = record {
-  before = map value (r .before);
-  behind = map value (r .behind);
-  are = values-listed js ∙ ap (map value) (r .are) ∙ map-append value (r .before) (j ∷ r .behind);
-  number = r .number ∙ ap (λ (k : ℕ). k + 1) (sym (length-map (r .before) value));
+  before = map job-value (r .before);
+  behind = map job-value (r .behind);
+  are = values-listed js ∙ ap (map job-value) (r .are) ∙ map-append job-value (r .before) (j ∷ r .behind);
+  number = r .number ∙ ap (λ (k : ℕ). k + 1) (sym (length-map (r .before) job-value));
 }

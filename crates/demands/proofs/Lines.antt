@@ -1,10 +1,10 @@
 -- Each line of a check in a job's answer names a permitted set that reaches its figure, and none is worse; and no check that applies is left out.
 use Prim.Native.Nat.{ℕ}
-use native.Mathlib.Omega.{arith}
 use mathlib.Core.Path.{_≡_, refl, sym, subst}
 use mathlib.Core.List.{List}
+use Rattle.arithmetic.proofs.Cases.{impossible}
 use Rattle.jobs.specs.declared.Job.{Job}
-use Rattle.table2.specs.declared.Coefficient.{Coefficient}
+use Rattle.earth.specs.declared.table2.Coefficient.{Coefficient}
 use Rattle.sets.specs.declared.Combination.{Combination}
 use Rattle.sets.specs.declared.Combination.the-variants.{I, II, III, IV}
 use Rattle.sets.specs.declared.Loads.{Loads}
@@ -14,37 +14,35 @@ use Rattle.checks.specs.declared.Check.the-variants.{OP, OM, SL, PR, RK}
 use Rattle.lines.specs.declared.Line.{Line}
 use Rattle.lines.specs.declared.Line.the-variants.{Missing, Shown}
 use Rattle.lines.specs.declared.Lines.{Lines}
-use Rattle.service.specs.Service.{HasCheck}
+use Rattle.checks.specs.service.Service.{HasCheck}
 use Rattle.worst.specs.Lines as worst
 use Rattle.loads.specs.LoadRows.{AreLoads}
-use Rattle.loads.specs.Taken.{rowsOf}
+use Rattle.loads.specs.Taken.{row-count}
 use Rattle.loads.proofs.Loaded.{loads-one}
 use Rattle.lines.specs.declared.Verdict.{Verdict}
 use Rattle.lines.specs.declared.Verdict.the-variants.{Accepted, NotAccepted, Refused}
-use Rattle.lines.specs.declared.DepthLine.{DepthLine}
-use Rattle.lines.specs.declared.DepthLine.the-variants as depth
-use Rattle.lines.specs.declared.ClearLine.{ClearLine}
-use Rattle.lines.specs.declared.ClearLine.the-variants as clear
+use Rattle.lines.specs.declared.RiverLine.{RiverLine}
+use Rattle.lines.specs.declared.RiverLine.the-variants as river
 use Rattle.lines.specs.declared.Answer.{Answer}
-use Rattle.lines.specs.Lines.{PrintedLine, VERDICT, check, SC, CL, verdict-line, check-line, combination-lines, depth-line, clear-line, later-lines, unless-refused, lines-of}
+use Rattle.lines.specs.Lines.{LineName, PrintedLine, VERDICT, check, SC, CL, verdict-line, check-line, combination-lines, river-line, later-lines, unless-refused, lines-of}
 use Rattle.answer.specs.Rules.{Unrefused}
-use Rattle.verdicts.specs.Verdict.{VerdictIs}
+use Rattle.lines.specs.verdicts.Verdict.{VerdictIs}
 use Rattle.answer.specs.Answer.{base-of, LinesAre, Given, refusal, AnswerIs, refused, answered}
-use Rattle.notes.specs.Notes.{RowIn}
-use Rattle.demands.specs.Words.{Named}
+use Rattle.csv.specs.notes.Notes.{RowIn}
+use Rattle.demands.specs.Words.{NamesSet}
 use Rattle.demands.proofs.All as all
 
 module _ (fill : ℕ → ℕ → Coefficient) (job : Job) where
   -- if it is the line of a check
   IsNamed : PrintedLine → Type 0
-  IsNamed l = (combination : Combination) (of : Check) → l .name ≡ check combination of → Named fill job combination of l
+  IsNamed l = (combination : Combination) (of : Check) → l .name ≡ check combination of → NamesSet fill job combination of l
 
-  named-same : {c d : Combination} {k m : Check} {l : PrintedLine} → c ≡ d → k ≡ m → Named fill job c k l → Named fill job d m l
-  named-same {d = d} {k} {l = l} e f p = subst (λ (x : Check). Named fill job d x l) f (subst (λ (x : Combination). Named fill job x k l) e p)
+  named-same : {c d : Combination} {k m : Check} {l : PrintedLine} → c ≡ d → k ≡ m → NamesSet fill job c k l → NamesSet fill job d m l
+  named-same {d = d} {k} {l = l} e f p = subst (λ (x : Check). NamesSet fill job d x l) f (subst (λ (x : Combination). NamesSet fill job x k l) e p)
 
-  module _ (loads : Loads) (are : AreLoads fill (job .loads) (rowsOf (job .count)) loads) where
-    check-named : (c : Combination) (k : Check) (l : Line) → worst.Says c k (base-of (job .base)) loads l → all.All IsNamed (check-line c k l)
-    unfolding IsNamed check-line worst.Says
+  module _ (loads : Loads) (are : AreLoads fill (job .loads) (row-count (job .count)) loads) where
+    check-named : (c : Combination) (k : Check) (l : Line) → worst.LineSays c k (base-of (job .base)) loads l → all.All IsNamed (check-line c k l)
+    unfolding IsNamed check-line worst.LineSays
     check-named c k Missing p = all.none
     check-named c k (Shown figure limit set passes) p =
         all.more
@@ -63,19 +61,14 @@ module _ (fill : ℕ → ℕ → Coefficient) (job : Job) where
   unfolding IsNamed
   other-named l n c k e = absurd (n c k e)
 
-  depth-named : (d : DepthLine) → all.All IsNamed (depth-line d)
-  unfolding depth-line
-  depth-named depth.Missing = all.none
-  depth-named (depth.Shown needed found passes) = all.more (other-named _ (λ c k (e : SC ≡ check c k). let z : _≡_ {A = ℕ} 0 1 = cc in omega arith)) all.none
-
-  clear-named : (c : ClearLine) → all.All IsNamed (clear-line c)
-  unfolding clear-line
-  clear-named clear.Missing = all.none
-  clear-named (clear.Shown below size needed passes) = all.more (other-named _ (λ c k (e : CL ≡ check c k). let z : _≡_ {A = ℕ} 0 1 = cc in omega arith)) all.none
+  river-named : (name : LineName) → ((combination : Combination) (of : Check) → name ≡ check combination of → ⊥) → (l : RiverLine) → all.All IsNamed (river-line name l)
+  unfolding river-line
+  river-named name n river.Missing = all.none
+  river-named name n (river.Shown below size limit passes) = all.more (other-named _ n) all.none
 
   verdict-named : (v : Verdict) → IsNamed (verdict-line v)
   unfolding verdict-line
-  verdict-named v = other-named _ (λ c k (e : VERDICT ≡ check c k). let z : _≡_ {A = ℕ} 0 1 = cc in omega arith)
+  verdict-named v = other-named _ (λ c k (e : VERDICT ≡ check c k). impossible cc)
 
   unless-named : (v : Verdict) {later : List PrintedLine} → all.All IsNamed later → all.All IsNamed (unless-refused v later)
   unfolding unless-refused
@@ -91,7 +84,7 @@ module _ (fill : ℕ → ℕ → Coefficient) (job : Job) where
       (all.all-append (lines-named (g .loads) (g .are) I (a .one) (g .one))
       (all.all-append (lines-named (g .loads) (g .are) II (a .two) (g .two))
       (all.all-append (lines-named (g .loads) (g .are) III (a .three) (g .three))
-      (all.all-append (lines-named (g .loads) (g .are) IV (a .four) (g .four)) (all.all-append (depth-named (a .depth)) (clear-named (a .clear))))))))
+      (all.all-append (lines-named (g .loads) (g .are) IV (a .four) (g .four)) (all.all-append (river-named SC (λ c k e. impossible cc) (a .depth)) (river-named CL (λ c k e. impossible cc) (a .clear))))))))
 
   refusal-named : (n : ℕ) → all.All IsNamed (lines-of (refusal n))
   unfolding lines-of unless-refused
@@ -101,7 +94,7 @@ module _ (fill : ℕ → ℕ → Coefficient) (job : Job) where
   answer-named (refused {n} p e) = subst (λ (x : Answer). all.All IsNamed (lines-of x)) (sym e) (refusal-named n)
   answer-named {a} (answered g) = given-named a g
 
-  pub line-named : {a : Answer} {n : ℕ} {l : PrintedLine} {c : Combination} {k : Check} → AnswerIs fill job a → RowIn (lines-of a) n l → l .name ≡ check c k → Named fill job c k l
+  pub line-named : {a : Answer} {n : ℕ} {l : PrintedLine} {c : Combination} {k : Check} → AnswerIs fill job a → RowIn (lines-of a) n l → l .name ≡ check c k → NamesSet fill job c k l
   unfolding IsNamed
   line-named {c = c} {k} p r e = all.all-at (answer-named p) r c k e
 
@@ -109,10 +102,10 @@ module _ (fill : ℕ → ℕ → Coefficient) (job : Job) where
 IsOf : Combination → Check → PrintedLine → Type 0
 IsOf combination of l = l .name ≡ check combination of
 
-module _ (fill : ℕ → ℕ → Coefficient) (job : Job) (loads : Loads) (are : AreLoads fill (job .loads) (rowsOf (job .count)) loads) where
+module _ (fill : ℕ → ℕ → Coefficient) (job : Job) (loads : Loads) (are : AreLoads fill (job .loads) (row-count (job .count)) loads) where
   module _ (c : Combination) (set : ℕ) (permitted : Permitted c loads set) where
-    check-shown : (k : Check) (l : Line) → worst.Says c k (base-of (job .base)) loads l → HasCheck c k (base-of (job .base)) → all.Some (IsOf c k) (check-line c k l)
-    unfolding IsOf check-line worst.Says
+    check-shown : (k : Check) (l : Line) → worst.LineSays c k (base-of (job .base)) loads l → HasCheck c k (base-of (job .base)) → all.Some (IsOf c k) (check-line c k l)
+    unfolding IsOf check-line worst.LineSays
     check-shown k Missing p h = absurd (p h set permitted)
     check-shown k (Shown figure limit s passes) p h = all.here refl
 
@@ -154,5 +147,5 @@ module _ (fill : ℕ → ℕ → Coefficient) (job : Job) (loads : Loads) (are :
   unfolding lines-of IsOf
   line-shown a c k set (refused {n} p e) u h s = absurd (u n (p .holds))
   line-shown a c k set (answered g) u h s =
-      let e = loads-one fill (job .loads) (rowsOf (job .count)) (g .loads) loads (g .are) are in
+      let e = loads-one fill (job .loads) (row-count (job .count)) (g .loads) loads (g .are) are in
       all.some-at (all.later (unless-shown (a .verdict) a c k (g .verdict) (later-shown c k set s h a g e)))

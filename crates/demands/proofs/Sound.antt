@@ -3,10 +3,11 @@ use Prim.Native.Nat.{ℕ, _≤_}
 use native.Mathlib.Omega.{arith}
 use mathlib.Core.Path.{_≡_, refl, sym, ap, subst, _∙_}
 use mathlib.Core.Bool.{true, false}
-use Rattle.decides.specs.Decides.{decided}
+use Rattle.arithmetic.proofs.Cases.{impossible}
+use Rattle.arithmetic.specs.decides.Decides.{decided}
 use Rattle.jobs.specs.declared.Job.{Job}
 use Rattle.scour.proofs.Scours.{scoured-one}
-use Rattle.table2.specs.declared.Coefficient.{Coefficient}
+use Rattle.earth.specs.declared.table2.Coefficient.{Coefficient}
 use Rattle.sets.specs.declared.Combination.{Combination}
 use Rattle.sets.specs.declared.Combination.the-variants.{I, II, III, IV}
 use Rattle.sets.specs.declared.Loads.{Loads}
@@ -15,30 +16,28 @@ use Rattle.checks.specs.declared.Base.{Base}
 use Rattle.checks.specs.declared.Check.{Check}
 use Rattle.checks.specs.declared.Check.the-variants.{OP, OM, SL, PR, RK}
 use Rattle.checks.specs.declared.Figure.{Figure}
-use Rattle.set_figures.specs.Figures.{Shows}
+use Rattle.checks.specs.set_figures.Figures.{Shows}
 use Rattle.checks.specs.Order.{side}
-use Rattle.limits.specs.Limits.{Limit, TippingLimit, SlidingLimit}
+use Rattle.checks.specs.limits.Limits.{Limit, TippingLimit, SlidingLimit}
 use Rattle.lines.specs.declared.Line.{Line}
 use Rattle.lines.specs.declared.Line.the-variants.{Missing, Shown}
 use Rattle.lines.specs.declared.Lines.{Lines}
-use Rattle.service.specs.Service.{HasCheck, Service}
-use Rattle.passing.specs.Passing.{Passes}
-use Rattle.limits.proofs.Limiting.{limit-one}
+use Rattle.checks.specs.service.Service.{HasCheck, Service}
+use Rattle.checks.specs.passing.Passing.{Passes}
+use Rattle.checks.proofs.limits.Limiting.{limit-one}
 use Rattle.worst.specs.Lines as worst
 use Rattle.worst.proofs.Naming.{worst-decides}
-use Rattle.loads.specs.Taken.{rowsOf}
+use Rattle.loads.specs.Taken.{row-count}
 use Rattle.loads.proofs.Loaded.{loads-one}
 use Rattle.lines.specs.declared.Verdict.{Verdict}
 use Rattle.lines.specs.declared.Verdict.the-variants.{Accepted, NotAccepted, Refused}
-use Rattle.lines.specs.declared.DepthLine.{DepthLine}
-use Rattle.lines.specs.declared.DepthLine.the-variants as depth
-use Rattle.lines.specs.declared.ClearLine.{ClearLine}
-use Rattle.lines.specs.declared.ClearLine.the-variants as clear
+use Rattle.lines.specs.declared.RiverLine.{RiverLine}
+use Rattle.lines.specs.declared.RiverLine.the-variants as river
 use Rattle.lines.specs.declared.Answer.{Answer}
-use Rattle.job_ranges.specs.Rows.{HasClearance}
-use Rattle.waters.specs.Waters.{Founded, DepthIs, ClearIs}
-use Rattle.waters.proofs.Answers.{clear-one}
-use Rattle.verdicts.specs.Verdict.{LineYes, LinesYes, DepthYes, ClearYes, AllYes, VerdictIs}
+use Rattle.jobs.specs.stages.Rows.{HasClearance}
+use Rattle.answer.specs.river.River.{Founded, DepthIs, ClearIs}
+use Rattle.answer.proofs.river.Answers.{clear-one}
+use Rattle.lines.specs.verdicts.Verdict.{LineYes, LinesYes, RiverYes, AllYes, VerdictIs}
 use Rattle.answer.specs.Answer.{base-of, LinesAre, Given, AnswerIs, refused, answered}
 use Rattle.demands.specs.Words.{Bears, Deep, Clear, Sound}
 
@@ -69,15 +68,15 @@ Holds combination check base loads =
     (limit : ℕ) → Limit combination check base limit → (set : ℕ) (figure : Figure) → Permitted combination loads set → Shows check base loads set figure → Passes (side check) limit figure
 
 module _ (combination : Combination) (base : Base) (loads : Loads) where
-  line-holds : (check : Check) (l : Line) → worst.Says combination check base loads l → LineYes l → Holds combination check base loads
-  unfolding worst.Says Holds
+  line-holds : (check : Check) (l : Line) → worst.LineSays combination check base loads l → LineYes l → Holds combination check base loads
+  unfolding worst.LineSays Holds
   line-holds check Missing p y limit h set figure a b = absurd (p (has-limit combination check base limit h) set a)
   line-holds check (Shown v n s passes) p y limit h set figure a b =
       let d = decided passes y (worst-decides combination check base loads v n s passes p) set figure a b in
       subst (λ (m : ℕ). Passes (side check) m figure) (limit-one combination check base n limit (p .limited) h) d
 
-  line-yes : (check : Check) (l : Line) → worst.Says combination check base loads l → Holds combination check base loads → LineYes l
-  unfolding worst.Says Holds
+  line-yes : (check : Check) (l : Line) → worst.LineSays combination check base loads l → Holds combination check base loads → LineYes l
+  unfolding worst.LineSays Holds
   line-yes check Missing p h = tt
   line-yes check (Shown v n s true) p h = refl
   line-yes check (Shown v n s false) p h = absurd (p .marked (h n (p .limited) s v (p .named .permitted) (p .named .reaches)))
@@ -101,15 +100,15 @@ module _ (combination : Combination) (base : Base) (loads : Loads) where
   }
 
 module _ (job : Job) where
-  depth-deep : (d : DepthLine) → DepthIs job d → DepthYes d → Founded job → Deep job
-  depth-deep depth.Missing p y f = absurd (p f)
-  depth-deep (depth.Shown n m true) p y f = record { depth = n; needed = p .value; found = subst (λ (k : ℕ). n ≤ k) (p .limit) (p .mark) }
-  depth-deep (depth.Shown n m false) p y f = let z : _≡_ {A = ℕ} 0 1 = cc in absurd (omega arith)
+  depth-deep : (d : RiverLine) → DepthIs job d → RiverYes d → Founded job → Deep job
+  depth-deep river.Missing p y f = absurd (p f)
+  depth-deep (river.Shown k n m true) p y f = record { depth = n; needed = p .value; found = subst (λ (k : ℕ). n ≤ k) (p .limit) (p .mark) }
+  depth-deep (river.Shown k n m false) p y f = impossible cc
 
-  deep-depth : (d : DepthLine) → DepthIs job d → (Founded job → Deep job) → DepthYes d
-  deep-depth depth.Missing p h = tt
-  deep-depth (depth.Shown n m true) p h = refl
-  deep-depth (depth.Shown n m false) p h =
+  deep-depth : (d : RiverLine) → DepthIs job d → (Founded job → Deep job) → RiverYes d
+  deep-depth river.Missing p h = tt
+  deep-depth (river.Shown k n m true) p h = refl
+  deep-depth (river.Shown k n m false) p h =
       let d = h (p .founded) in
       let e = scoured-one (p .value) (d .needed) in
       let a : n ≡ d .depth = cc in
@@ -117,17 +116,17 @@ module _ (job : Job) where
       let c = d .found in
       absurd (p .mark (omega arith))
 
-  clear-clears : (c : ClearLine) → ClearIs job c → ClearYes c → HasClearance (job .stage) → Clear job
-  clear-clears clear.Missing p y f = absurd (p f)
-  clear-clears (clear.Shown m s n true) p y f = record { minus = m; size = s; needed = n; plain = p .plain; there = p .value; enough = p .mark }
-  clear-clears (clear.Shown m s n false) p y f = let z : _≡_ {A = ℕ} 0 1 = cc in absurd (omega arith)
+  clear-clears : (c : RiverLine) → ClearIs job c → RiverYes c → HasClearance (job .stage) → Clear job
+  clear-clears river.Missing p y f = absurd (p f)
+  clear-clears (river.Shown m s n true) p y f = record { minus = m; size = s; needed = n; plain = p .plain; there = p .value; enough = p .mark }
+  clear-clears (river.Shown m s n false) p y f = impossible cc
 
-  clears-clear : (c : ClearLine) → ClearIs job c → (HasClearance (job .stage) → Clear job) → ClearYes c
-  clears-clear clear.Missing p h = tt
-  clears-clear (clear.Shown m s n true) p h = refl
-  clears-clear (clear.Shown m s n false) p h =
+  clears-clear : (c : RiverLine) → ClearIs job c → (HasClearance (job .stage) → Clear job) → RiverYes c
+  clears-clear river.Missing p h = tt
+  clears-clear (river.Shown m s n true) p h = refl
+  clears-clear (river.Shown m s n false) p h =
       let c = h (p .has) in
-      let e = clear-one job (clear.Shown m s n false) (clear.Shown (c .minus) (c .size) (c .needed) true) p (record { has = p .has; value = c .there; plain = c .plain; mark = c .enough }) in
+      let e = clear-one job (river.Shown m s n false) (river.Shown (c .minus) (c .size) (c .needed) true) p (record { has = p .has; value = c .there; plain = c .plain; mark = c .enough }) in
       let z : false ≡ true = cc in
       z
 
@@ -152,7 +151,7 @@ module _ (fill : ℕ → ℕ → Coefficient) (job : Job) (a : Answer) where
   sound-yes : Given fill job a → Sound fill job → AllYes a
   unfolding Holds
   sound-yes g s =
-      let e = loads-one fill (job .loads) (rowsOf (job .count)) (s .loads) (g .loads) (s .are) (g .are) in
+      let e = loads-one fill (job .loads) (row-count (job .count)) (s .loads) (g .loads) (s .are) (g .are) in
       let h = subst (Bears (base-of (job .base))) e (s .bears) in
       record {
         one = lines-yes I _ (g .loads) (a .one) (g .one) (h I);
@@ -175,6 +174,5 @@ module _ (fill : ℕ → ℕ → Coefficient) (job : Job) (a : Answer) where
   pub accepted-sound : AnswerIs fill job a → a .verdict ≡ Accepted → Sound fill job
   accepted-sound (refused {n} p e) v =
       let w : Refused n ≡ Accepted = sym (ap (λ (x : Answer). x .verdict) e) ∙ v in
-      let z : _≡_ {A = ℕ} 0 1 = cc in
-      absurd (omega arith)
+      impossible cc
   accepted-sound (answered g) v = yes-sound g (subst (λ (x : Verdict). VerdictIs x a) v (g .verdict))

@@ -1,22 +1,22 @@
 -- What a call for a job that is there wrote, or why it wrote nothing.
 use Prim.Native.Nat.{ℕ, _≤_, _<_}
-use native.Mathlib.Omega.{arith}
 use mathlib.Core.Path.{_≡_, sym, ap, subst, _∙_}
 use mathlib.Core.List.{List, _++_}
 use lib.ListN.{length, take, drop}
 use lib.Seq.{take-at}
+use Rattle.arithmetic.proofs.Cases.{impossible}
 use Rattle.jobs.specs.declared.Job.{Job}
 use Rattle.book.specs.JobBook.{Jobs, JobBook}
 use Rattle.book.specs.Values.{values}
-use Rattle.notes.specs.Notes.{RowIn}
+use Rattle.csv.specs.notes.Notes.{RowIn}
 use Rattle.book.proofs.Answers.{refused-none, book-one}
-use Rattle.notes.proofs.Answers.{row-one}
-use Rattle.table2.specs.declared.Coefficient.{Coefficient}
+use Rattle.csv.proofs.notes.Answers.{row-one}
+use Rattle.earth.specs.declared.table2.Coefficient.{Coefficient}
 use Rattle.debtarush.specs.Lines.{TextOf}
-use Rattle.calls.specs.Told.{Told, written, refused}
+use Rattle.debtarush.specs.Told.{CallTold, written, refused}
 use Rattle.debtarush.specs.Called.{Called, no-book, no-place, too-short, lines}
 
-pub data Reached (fill : ℕ → ℕ → Coefficient) (job : Job) (before after : List ℕ) (t : Told) : Type 0 where
+pub data Reached (fill : ℕ → ℕ → Coefficient) (job : Job) (before after : List ℕ) (t : CallTold) : Type 0 where
   short : {bytes : List ℕ} → TextOf fill job bytes → length before < length bytes → t ≡ refused 7 0 → Reached fill job before after t
   full : {bytes : List ℕ} → TextOf fill job bytes → length bytes ≤ length before → after ≡ bytes ++ drop (length bytes) before → t ≡ written (length bytes) → Reached fill job before after t
 
@@ -24,7 +24,7 @@ module _ {fill : ℕ → ℕ → Coefficient} {b : List ℕ} {place : ℕ} {js :
   own-text : {ks : Jobs} {k : Job} {bytes : List ℕ} → JobBook b ks → RowIn (values ks) place k → TextOf fill k bytes → TextOf fill job bytes
   own-text {k = k} {bytes} p r t = subst (λ (x : Job). TextOf fill x bytes) (row-one (subst (λ (l : Jobs). RowIn (values l) place k) (book-one p book) r) at) t
 
-  pub reached : {before after : List ℕ} {t : Told} → Called fill b place before after t → Reached fill job before after t
+  pub reached : {before after : List ℕ} {t : CallTold} → Called fill b place before after t → Reached fill job before after t
   reached (no-book s a e) = absurd (refused-none s js book)
   reached (no-place p n a e) = absurd (n job (subst (λ (l : Jobs). RowIn (values l) place job) (book-one book p) at))
   reached (too-short p r s l a e) = short (own-text p r s) l e
@@ -39,7 +39,7 @@ pub record Wrote (fill : ℕ → ℕ → Coefficient) (job : Job) (before after 
   pub whole : after ≡ bytes ++ drop len before
 
 pub wrote : {fill : ℕ → ℕ → Coefficient} {job : Job} {before after : List ℕ} {len : ℕ} → Reached fill job before after (written len) → Wrote fill job before after len
-wrote (short s l e) = let z : _≡_ {A = ℕ} 0 1 = cc in absurd (omega arith)
+wrote (short s l e) = impossible cc
 wrote {before = before} {after} {len} (full {bytes} s l a e) =
     let n : len ≡ length bytes = cc in
     record {

@@ -9,30 +9,30 @@ use Rattle.jobs.specs.declared.Job.{Job}
 use Rattle.book.specs.JobBook.{Jobs, JobBook}
 use Rattle.book.specs.Values.{values}
 use Rattle.book.specs.Says as book
-use Rattle.table2.specs.declared.Coefficient.{Coefficient}
-use Rattle.notes.specs.Notes.{RowIn}
+use Rattle.earth.specs.declared.table2.Coefficient.{Coefficient}
+use Rattle.csv.specs.notes.Notes.{RowIn}
 use Rattle.lines.specs.declared.Verdict.the-variants.{Refused}
 use Rattle.lines.specs.Lines.{verdict-line}
 use Rattle.answer.specs.Rules.{Refuses}
 use Rattle.printing.specs.Text.{line-text}
 use Rattle.debtarush.specs.Lines.{TextOf}
-use Rattle.calls.specs.Told.{Told, written, refused}
+use Rattle.debtarush.specs.Told.{CallTold, written, refused}
 use Rattle.debtarush.specs.Called.{Called}
 
 pub record Demand1 (fill : ℕ → ℕ → Coefficient) : Type 0 where
   -- one answer, and one state of the buffer
-  pub one : {b : List ℕ} {place : ℕ} {before x y : List ℕ} {t u : Told} → Called fill b place before x t → Called fill b place before y u → (x ≡ y) × (t ≡ u)
+  pub one : {b : List ℕ} {place : ℕ} {before x y : List ℕ} {t u : CallTold} → Called fill b place before x t → Called fill b place before y u → (x ≡ y) × (t ≡ u)
   -- first the book's refusal, whatever the place and the buffer
-  pub book-first : {b : List ℕ} {place : ℕ} {before after : List ℕ} {t : Told} → Called fill b place before after t
-      → (n row : ℕ) → book.Says b (book.refused n row) → t ≡ refused n row
+  pub book-first : {b : List ℕ} {place : ℕ} {before after : List ℕ} {t : CallTold} → Called fill b place before after t
+      → (n row : ℕ) → book.BookSays b (book.refused n row) → t ≡ refused n row
   -- then 10, whatever the buffer
-  pub then-place : {b : List ℕ} {place : ℕ} {before after : List ℕ} {t : Told} → Called fill b place before after t
+  pub then-place : {b : List ℕ} {place : ℕ} {before after : List ℕ} {t : CallTold} → Called fill b place before after t
       → (js : Jobs) → JobBook b js → ((job : Job) → RowIn (values js) place job → ⊥) → t ≡ refused 10 0
   -- then 7
-  pub then-buffer : {b : List ℕ} {place : ℕ} {before after : List ℕ} {t : Told} → Called fill b place before after t
+  pub then-buffer : {b : List ℕ} {place : ℕ} {before after : List ℕ} {t : CallTold} → Called fill b place before after t
       → (js : Jobs) (job : Job) (text : List ℕ) → JobBook b js → RowIn (values js) place job → TextOf fill job text → length before < length text → t ≡ refused 7 0
   -- else exactly the lines' bytes from the start, and the rest untouched
-  pub then-lines : {b : List ℕ} {place : ℕ} {before after : List ℕ} {t : Told} → Called fill b place before after t
+  pub then-lines : {b : List ℕ} {place : ℕ} {before after : List ℕ} {t : CallTold} → Called fill b place before after t
       → (js : Jobs) (job : Job) (text : List ℕ) → JobBook b js → RowIn (values js) place job → TextOf fill job text → length text ≤ length before
       → (t ≡ written (length text)) × (after ≡ text ++ drop (length text) before)
   -- no other number

@@ -3,33 +3,32 @@ use Prim.Native.Nat.{ℕ, _≤_}
 use mathlib.Core.Path.{_≡_}
 use mathlib.Core.Bool.{Bool, true}
 use mathlib.Core.List.{List, [], _∷_, _++_}
-use Rattle.ranges.specs.Range.{value}
-use Rattle.keys.specs.declared.Key.{Key}
+use Rattle.kinds.specs.ranges.Range.{value}
+use Rattle.rows.specs.declared.keys.Key.{Key}
 use Rattle.jobs.specs.declared.Job.{Job}
-use Rattle.book.specs.JobBook.{Written, Jobs, none, _and_}
+use Rattle.book.specs.JobBook.{WrittenJob, Jobs, none, _and_}
 use Rattle.scour.specs.Scour as scour
-use Rattle.signed.specs.Whole.{signed}
-use Rattle.levels.specs.Told.{given}
-use Rattle.clearance.specs.Clear.{Cleared}
-use Rattle.table2.specs.declared.Coefficient.{Coefficient}
+use Rattle.arithmetic.specs.signed.Whole.{signed}
+use Rattle.clearance.specs.Told.{given}
+use Rattle.clearance.specs.Clear.{Cleared, AtLeast}
+use Rattle.earth.specs.declared.table2.Coefficient.{Coefficient}
 use Rattle.sets.specs.declared.Combination.{Combination}
 use Rattle.sets.specs.declared.Loads.{Loads}
 use Rattle.sets.specs.Sets.{Permitted}
 use Rattle.checks.specs.declared.Base.{Base}
 use Rattle.checks.specs.declared.Check.{Check}
 use Rattle.checks.specs.declared.Figure.{Figure}
-use Rattle.set_figures.specs.Figures.{Shows}
+use Rattle.checks.specs.set_figures.Figures.{Shows}
 use Rattle.checks.specs.Order.{side}
-use Rattle.limits.specs.Limits.{Limit}
-use Rattle.passing.specs.Passing.{Passes}
+use Rattle.checks.specs.limits.Limits.{Limit}
+use Rattle.checks.specs.passing.Passing.{Passes}
 use Rattle.worst.specs.Lines.{Printed}
 use Rattle.loads.specs.LoadRows.{AreLoads}
-use Rattle.loads.specs.Taken.{rowsOf}
+use Rattle.loads.specs.Taken.{row-count}
 use Rattle.lines.specs.declared.Answer.{Answer}
 use Rattle.lines.specs.Lines.{PrintedLine, check, holds, value-of, mark-of, lines-of}
-use Rattle.job_ranges.specs.Rows.{HasClearance}
-use Rattle.river_marks.specs.Marks.{AtLeast}
-use Rattle.waters.specs.Waters.{Founded}
+use Rattle.jobs.specs.stages.Rows.{HasClearance}
+use Rattle.answer.specs.river.River.{Founded}
 use Rattle.answer.specs.Rules.{Unrefused}
 use Rattle.answer.specs.Answer.{base-of, AnswerIs}
 use Rattle.printing.specs.Keys.{IsKey}
@@ -37,7 +36,7 @@ use Rattle.printing.specs.Text.{texts}
 
 -- ---- what bytes say
 
-pub record Begins (front bytes : List ℕ) : Type 0 where
+pub record StartsWith (front bytes : List ℕ) : Type 0 where
   pub rest : List ℕ
   pub are : bytes ≡ front ++ rest
 
@@ -78,7 +77,7 @@ pub record Clear (job : Job) : Type 0 where
 pub record Sound (fill : ℕ → ℕ → Coefficient) (job : Job) : Type 0 where
   pub unrefused : Unrefused fill job
   pub loads : Loads
-  pub are : AreLoads fill (job .loads) (rowsOf (job .count)) loads
+  pub are : AreLoads fill (job .loads) (row-count (job .count)) loads
   pub bears : Bears (base-of (job .base)) loads
   pub deep : Founded job → Deep job
   pub clear : HasClearance (job .stage) → Clear job
@@ -86,9 +85,9 @@ pub record Sound (fill : ℕ → ℕ → Coefficient) (job : Job) : Type 0 where
 -- ---- the line of a check
 
 -- it shows the figure of the permitted set that it names, beside the limit; no permitted set is worse (`Printed`)
-pub record Named (fill : ℕ → ℕ → Coefficient) (job : Job) (combination : Combination) (of : Check) (line : PrintedLine) : Type 0 where
+pub record NamesSet (fill : ℕ → ℕ → Coefficient) (job : Job) (combination : Combination) (of : Check) (line : PrintedLine) : Type 0 where
   pub loads : Loads
-  pub are : AreLoads fill (job .loads) (rowsOf (job .count)) loads
+  pub are : AreLoads fill (job .loads) (row-count (job .count)) loads
   pub figure : Figure
   pub limit : ℕ
   pub set : ℕ
@@ -98,6 +97,6 @@ pub record Named (fill : ℕ → ℕ → Coefficient) (job : Job) (combination :
 
 -- ---- the jobs of a book, as it writes them
 
-abbrev pub listed : Jobs → List Written
+abbrev pub listed : Jobs → List WrittenJob
 listed none = []
 listed (js and j) = listed js ++ j ∷ []

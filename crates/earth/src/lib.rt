@@ -2,11 +2,14 @@
 // fill, and its height above the base.
 //
 // What is hard is size: the numbers of an E row are small enough for any coefficient up to 40,000, whichever table it comes from.
+pub mod table2;
+mod thrust;
+
 use kinds::Kind;
 use kinds::Numbers;
 use table2::Coefficient;
-ghost use Rattle.table2.specs.Table2.{table2-fill};
-ghost use Rattle.earth.specs.Earth.{Pressed, told};
+ghost use Rattle.earth.specs.table2.Table2.{table2-fill};
+ghost use Rattle.earth.specs.Earth.{Pressed, earth-told};
 
 // What an E row is told: the thrust toward +x in kN and its height above the base in mm, or a refusal.
 pub enum EarthAnswer {
@@ -17,9 +20,9 @@ pub enum EarthAnswer {
 
 // The thrust of an E row's fill and its height above the base.
 pub fn pressure(row: Numbers) -> EarthAnswer
-    ensures { λ r. ⌜ Pressed table2-fill row (told r) ⌝ }
+    ensures { λ r. ⌜ Pressed table2-fill row (earth-told r) ⌝ }
 {
-    if !ranges::is_ranged(Kind::E, row) {
+    if !kinds::ranges::is_ranged(Kind::E, row) {
         return EarthAnswer::OutOfRange;
     }
     match table2::look_up(row.n1.size, row.n2.size) {

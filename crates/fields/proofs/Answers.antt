@@ -1,8 +1,8 @@
--- Each promise of `src/` is met by one answer only.
+-- What `number_at` and `empty_at` promise is met by one answer only.
 use Prim.Native.Nat.{ℕ}
 use mathlib.Core.Path.{_≡_, refl, sym, ap, subst, _∙_}
 use mathlib.Core.List.{List}
-use Rattle.rfc4180.proofs.Unique.{content-unique}
+use Rattle.csv.proofs.rfc4180.Unique.{content-unique}
 use Rattle.fields.specs.Numbers.{IsNumber, IsEmpty, EntryIn, EntryAt}
 use Rattle.fields.specs.declared.Entry.{Entry}
 use Rattle.fields.specs.declared.Entered.{Entered}

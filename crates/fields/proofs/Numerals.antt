@@ -10,16 +10,17 @@ use lib.ListN.{length, getD, take, drop}
 use lib.Seq.{take-all}
 use mir.Val.{boolByte}
 use borrow.Author.Tests.{ltb-true, eqb-true, eqb-false}
-use Rattle.rfc4180.proofs.Unique.{tails}
-use Rattle.rfc4180.specs.Rfc4180.{high, Plain, none, text}
-use Rattle.digits.specs.Numerals.{Digited}
-use Rattle.digits.proofs.Numerals.{Digit, numeral-some, numeral-digit, numeral-unique}
-use Rattle.quotes.specs.Content.{Bare}
+use Rattle.arithmetic.proofs.Cases.{impossible}
+use Rattle.csv.proofs.Lists.{tails}
+use Rattle.csv.specs.rfc4180.Rfc4180.{high, Plain, none, text}
+use Rattle.fields.specs.digits.Numerals.{Digited}
+use Rattle.fields.proofs.digits.Numerals.{Digit, numeral-some, numeral-digit, numeral-unique}
+use Rattle.fields.specs.content.Content.{Bare}
 use Rattle.fields.specs.Numbers.{positive, negative, IsNumber, is-positive, is-negative, IsEmpty, EntryAt}
 use Rattle.fields.specs.declared.Entry.{Entry}
 use Rattle.fields.specs.declared.Entered.{Entered}
 use Rattle.fields.specs.declared.Entered.the-variants.{Is, Wrong}
-use Rattle.quotes.proofs.Contents.{bare-field, content-none}
+use Rattle.fields.proofs.content.Contents.{bare-field, content-none}
 
 -- no number begins with a minus but a negative one
 minus-digits : {s : List ℕ} {n : ℕ} → Digited s n → getD s 0 0 ≡ 0x2D → ⊥
@@ -62,7 +63,7 @@ module _ (b : List ℕ) where
   pub no-number : (m : Bool) → Signed m b → ((n : ℕ) → Digited (behind m) n → m && eqb n 0 ≡ true) → (e : Entry) → IsNumber b e → ⊥
   no-number true g w e (is-positive d q) = minus-digits d (g .1)
   no-number true g w e (is-negative {n = n} f d l q) = let h = eqb-true n 0 (w n (subst (λ (x : List ℕ). Digited x n) (tails (sym f ∙ minus-first g)) d)) in omega arith
-  no-number false g w e (is-positive {n} d q) = let h = w n (subst (λ (x : List ℕ). Digited x n) all-behind d) in let z : _≡_ {A = ℕ} 0 1 = cc in omega arith
+  no-number false g w e (is-positive {n} d q) = let h = w n (subst (λ (x : List ℕ). Digited x n) all-behind d) in impossible cc
   no-number false g w e (is-negative f d l q) = g (rw f (omega arith)) (ap (λ (x : List ℕ). getD x 0 0) f)
 
 -- a content is one number at most

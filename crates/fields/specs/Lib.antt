@@ -1,1 +1,4 @@
 pub mod Numbers
+pub mod content
+pub mod digits
+pub mod names

@@ -3,8 +3,8 @@ use Prim.Native.Nat.{ℕ, _≤_}
 use mathlib.Core.Path.{_≡_}
 use mathlib.Core.Bool.{true, false}
 use mathlib.Core.List.{List, [], _∷_}
-use Rattle.rfc4180.specs.Rfc4180.{Field}
-use Rattle.digits.specs.Numerals.{Digited}
+use Rattle.csv.specs.rfc4180.Rfc4180.{Field}
+use Rattle.fields.specs.digits.Numerals.{Digited}
 use Rattle.fields.specs.declared.Entry.{Entry}
 use Rattle.fields.specs.declared.Entered.{Entered}
 use Rattle.fields.specs.declared.Entered.the-variants.{Is, Wrong}

@@ -3,6 +3,10 @@
 // Each function takes a stretch of the lent book that starts in its middle, and its answer is exact for every stretch,
 // whether or not it is a field of RFC 4180. What is hard is that one content is one number: a minus stands before its
 // digits or nowhere, and never before a zero.
+pub mod content;
+pub mod digits;
+pub mod names;
+
 use digits::Digits;
 ghost use mathlib.Core.Path.{_≡_};
 ghost use Rattle.fields.specs.Numbers.{IsNumber, IsEmpty, absent, EntryAt};
@@ -24,12 +28,11 @@ pub enum Entered {
 pub fn number_at(raw: &[u8]) -> Entered
     ensures { λ r. ⌜ EntryAt IsNumber (now (raw .entry)) r ⌝ }
 {
-    let content = quotes::bare(raw);
+    let content = content::bare(raw);
     let minus = 0 < content.len() && content[0] == 0x2D;
     // a minus stands before the digits
     let from = minus as usize;
-    let d = digits::digits_of(&content[from..]);
-    let Digits::Worth(size) = d else {
+    let Digits::Worth(size) = digits::digits_of(&content[from..]) else {
         return Entered::Wrong;
     };
     if minus & (size == 0) {
@@ -57,7 +60,7 @@ pub fn blank_entry() -> Entry
 pub fn empty_at(raw: &[u8]) -> Entered
     ensures { λ r. ⌜ EntryAt IsEmpty (now (raw .entry)) r ⌝ }
 {
-    let content = quotes::bare(raw);
+    let content = content::bare(raw);
     if content.len() == 0 {
         return Entered::Is(blank_entry());
     }

@@ -1,17 +1,17 @@
 -- Every starred figure holds of the definitions: each by a test that is computed.
 use native.Mathlib.Nat.{not-le-of-lt}
 use lib.Dec.{lit<, lit≤}
-use Rattle.rounding.proofs.Compute.{up-test, cube-test, cube-test′}
-use Rattle.discharge.specs.Discharge.{to-500, to-5000, to-25000}
+use Rattle.arithmetic.proofs.rounding.Compute.{up-test, cube-test, cube-test′}
+use Rattle.scour.specs.discharge.Discharge.{to-500, to-5000, to-25000}
 use Rattle.earth.specs.Earth.{value}
-use Rattle.signed.specs.Whole.{worth, amount, above, below}
+use Rattle.arithmetic.specs.signed.Whole.{worth, amount, above, below}
 use Rattle.sets.specs.Sets.{bit, row}
 use Rattle.sets.specs.Totals.{counted, sum, arm, upright, push, resists, overturns, resisting, overturning}
-use Rattle.pressure.specs.Pressure.{Presses}
-use Rattle.figures.specs.Figures.{needed, pressure, pressure-either, Says, All, none, more, starred}
+use Rattle.checks.specs.ranks.Figures.{Presses}
+use Rattle.figures.specs.Figures.{needed, pressure, pressure-either, Holds, All, none, more, starred}
 use Rattle.figures.proofs.Loaded.{overturns-test}
 
-pub figures : All Says starred
+pub figures : All Holds starred
 unfolding worth amount bit row sum counted resists overturns upright push arm above below resisting overturning Presses
 figures =
     more (to-500 (lit≤ tt) (up-test _ _ _ tt))

@@ -6,21 +6,21 @@ use native.Mathlib.Omega.{arith}
 use lib.Dec.{T, ltb, ltb→lt}
 use lib.IntN.{pos, _*ℤ_}
 use lib.ListN.{replicate}
-use Rattle.rounding.proofs.Compute.{isDown, down-test}
-use Rattle.ranges.specs.Range.{value}
-use Rattle.table2.specs.Table2.{table2-fill}
-use Rattle.signed.specs.Whole.{amount}
+use Rattle.arithmetic.proofs.rounding.Compute.{is-down, down-test}
+use Rattle.kinds.specs.ranges.Range.{value}
+use Rattle.earth.specs.table2.Table2.{table2-fill}
+use Rattle.arithmetic.specs.signed.Whole.{amount}
 use Rattle.sets.specs.declared.Class.the-variants.{Permanent}
 use Rattle.sets.specs.declared.Load.{Load}
 use Rattle.sets.specs.declared.Loads.{Loads}
-use Rattle.sets.specs.Sets.{row, noLoad}
+use Rattle.sets.specs.Sets.{row, no-load}
 use Rattle.sets.specs.Totals.{plus, resisting, overturning}
 use Rattle.checks.specs.declared.Figure.the-variants.{Number}
-use Rattle.ranks.specs.Figures.{Tips}
-use Rattle.set_figures.specs.Figures.{Shows}
-use Rattle.classes.specs.Classes.{classOf, source}
-use Rattle.forces.specs.Exerts.{Forces, Exerts}
-use Rattle.loads.specs.LoadRows.{rowAt, AreLoads}
+use Rattle.checks.specs.ranks.Figures.{Tips}
+use Rattle.checks.specs.set_figures.Figures.{Shows}
+use Rattle.kinds.specs.classes.Classes.{class-of, source}
+use Rattle.loads.specs.forces.Exerts.{Forces, Exerts}
+use Rattle.loads.specs.LoadRows.{row-at, AreLoads}
 use Rattle.loads.proofs.Laying.{all-no-load}
 use Rattle.figures.specs.Figures.{dead-load, Overturns}
 
@@ -37,25 +37,25 @@ module _ (v x h y : ℕ) where
       }
 
   abbrev pub alone : Loads
-  alone = record { count = 1; loads = exerted ∷ replicate 15 noLoad }
+  alone = record { count = 1; loads = exerted ∷ replicate 15 no-load }
 
   exerts : Exerts table2-fill (dead-load v x h y) exerted
-  unfolding classOf source Forces value
+  unfolding class-of source Forces value
   exerts = record { class = refl; phase = refl; forces = record { v = refl; x = refl; h = refl; twist = refl } }
 
   are-loads : AreLoads table2-fill (dead-load v x h y ∷ []) 1 alone
-  unfolding row rowAt
+  unfolding row row-at
   are-loads = record { count = refl; whole = refl; each = each; rest = rest }
     where
-      each : (i : ℕ) → i < 1 → Exerts table2-fill (rowAt (dead-load v x h y ∷ []) i) (row alone i)
+      each : (i : ℕ) → i < 1 → Exerts table2-fill (row-at (dead-load v x h y ∷ []) i) (row alone i)
       each zero h = exerts
       each (suc i) h = absurd (omega arith)
 
-      rest : (i : ℕ) → 1 ≤ i → row alone i ≡ noLoad
+      rest : (i : ℕ) → 1 ≤ i → row alone i ≡ no-load
       rest zero h = absurd (omega arith)
       rest (suc i) h = all-no-load 15 i
 
-  pub overturns-test : (B figure : ℕ) → T (ltb 0 (overturning plus B alone 1)) → T (isDown (100 * resisting plus B alone 1) (overturning plus B alone 1) figure)
+  pub overturns-test : (B figure : ℕ) → T (ltb 0 (overturning plus B alone 1)) → T (is-down (100 * resisting plus B alone 1) (overturning plus B alone 1) figure)
       → Overturns B (dead-load v x h y) figure
   unfolding Shows Tips
   overturns-test B figure s t =

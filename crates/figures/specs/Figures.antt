@@ -3,21 +3,21 @@ use mathlib.Core.Path.{_≡_}
 use mathlib.Core.Bool.{Bool, true, false}
 use mathlib.Core.List.{List, [], _∷_}
 use Prim.Native.Nat.{ℕ}
-use Rattle.decides.specs.Decides.{Decides}
+use Rattle.arithmetic.specs.decides.Decides.{Decides}
 use Rattle.fields.specs.Numbers.{positive, absent}
 use Rattle.kinds.specs.declared.Kind.the-variants.{DL}
 use Rattle.kinds.specs.declared.Row.{Row}
-use Rattle.discharge.specs.Discharge.{FoundationDischarge}
-use Rattle.lacey.specs.Lacey.{RegimeMet, RegimeDepth, ConstrictedDepth, DepthNeeded}
-use Rattle.afflux.specs.Rules.{Afflux}
-use Rattle.table2.specs.Table2.{table2-fill}
+use Rattle.scour.specs.discharge.Discharge.{FoundationDischarge}
+use Rattle.scour.specs.lacey.Lacey.{RegimeMet, RegimeDepth, ConstrictedDepth, DepthNeeded}
+use Rattle.clearance.specs.afflux.Rules.{Afflux}
+use Rattle.earth.specs.table2.Table2.{table2-fill}
 use Rattle.earth.specs.Earth.{Pushed, push}
 use Rattle.sets.specs.declared.Loads.{Loads}
 use Rattle.checks.specs.declared.Base.{Base}
 use Rattle.checks.specs.declared.Check.the-variants.{OP}
 use Rattle.checks.specs.declared.Figure.the-variants.{Number}
-use Rattle.pressure.specs.Pressure.{PressesWhole, PressesPart, Presses}
-use Rattle.set_figures.specs.Figures.{Shows}
+use Rattle.checks.specs.ranks.Figures.{PressesWhole, PressesPart, Presses}
+use Rattle.checks.specs.set_figures.Figures.{Shows}
 use Rattle.loads.specs.LoadRows.{AreLoads}
 
 -- a DL row as it is written: V, x, H, y, in service
@@ -50,17 +50,17 @@ pub data Figure : Type 0 where
   pressure : (B L N M figure : ℕ) → Figure
   pressure-either : (B L N M figure : ℕ) → Figure
 
-abbrev pub Says : Figure → Type 0
-Says (flood Q Z Qf) = FoundationDischarge Q Z Qf
-Says (width Q W met) = Decides met (RegimeMet Q W)
-Says (depth Qf f D) = RegimeDepth Qf f D
-Says (needed D reach d) = DepthNeeded D reach d
-Says (constricted q f D) = ConstrictedDepth q f D
-Says (afflux v A a h) = Afflux v A a h
-Says (earth soil slope height length H y) = Pushed height length (table2-fill soil slope) (push H y)
-Says (overturning B v x h y figure) = Overturns B (dead-load v x h y) figure
-Says (pressure B L N M figure) = Presses B L N M (Number figure)
-Says (pressure-either B L N M figure) = PressesEither B L N M figure
+abbrev pub Holds : Figure → Type 0
+Holds (flood Q Z Qf) = FoundationDischarge Q Z Qf
+Holds (width Q W met) = Decides met (RegimeMet Q W)
+Holds (depth Qf f D) = RegimeDepth Qf f D
+Holds (needed D reach d) = DepthNeeded D reach d
+Holds (constricted q f D) = ConstrictedDepth q f D
+Holds (afflux v A a h) = Afflux v A a h
+Holds (earth soil slope height length H y) = Pushed height length (table2-fill soil slope) (push H y)
+Holds (overturning B v x h y figure) = Overturns B (dead-load v x h y) figure
+Holds (pressure B L N M figure) = Presses B L N M (Number figure)
+Holds (pressure-either B L N M figure) = PressesEither B L N M figure
 
 -- all of a list say what holds
 pub data All (P : Figure → Type 0) : List Figure → Type 0 where

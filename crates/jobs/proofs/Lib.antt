@@ -1,3 +1,3 @@
--- Laws of placing. Other crates' proofs cite them.
+-- Laws of a row's place in its job. Other crates' proofs cite them.
 pub mod Placing
 pub mod Answers

@@ -1,18 +1,18 @@
 -- What a job answers to a row, from the role of its kind and from whether the keys are the same.
 use Prim.Native.Nat.{ℕ, _<_}
-use native.Mathlib.Omega.{arith}
 use mathlib.Core.Path.{_≡_, refl, sym, ap, subst, _∙_}
 use mathlib.Core.Bool.{Bool, true, false}
-use Rattle.decides.specs.Decides.{Decides, decided}
+use Rattle.arithmetic.proofs.Cases.{impossible}
+use Rattle.arithmetic.specs.decides.Decides.{Decides, decided}
 use Rattle.kinds.specs.Table.{role}
 use Rattle.kinds.specs.declared.Role.{Role}
 use Rattle.kinds.specs.declared.Role.the-variants.{Base, Scour, Clearance, Load}
-use Rattle.keys.specs.declared.Keyed.{Keyed}
-use Rattle.placing.specs.Fits.{Fits}
-use Rattle.placing.specs.declared.Stage.{Stage}
-use Rattle.placing.proofs.Placing.{fits-map}
+use Rattle.rows.specs.declared.keys.Keyed.{Keyed}
+use Rattle.jobs.specs.stages.Fits.{Fits}
+use Rattle.jobs.specs.declared.stages.Stage.{Stage}
+use Rattle.jobs.proofs.stages.Placing.{fits-map}
 use Rattle.jobs.specs.Place.{InPlace, with-row}
-use Rattle.jobs.specs.Taking.{told, Says}
+use Rattle.jobs.specs.Taking.{take-told, TakeSays}
 use Rattle.jobs.specs.declared.Job.{Job}
 use Rattle.jobs.specs.declared.Took.{Took}
 use Rattle.jobs.specs.declared.Took.the-variants.{Started, Joined}
@@ -44,14 +44,14 @@ module _ (j : Job) (r : Keyed) (x : Role) (e : x ≡ role (r .row .kind)) (same 
       (subst (λ (y : Role). Fits y (j .stage) (j .count) (j .key ≡ r .key)) (sym e) w))
 
   -- a row in place is taken up, as its role has it
-  pub taken : Fits x (j .stage) (j .count) (same ≡ true) → (a : Took) (next : Job) → a ≡ answer-to x → next ≡ with-row x j r → Says j r (told a) next
-  taken w a next q f = subst (λ (b : Took). Says j r (told b) next) (sym q) (by x refl)
+  pub taken : Fits x (j .stage) (j .count) (same ≡ true) → (a : Took) (next : Job) → a ≡ answer-to x → next ≡ with-row x j r → TakeSays j r (take-told a) next
+  taken w a next q f = subst (λ (b : Took). TakeSays j r (take-told b) next) (sym q) (by x refl)
     where
       grew : next ≡ with-row (role (r .row .kind)) j r
       grew = f ∙ ap (λ (y : Role). with-row y j r) e
 
-      by : (y : Role) → x ≡ y → Says j r (told (answer-to x)) next
+      by : (y : Role) → x ≡ y → TakeSays j r (take-told (answer-to x)) next
       by Base h = rw (h) ((sym e ∙ h, in-place w, grew))
-      by Scour h = rw (h) ((λ b. let z : _≡_ {A = ℕ} 0 1 = cc in omega arith, in-place w, grew))
-      by Clearance h = rw (h) ((λ b. let z : _≡_ {A = ℕ} 0 1 = cc in omega arith, in-place w, grew))
-      by Load h = rw (h) ((λ b. let z : _≡_ {A = ℕ} 0 1 = cc in omega arith, in-place w, grew))
+      by Scour h = rw (h) ((λ b. impossible cc, in-place w, grew))
+      by Clearance h = rw (h) ((λ b. impossible cc, in-place w, grew))
+      by Load h = rw (h) ((λ b. impossible cc, in-place w, grew))

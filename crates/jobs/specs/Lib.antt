@@ -1,2 +1,4 @@
+pub mod Blank
 pub mod Place
 pub mod Taking
+pub mod stages

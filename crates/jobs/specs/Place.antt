@@ -2,56 +2,23 @@
 -- The next B starts the next job. .. A job is taken up row by row; a row that is refused leaves the job as it stood." The job as a value.
 use Prim.Native.Nat.{_+_}
 use mathlib.Core.Path.{_≡_}
-use lib.ListN.{set, replicate}
-use Rattle.kinds.specs.Table.{role, blank-numbers}
+use lib.ListN.{set}
+use Rattle.kinds.specs.Table.{role}
 use Rattle.kinds.specs.declared.Role.{Role}
 use Rattle.kinds.specs.declared.Role.the-variants.{Base, Scour, Clearance, Load}
-use Rattle.keys.specs.Keyed.{no-row}
-use Rattle.keys.specs.declared.Keyed.{Keyed}
+use Rattle.rows.specs.declared.keys.Keyed.{Keyed}
 use Rattle.jobs.specs.declared.Job.{Job}
-use Rattle.placing.specs.Fits.{Fits}
-use Rattle.placing.specs.declared.Stage.{Stage}
-use Rattle.placing.specs.declared.Stage.the-variants.{Unbegun, Dry, Scoured, Crossed}
+use Rattle.jobs.specs.Blank.{based}
+use Rattle.jobs.specs.stages.Fits.{Fits}
+use Rattle.jobs.specs.declared.stages.Stage.the-variants.{Dry, Scoured, Crossed}
 
 -- a row is in place behind the rows that the job has
 abbrev pub InPlace : Job → Keyed → Type 0
 InPlace j r = Fits (role (r .row .kind)) (j .stage) (j .count) (j .key ≡ r .key)
 
--- a job at a stage, with a row for its base and no other rows
-abbrev pub based : Stage → Keyed → Job
-based s r = record {
-  stage = s;
-  key = r .key;
-  base = r .row .numbers;
-  scour = blank-numbers;
-  clearance = blank-numbers;
-  count = 0;
-  loads = replicate 16 (no-row .row);
-}
-
--- no job yet, with no rows in it
-abbrev pub no-job : Job
-no-job = record {
-  stage = Unbegun;
-  key = no-row .key;
-  base = blank-numbers;
-  scour = blank-numbers;
-  clearance = blank-numbers;
-  count = 0;
-  loads = replicate 16 (no-row .row);
-}
-
 -- the job with exactly this row more; a B row is the first of the next job
 abbrev pub with-row : Role → Job → Keyed → Job
-with-row Base j r = record {
-  stage = Dry;
-  key = r .key;
-  base = r .row .numbers;
-  scour = blank-numbers;
-  clearance = blank-numbers;
-  count = 0;
-  loads = replicate 16 (no-row .row);
-}
+with-row Base j r = based Dry r
 with-row Scour j r = record {
   stage = Scoured;
   key = j .key;

@@ -3,7 +3,7 @@ use Prim.Native.Nat.{ℕ}
 use mathlib.Core.Path.{_≡_}
 use Rattle.kinds.specs.Table.{role}
 use Rattle.kinds.specs.declared.Role.the-variants.{Base}
-use Rattle.keys.specs.declared.Keyed.{Keyed}
+use Rattle.rows.specs.declared.keys.Keyed.{Keyed}
 use Rattle.jobs.specs.Place.{InPlace, grown}
 use Rattle.jobs.specs.declared.Job.{Job}
 use Rattle.jobs.specs.declared.Took.{Took}
@@ -11,21 +11,21 @@ use Rattle.jobs.specs.declared.Took.the-variants.{Started, Joined, OutOf
 use Rattle.jobs.specs.declared.Taken.{Taken}
 
 -- a row starts the next job, or joins this one, or is refused with a number
-pub data Told : Type 0 where
-  starts : Told
-  joins : Told
-  refused : ℕ → Told
+pub data TakeTold : Type 0 where
+  starts : TakeTold
+  joins : TakeTold
+  refused : ℕ → TakeTold
 
-abbrev pub told : Took → Told
-told Started = starts
-told Joined = joins
-told OutOfPlace = refused 4
+abbrev pub take-told : Took → TakeTold
+take-told Started = starts
+take-told Joined = joins
+take-told OutOfPlace = refused 4
 
 -- exactly when, and the job that comes of it: taken, with exactly that row more; refused, and the job as it stood
-abbrev pub Says : Job → Keyed → Told → Job → Type 0
-Says j r starts next = (role (r .row .kind) ≡ Base) × InPlace j r × (next ≡ grown j r)
-Says j r joins next = (role (r .row .kind) ≡ Base → ⊥) × InPlace j r × (next ≡ grown j r)
-Says j r (refused n) next = (n ≡ 4) × (InPlace j r → ⊥) × (next ≡ j)
+abbrev pub TakeSays : Job → Keyed → TakeTold → Job → Type 0
+TakeSays j r starts next = (role (r .row .kind) ≡ Base) × InPlace j r × (next ≡ grown j r)
+TakeSays j r joins next = (role (r .row .kind) ≡ Base → ⊥) × InPlace j r × (next ≡ grown j r)
+TakeSays j r (refused n) next = (n ≡ 4) × (InPlace j r → ⊥) × (next ≡ j)
 
 abbrev pub TakenIs : Job → Keyed → Taken → Type 0
-TakenIs j r t = Says j r (told (t .answer)) (t .job)
+TakenIs j r t = TakeSays j r (take-told (t .answer)) (t .job)

@@ -3,19 +3,20 @@
 //
 // The promise is exact for every value, and not only for those that a book gives: a row is taken exactly if it is in
 // place, and then the next job is this job with exactly that row more; a row that is refused leaves the job as it
-// stood. What is hard is to keep the copies of a job few: it is decided first, from what placing needs.
-use keys::Key;
-use keys::Keyed;
-use kinds::Kind;
+// stood. What is hard is to keep the copies of a job few: whether a row is in place is decided first, from what `stages` needs of it.
+pub mod stages;
+
 use kinds::Numbers;
 use kinds::Role;
 use kinds::Row;
-use placing::Stage;
+use rows::keys::Key;
+use rows::keys::Keyed;
+use stages::Stage;
 ghost use mathlib.Core.Path.{_≡_};
 ghost use Prim.Native.Nat.{_<_};
-ghost use Rattle.kinds.specs.Table.{role};
 ghost use Rattle.kinds.specs.declared.Role.the-variants.{Base, Load};
-ghost use Rattle.jobs.specs.Place.{based, no-job, with-row};
+ghost use Rattle.jobs.specs.Blank.{based, no-job};
+ghost use Rattle.jobs.specs.Place.{with-row};
 ghost use Rattle.jobs.specs.Taking.{TakenIs};
 
 // A job as it stands: its key, and the numbers of its rows, blank where it has none.
@@ -48,7 +49,7 @@ fn fresh(stage: Stage, row: Keyed) -> Job
 {
     let key = row.key;
     let base = row.row.numbers;
-    let none = keys::blank_row();
+    let none = rows::keys::blank_row();
     let blank = none.row;
     let numbers = blank.numbers;
     Job {
@@ -66,33 +67,8 @@ fn fresh(stage: Stage, row: Keyed) -> Job
 pub fn blank_job() -> Job
     ensures { λ r. ⌜ r ≡ no-job ⌝ }
 {
-    let none = keys::blank_row();
+    let none = rows::keys::blank_row();
     fresh(Stage::Unbegun, none)
-}
-
-// What a row is to its job.
-fn role_of(row: Keyed) -> Role
-    ensures { λ r. ⌜ r ≡ role (row .row .kind) ⌝ }
-{
-    let load = row.row;
-    let kind = load.kind;
-    match kind {
-        Kind::B => Role::Base,
-        Kind::S => Role::Scour,
-        Kind::C => Role::Clearance,
-        Kind::E
-        | Kind::DL
-        | Kind::EP
-        | Kind::LL
-        | Kind::LF
-        | Kind::CF
-        | Kind::WC
-        | Kind::BU
-        | Kind::TM
-        | Kind::EX
-        | Kind::WL
-        | Kind::SF => Role::Load,
-    }
 }
 
 // The job with exactly this row more, which is no B row.
@@ -138,12 +114,14 @@ impl Job {
     pub fn take(self, row: Keyed) -> Taken
         ensures { λ r. ⌜ TakenIs self row r ⌝ }
     {
-        let role = role_of(row);
+        let given = row.row;
+        let kind = given.kind;
+        let role = kinds::role_of(kind);
         let stage = self.stage;
         let key = self.key;
         let other = row.key;
-        let same = keys::same_key(key, other);
-        let good = placing::fits(role, stage, self.count, same);
+        let same = rows::keys::same_key(key, other);
+        let good = stages::fits(role, stage, self.count, same);
         let mut answer = Took::OutOfPlace;
         let mut job = self;
         if good {

@@ -1,10 +1,14 @@
 // Document 01's table of kinds, as data: the form (refusal 3) and the ranges (refusal 11) of a row's numbers.
 //
 // What the kinds decide is stated in one table (`specs/Table.antt`): which columns are filled and in what range, what a row of the kind is
-// to its job, and where its phase stands. What is hard is only that the code's copy of the columns is the definition's.
+// to its job, and where its phase stands. The code's copy of it is shown to be the definition's.
+pub mod classes;
+pub mod letters;
+pub mod ranges;
+
 use fields::Entry;
 ghost use mathlib.Core.Path.{_≡_};
-ghost use Rattle.kinds.specs.Table.{columns};
+ghost use Rattle.kinds.specs.Table.{columns, role, phase};
 
 // The kinds of a row: the base, the two river rows, earth pressure, and the load rows that give their own forces.
 pub enum Kind {
@@ -133,4 +137,34 @@ pub fn columns_of(kind: Kind) -> Columns
         | Kind::WL
         | Kind::SF => FORCE_COLUMNS,
     }
+}
+
+// What a row of a kind is to its job.
+pub fn role_of(kind: Kind) -> Role
+    ensures { λ r. ⌜ r ≡ role kind ⌝ }
+{
+    match kind {
+        Kind::B => Role::Base,
+        Kind::S => Role::Scour,
+        Kind::C => Role::Clearance,
+        Kind::E
+        | Kind::DL
+        | Kind::EP
+        | Kind::LL
+        | Kind::LF
+        | Kind::CF
+        | Kind::WC
+        | Kind::BU
+        | Kind::TM
+        | Kind::EX
+        | Kind::WL
+        | Kind::SF => Role::Load,
+    }
+}
+
+// The phase of a load row, which stands where its kind has it.
+pub fn phase_of(row: Row) -> u32
+    ensures { λ r. ⌜ r ≡ phase (row .kind) (row .numbers) ⌝ }
+{
+    row.numbers.n5.size
 }

@@ -14,10 +14,8 @@ use Rattle.lines.specs.declared.Line.the-variants as line
 use Rattle.lines.specs.declared.Lines.{Lines}
 use Rattle.lines.specs.declared.Verdict.{Verdict}
 use Rattle.lines.specs.declared.Verdict.the-variants.{Accepted, NotAccepted, Refused}
-use Rattle.lines.specs.declared.DepthLine.{DepthLine}
-use Rattle.lines.specs.declared.DepthLine.the-variants as depth
-use Rattle.lines.specs.declared.ClearLine.{ClearLine}
-use Rattle.lines.specs.declared.ClearLine.the-variants as clear
+use Rattle.lines.specs.declared.RiverLine.{RiverLine}
+use Rattle.lines.specs.declared.RiverLine.the-variants as river
 use Rattle.lines.specs.declared.Answer.{Answer}
 
 -- "line": VERDICT; a combination and a check, as in I-OP; SC; CL
@@ -37,25 +35,25 @@ pub data Value : Type 0 where
   minus : ℕ → Value
 
 -- "limit" and "set": empty, or a number
-pub data Cell : Type 0 where
-  empty : Cell
-  holds : ℕ → Cell
+pub data NumberField : Type 0 where
+  empty : NumberField
+  holds : ℕ → NumberField
 
 -- "Y or N": empty in VERDICT
-pub data Mark : Type 0 where
-  unmarked : Mark
-  Y : Mark
-  N : Mark
+pub data YesOrNo : Type 0 where
+  unmarked : YesOrNo
+  Y : YesOrNo
+  N : YesOrNo
 
 -- "Seven fields: member, job, line, value, limit, set, Y or N": the five behind the key
 pub record PrintedLine : Type 0 where
   pub name : LineName
   pub value : Value
-  pub limit : Cell
-  pub set : Cell
-  pub mark : Mark
+  pub limit : NumberField
+  pub set : NumberField
+  pub mark : YesOrNo
 
-unfoldable pub mark-of : Bool → Mark
+unfoldable pub mark-of : Bool → YesOrNo
 mark-of true = Y
 mark-of false = N
 
@@ -73,11 +71,6 @@ unfoldable pub verdict-value : Verdict → Value
 verdict-value Accepted = accepted
 verdict-value NotAccepted = not-accepted
 verdict-value (Refused n) = number n
-
--- the verdict of a job that is not refused, by whether every line after it says Y
-abbrev pub verdict-by : Bool → Verdict
-verdict-by true = Accepted
-verdict-by false = NotAccepted
 
 -- "VERDICT comes first, with A, N or the refusal and the rest empty."
 unfoldable pub verdict-line : Verdict → PrintedLine
@@ -98,17 +91,11 @@ combination-lines combination lines =
     ++ (check-line combination PR (lines .pr)
     ++ check-line combination RK (lines .rk))))
 
--- "SC (.. value needed, limit found)". "SC and CL have no set."
-unfoldable pub depth-line : DepthLine → List PrintedLine
-depth-line depth.Missing = []
-depth-line (depth.Shown needed found passes) =
-    record { name = SC; value = number needed; limit = holds found; set = empty; mark = mark-of passes } ∷ []
-
--- "CL (.. value underside - flood - afflux)", limit the clearance needed
-unfoldable pub clear-line : ClearLine → List PrintedLine
-clear-line clear.Missing = []
-clear-line (clear.Shown below size needed passes) =
-    record { name = CL; value = signed-value below size; limit = holds needed; set = empty; mark = mark-of passes } ∷ []
+-- "SC (.. value needed, limit found)", "CL (.. value underside - flood - afflux)", limit the clearance needed. "SC and CL have no set."
+unfoldable pub river-line : LineName → RiverLine → List PrintedLine
+river-line name river.Missing = []
+river-line name (river.Shown below size limit passes) =
+    record { name = name; value = signed-value below size; limit = holds limit; set = empty; mark = mark-of passes } ∷ []
 
 -- "Then for each checked combination, I to IV, .. SC .., CL"
 unfoldable pub later-lines : Answer → List PrintedLine
@@ -117,8 +104,8 @@ later-lines answer =
     ++ (combination-lines II (answer .two)
     ++ (combination-lines III (answer .three)
     ++ (combination-lines IV (answer .four)
-    ++ (depth-line (answer .depth)
-    ++ clear-line (answer .clear)))))
+    ++ (river-line SC (answer .depth)
+    ++ river-line CL (answer .clear)))))
 
 -- "A refused job has only VERDICT."
 unfoldable pub unless-refused : Verdict → List PrintedLine → List PrintedLine

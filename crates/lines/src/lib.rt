@@ -1,11 +1,12 @@
 // The answer of a job, by value, and the lines that document 01, The printed answer, gives it.
 //
-// These are types, the lines of a combination that has none, A or N of a job that is not refused, and which verdict stands
-// alone: `worst` gives the lines of a combination, `waters` the two lines of the river, and `verdicts` whether they all say Y.
-// What is hard is their order, which `specs/` states once as a list, for the text and for the demands.
+// `worst` gives the lines of a combination, `answer` those of the river, and `verdicts` here whether they all say Y. What is hard is
+// their order, which `specs/` states once as a list, for the text and for the demands.
+pub mod verdicts;
+
 use checks::Figure;
 ghost use mathlib.Core.Path.{_≡_};
-ghost use Rattle.lines.specs.Lines.{verdict-by, no-lines, Alone};
+ghost use Rattle.lines.specs.Lines.{no-lines, Alone};
 
 // The line of a check: value, limit, set, and whether it says Y.
 pub enum Line {
@@ -34,23 +35,14 @@ pub enum Verdict {
     Refused(u8),
 }
 
-// SC: the depth needed and the foundation depth found, in mm.
-pub enum DepthLine {
-    Missing,
-    Shown {
-        needed: u64,
-        found: u64,
-        passes: bool,
-    },
-}
-
-// CL: underside - flood - afflux by sign and size, and the clearance needed, in mm.
-pub enum ClearLine {
+// SC or CL: the value by its sign and size and the limit, in mm, and whether it says Y. Of SC the value is the depth needed, and the limit
+// the foundation depth found; of CL underside - flood - afflux, and the clearance needed.
+pub enum RiverLine {
     Missing,
     Shown {
         minus: bool,
         size: u64,
-        needed: u64,
+        limit: u64,
         passes: bool,
     },
 }
@@ -62,8 +54,8 @@ pub struct Answer {
     pub two: Lines,
     pub three: Lines,
     pub four: Lines,
-    pub depth: DepthLine,
-    pub clear: ClearLine,
+    pub depth: RiverLine,
+    pub clear: RiverLine,
 }
 
 // The lines of a combination that is not checked (document 01, Load sets), and of a refused job.
@@ -79,23 +71,12 @@ pub fn no_lines() -> Lines
     }
 }
 
-// A where every line after VERDICT says Y, N where not.
-pub fn verdict_of(yes: bool) -> Verdict
-    ensures { λ r. ⌜ r ≡ verdict-by yes ⌝ }
-{
-    match yes {
-        true => Verdict::Accepted,
-        false => Verdict::NotAccepted,
-    }
-}
-
 // Whether VERDICT stands alone.
 pub fn stands_alone(verdict: Verdict) -> bool
     ensures { λ r. ⌜ Alone r verdict ⌝ }
 {
     match verdict {
-        Verdict::Accepted => false,
-        Verdict::NotAccepted => false,
+        Verdict::Accepted | Verdict::NotAccepted => false,
         Verdict::Refused(_) => true,
     }
 }

@@ -1,49 +1,36 @@
--- What 11, 15 and 16 ask of the rows passed, by what they ask of one row more.
+-- What 11, 15 and 16 ask of the rows passed, with their loads, by what one row more is told.
 use borrow.Author.Count.{below-more}
 use native.Mathlib.Omega.{arith}
 use native.Mathlib.Numerals.{add-one}
-use mathlib.Core.Path.{_≡_, refl}
-use mathlib.Core.Bool.{Bool, not, _&&_}
+use mathlib.Core.Path.{_≡_, refl, sym, _∙_, ap, ap₂, subst}
+use mathlib.Core.Bool.{Bool, true, false}
 use mathlib.Core.List.{List}
 use Prim.Native.Nat.{ℕ, _+_, _≤_, _<_}
-use Rattle.decides.specs.Decides.{Decides, decides-same, decides-both, decides-not}
+use lib.ListN.{length, set, length-set}
+use Rattle.arithmetic.specs.decides.Decides.{Decides, decides-same}
+use Rattle.arithmetic.proofs.Cases.{impossible}
 use Rattle.kinds.specs.declared.Row.{Row}
-use Rattle.ranges.specs.Range.{Ranged}
-use Rattle.table2.specs.declared.Coefficient.{Coefficient}
+use Rattle.kinds.specs.ranges.Range.{Ranged}
+use Rattle.kinds.specs.classes.Classes.{class-of, optional}
+use Rattle.earth.specs.declared.table2.Coefficient.{Coefficient}
 use Rattle.sets.specs.declared.Class.{Class}
 use Rattle.sets.specs.declared.Class.the-variants.{Permanent, Free, Wind, Earthquake}
-use Rattle.classes.specs.Classes.{classOf, optional}
-use Rattle.blanks.specs.Blank.{BlankThere}
-use Rattle.loads.specs.LoadRows.{rowAt, AllRanged, NoneBlank, optionals}
+use Rattle.sets.specs.declared.Load.{Load}
+use Rattle.sets.specs.Sets.{no-load}
+use Rattle.loads.specs.forces.Blank.{BlankThere}
+use Rattle.loads.specs.forces.Exerted.{LoadOf}
+use Rattle.loads.specs.declared.forces.RowLoad.the-variants.{OutOfRange, NoCoefficient, Exerted}
+use Rattle.loads.specs.LoadRows.{row-at, AllRanged, NoneBlank, optionals}
+use Rattle.loads.specs.Asking.{AskedIs}
+use Rattle.loads.proofs.forces.Exerting.{blank-ranged}
+use Rattle.loads.proofs.Laying.{Laid, laid-none, laid-more, laid-all}
 
-decides-next : (P : ℕ → Type 0) (n : ℕ) (r s : Bool) → Decides r ((i : ℕ) → i < n → P i) → Decides s (P n) → Decides (r && s) ((i : ℕ) → i < n + 1 → P i)
-decides-next P n r s a b =
-    decides-same (r && s) (λ w. below-more P n (w .0) (w .1)) (λ all. ((λ i h. all i (omega arith)), all n (omega arith))) (decides-both _ _ r s a b)
+-- what holds of the rows up to n, with one row more of which it holds, or does not
+decides-more : (P : ℕ → Type 0) (n : ℕ) (r : Bool) → Decides r ((i : ℕ) → i < n → P i) → P n → Decides r ((i : ℕ) → i < n + 1 → P i)
+decides-more P n r a p = decides-same r (λ all. below-more P n all p) (λ all i h. all i (omega arith)) a
 
-pub ranged-none : (rows : List Row) → AllRanged rows 0
-unfolding AllRanged
-ranged-none rows = λ i h. absurd (omega arith)
-
-pub ranged-next : (rows : List Row) (n : ℕ) (r s : Bool) → Decides r (AllRanged rows n) → Decides s (Ranged ((rowAt rows n) .kind) ((rowAt rows n) .numbers)) → Decides (r && s) (AllRanged rows (n + 1))
-unfolding AllRanged
-ranged-next rows n r s a b = decides-next (λ i. Ranged ((rowAt rows i) .kind) ((rowAt rows i) .numbers)) n r s a b
-
-module _ (fill : ℕ → ℕ → Coefficient) where
-  pub filled-none : (rows : List Row) → NoneBlank fill rows 0
-  unfolding NoneBlank
-  filled-none rows = λ i h. absurd (omega arith)
-
-  pub filled-next : (rows : List Row) (n : ℕ) (r s : Bool) → Decides r (NoneBlank fill rows n) → Decides s (BlankThere fill (rowAt rows n)) → Decides (r && not s) (NoneBlank fill rows (n + 1))
-  unfolding NoneBlank
-  filled-next rows n r s a b = decides-next (λ i. BlankThere fill (rowAt rows i) → ⊥) n r (not s) a (decides-not _ s b)
-
-pub optional-none : (rows : List Row) → 0 ≡ optionals rows 0
-unfolding optionals
-optional-none rows = refl
-
-pub optional-next : (rows : List Row) (n : ℕ) → optionals rows (n + 1) ≡ optionals rows n + optional (classOf ((rowAt rows n) .kind))
-unfolding optionals
-optional-next rows n = rw add-one
+not-more : (P : ℕ → Type 0) (n : ℕ) → (P n → ⊥) → ((i : ℕ) → i < n + 1 → P i) → ⊥
+not-more P n h all = h (all n (omega arith))
 
 pub optional-low : (c : Class) → optional c ≤ 1
 unfolding optional
@@ -51,3 +38,54 @@ optional-low Permanent = omega arith
 optional-low Free = omega arith
 optional-low Wind = omega arith
 optional-low Earthquake = omega arith
+
+-- the rows passed: what was asked of them, and, as long as none was refused, how many are optional, and their loads
+pub record Passed (fill : ℕ → ℕ → Coefficient) (rows : List Row) (n : ℕ) (in-range unblank : Bool) (count : ℕ) (loads : List Load) : Type 0 where
+  pub size : length loads ≡ 16
+  pub ranged : Decides in-range (AllRanged rows n)
+  pub filled : Decides unblank (NoneBlank fill rows n)
+  pub optional : in-range ≡ true → unblank ≡ true → count ≡ optionals rows n
+  pub laid : in-range ≡ true → unblank ≡ true → Laid fill rows n loads
+
+module _ (fill : ℕ → ℕ → Coefficient) (rows : List Row) where
+  pub passed-none : {loads : List Load} → Laid fill rows 0 loads → Passed fill rows 0 true true 0 loads
+  unfolding AllRanged NoneBlank optionals Laid
+  passed-none l =
+      record { size = l .0; ranged = λ i h. absurd (omega arith); filled = λ i h. absurd (omega arith); optional = λ _ _. refl; laid = λ _ _. l }
+
+  module _ (n : ℕ) {ranged filled : Bool} {count : ℕ} {loads : List Load} (p : Passed fill rows n ranged filled count loads) where
+    pub passed-out : LoadOf fill (row-at rows n) OutOfRange → Passed fill rows (n + 1) false filled count loads
+    unfolding LoadOf AllRanged NoneBlank
+    passed-out t =
+        record {
+          size = p .size;
+          ranged = not-more (λ i. Ranged ((row-at rows i) .kind) ((row-at rows i) .numbers)) n t;
+          filled = decides-more (λ i. BlankThere fill (row-at rows i) → ⊥) n filled (p .filled) (λ b. t (blank-ranged fill (row-at rows n) b));
+          optional = λ e _. impossible cc;
+          laid = λ e _. impossible cc;
+        }
+
+    pub passed-blank : LoadOf fill (row-at rows n) NoCoefficient → Passed fill rows (n + 1) ranged false count loads
+    unfolding LoadOf AllRanged NoneBlank
+    passed-blank t =
+        record {
+          size = p .size;
+          ranged = decides-more (λ i. Ranged ((row-at rows i) .kind) ((row-at rows i) .numbers)) n ranged (p .ranged) (t .0);
+          filled = not-more (λ i. BlankThere fill (row-at rows i) → ⊥) n (λ h. h (t .1));
+          optional = λ _ e. impossible cc;
+          laid = λ _ e. impossible cc;
+        }
+
+    pub passed-load : (load : Load) → n < 16 → LoadOf fill (row-at rows n) (Exerted load) → Passed fill rows (n + 1) ranged filled (count + optional (load .class)) (set loads n load)
+    unfolding LoadOf AllRanged NoneBlank optionals
+    passed-load load h t =
+        record {
+          size = length-set loads n load ∙ p .size;
+          ranged = decides-more (λ i. Ranged ((row-at rows i) .kind) ((row-at rows i) .numbers)) n ranged (p .ranged) (t .0);
+          filled = decides-more (λ i. BlankThere fill (row-at rows i) → ⊥) n filled (p .filled) (t .1);
+          optional = λ e f. ap₂ (λ (x y : ℕ). x + y) (p .optional e f) (ap optional (t .2 .class)) ∙ next;
+          laid = λ e f. laid-more fill rows n loads h (p .laid e f) (t .2);
+        }
+      where
+        next : optionals rows n + optional (class-of ((row-at rows n) .kind)) ≡ optionals rows (n + 1)
+        next = rw add-one

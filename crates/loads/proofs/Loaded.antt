@@ -1,24 +1,24 @@
 -- A row exerts one load, and the rows of a job one table of loads.
 use mathlib.Core.Path.{_≡_, sym, _∙_, ap₂, subst₂}
 use mathlib.Core.List.{List}
-use Prim.Native.Nat.{ℕ, _<_}
+use Prim.Native.Nat.{ℕ}
 use native.Mathlib.Omega.{arith}
 use native.Mathlib.Decide.{decLt}
-use lib.ListN.{getD}
 use lib.Seq.{ext-getD}
+use Rattle.arithmetic.proofs.Cases.{by-cases}
 use Rattle.kinds.specs.declared.Row.{Row}
-use Rattle.table2.specs.declared.Coefficient.{Coefficient}
+use Rattle.earth.specs.declared.table2.Coefficient.{Coefficient}
 use Rattle.earth.specs.Earth as earth
 use Rattle.earth.proofs.Pressures.{pressed-one}
 use Rattle.sets.specs.declared.Load.{Load}
 use Rattle.sets.specs.declared.Loads.{Loads}
-use Rattle.sets.specs.Sets.{noLoad, row}
-use Rattle.classes.specs.declared.Source.{Source}
-use Rattle.classes.specs.declared.Source.the-variants.{Absent, Earth, Written}
-use Rattle.classes.specs.Classes.{source}
-use Rattle.forces.specs.Exerts.{EarthLoad, Forces, Exerts}
-use Rattle.forces.proofs.Exerting.{same-load}
-use Rattle.loads.specs.LoadRows.{rowAt, AreLoads}
+use Rattle.sets.specs.Sets.{no-load, row}
+use Rattle.kinds.specs.declared.classes.Source.{Source}
+use Rattle.kinds.specs.declared.classes.Source.the-variants.{Absent, Earth, Written}
+use Rattle.kinds.specs.classes.Classes.{source}
+use Rattle.loads.specs.forces.Exerts.{EarthLoad, Forces, Exerts}
+use Rattle.loads.proofs.forces.Exerting.{same-load}
+use Rattle.loads.specs.LoadRows.{row-at, AreLoads}
 
 -- ---- a row exerts one load
 same-push : {H y G z : ℕ} → earth.push H y ≡ earth.push G z → (H ≡ G) × (y ≡ z)
@@ -48,8 +48,6 @@ module _ (fill : ℕ → ℕ → Coefficient) (rows : List Row) (n : ℕ) where
   unfolding row
   loads-one a b p q =
       ap₂ (λ (m : ℕ) (l : List Load). record { count = m; loads = l }) (p .count ∙ sym (q .count))
-      (ext-getD noLoad (a .loads) (b .loads) (p .whole ∙ sym (q .whole)) (λ i h. go i (decLt i n)))
-    where
-      go : (i : ℕ) → Dec (i < n) → getD (a .loads) i noLoad ≡ getD (b .loads) i noLoad
-      go i (yes h) = exerts-one fill (rowAt rows i) _ _ (p .each i h) (q .each i h)
-      go i (no h) = p .rest i (omega arith) ∙ sym (q .rest i (omega arith))
+      (ext-getD no-load (a .loads) (b .loads) (p .whole ∙ sym (q .whole)) (λ i _. by-cases (decLt i n)
+      (λ h. exerts-one fill (row-at rows i) _ _ (p .each i h) (q .each i h))
+      (λ h. p .rest i (omega arith) ∙ sym (q .rest i (omega arith)))))

@@ -1,2 +1,4 @@
 pub mod Taken
 pub mod LoadRows
+pub mod Asking
+pub mod forces

@@ -6,34 +6,34 @@ use lib.ListN.{getD, length}
 use Rattle.kinds.specs.declared.Kind.the-variants.{B}
 use Rattle.kinds.specs.declared.Row.{Row}
 use Rattle.kinds.specs.Table.{blank-numbers}
-use Rattle.ranges.specs.Range.{Ranged}
-use Rattle.table2.specs.declared.Coefficient.{Coefficient}
+use Rattle.kinds.specs.ranges.Range.{Ranged}
+use Rattle.earth.specs.declared.table2.Coefficient.{Coefficient}
 use Rattle.sets.specs.declared.Loads.{Loads}
-use Rattle.sets.specs.Sets.{row, noLoad}
-use Rattle.classes.specs.Classes.{classOf, optional}
-use Rattle.blanks.specs.Blank.{BlankThere}
-use Rattle.forces.specs.Exerts.{Exerts}
+use Rattle.sets.specs.Sets.{row, no-load}
+use Rattle.kinds.specs.classes.Classes.{class-of, optional}
+use Rattle.loads.specs.forces.Blank.{BlankThere}
+use Rattle.loads.specs.forces.Exerts.{Exerts}
 
 -- row i, from 0, of the job's load rows; past the last an empty one
-unfoldable pub rowAt : List Row → ℕ → Row
-rowAt rows i = getD rows i (record { kind = B; numbers = blank-numbers })
+unfoldable pub row-at : List Row → ℕ → Row
+row-at rows i = getD rows i (record { kind = B; numbers = blank-numbers })
 
 -- 11, a number out of range
 unfoldable pub AllRanged : List Row → ℕ → Type 0
-AllRanged rows n = (i : ℕ) → i < n → Ranged ((rowAt rows i) .kind) ((rowAt rows i) .numbers)
+AllRanged rows n = (i : ℕ) → i < n → Ranged ((row-at rows i) .kind) ((row-at rows i) .numbers)
 
 -- 15, Table 2 is blank there
 unfoldable pub NoneBlank : (ℕ → ℕ → Coefficient) → List Row → ℕ → Type 0
-NoneBlank fill rows n = (i : ℕ) → i < n → BlankThere fill (rowAt rows i) → ⊥
+NoneBlank fill rows n = (i : ℕ) → i < n → BlankThere fill (row-at rows i) → ⊥
 
 -- 16, more than 12 optional load rows
 unfoldable pub optionals : List Row → ℕ → ℕ
 optionals rows zero = 0
-optionals rows (suc n) = optionals rows n + optional (classOf ((rowAt rows n) .kind))
+optionals rows (suc n) = optionals rows n + optional (class-of ((row-at rows n) .kind))
 
 -- the loads of the first n rows, and no others
 pub record AreLoads (fill : ℕ → ℕ → Coefficient) (rows : List Row) (n : ℕ) (loads : Loads) : Type 0 where
   pub count : loads .count ≡ n
   pub whole : length (loads .loads) ≡ 16
-  pub each : (i : ℕ) → i < n → Exerts fill (rowAt rows i) (row loads i)
-  pub rest : (i : ℕ) → n ≤ i → row loads i ≡ noLoad
+  pub each : (i : ℕ) → i < n → Exerts fill (row-at rows i) (row loads i)
+  pub rest : (i : ℕ) → n ≤ i → row loads i ≡ no-load

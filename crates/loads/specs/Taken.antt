@@ -6,50 +6,50 @@ use lib.Dec.{ltb}
 use Prim.Native.Nat.{ℕ, _≤_, _<_}
 use lib.ListN.{replicate}
 use Rattle.kinds.specs.declared.Row.{Row}
-use Rattle.table2.specs.declared.Coefficient.{Coefficient}
+use Rattle.earth.specs.declared.table2.Coefficient.{Coefficient}
 use Rattle.sets.specs.declared.Loads.{Loads}
-use Rattle.sets.specs.Sets.{noLoad}
+use Rattle.sets.specs.Sets.{no-load}
 use Rattle.loads.specs.LoadRows.{AllRanged, NoneBlank, optionals, AreLoads}
-use Rattle.loads.specs.declared.Answer.{Answer}
-use Rattle.loads.specs.declared.Answer.the-variants.{OutOfRange, NoCoefficient, TooMany, Given}
-use Rattle.loads.specs.declared.Taken.{Taken}
+use Rattle.loads.specs.declared.LoadsAnswer.{LoadsAnswer}
+use Rattle.loads.specs.declared.LoadsAnswer.the-variants.{OutOfRange, NoCoefficient, TooMany, Given}
+use Rattle.loads.specs.declared.LoadsRead.{LoadsRead}
 
 -- an answer in the paper's numbers
-pub data Told : Type 0 where
-  refused : ℕ → Told
-  given : Loads → Told
+pub data LoadsTold : Type 0 where
+  refused : ℕ → LoadsTold
+  given : Loads → LoadsTold
 
-unfoldable pub toldBy : Answer → Loads → Told
-toldBy OutOfRange loads = refused 11
-toldBy NoCoefficient loads = refused 15
-toldBy TooMany loads = refused 16
-toldBy Given loads = given loads
+unfoldable pub loads-told-by : LoadsAnswer → Loads → LoadsTold
+loads-told-by OutOfRange loads = refused 11
+loads-told-by NoCoefficient loads = refused 15
+loads-told-by TooMany loads = refused 16
+loads-told-by Given loads = given loads
 
-unfoldable pub told : Taken → Told
-unfolding toldBy
-told t = toldBy (t .answer) (t .loads)
+unfoldable pub loads-told : LoadsRead → LoadsTold
+unfolding loads-told-by
+loads-told t = loads-told-by (t .answer) (t .loads)
 
-pub data Says (fill : ℕ → ℕ → Coefficient) (rows : List Row) (n : ℕ) : Told → Type 0 where
-  out-of-range : (AllRanged rows n → ⊥) → Says fill rows n (refused 11)
-  blank : AllRanged rows n → (NoneBlank fill rows n → ⊥) → Says fill rows n (refused 15)
-  too-many : AllRanged rows n → NoneBlank fill rows n → 12 < optionals rows n → Says fill rows n (refused 16)
-  loaded : {loads : Loads} → AllRanged rows n → NoneBlank fill rows n → optionals rows n ≤ 12 → AreLoads fill rows n loads → Says fill rows n (given loads)
+pub data LoadsSays (fill : ℕ → ℕ → Coefficient) (rows : List Row) (n : ℕ) : LoadsTold → Type 0 where
+  out-of-range : (AllRanged rows n → ⊥) → LoadsSays fill rows n (refused 11)
+  blank : AllRanged rows n → (NoneBlank fill rows n → ⊥) → LoadsSays fill rows n (refused 15)
+  too-many : AllRanged rows n → NoneBlank fill rows n → 12 < optionals rows n → LoadsSays fill rows n (refused 16)
+  loaded : {loads : Loads} → AllRanged rows n → NoneBlank fill rows n → optionals rows n ≤ 12 → AreLoads fill rows n loads → LoadsSays fill rows n (given loads)
 
 -- the first `count` of the rows, at most 16
-unfoldable pub rowsOf : ℕ → ℕ
-rowsOf count = cond (ltb 16 count) 16 count
+unfoldable pub row-count : ℕ → ℕ
+row-count count = cond (ltb 16 count) 16 count
 
 -- no loads: what stands beside a refusal
-unfoldable pub noLoads : Loads
-noLoads = record { count = 0; loads = replicate 16 noLoad }
+unfoldable pub no-loads : Loads
+no-loads = record { count = 0; loads = replicate 16 no-load }
 
-unfoldable pub Beside : Answer → Loads → Type 0
-Beside OutOfRange loads = loads ≡ noLoads
-Beside NoCoefficient loads = loads ≡ noLoads
-Beside TooMany loads = loads ≡ noLoads
+unfoldable pub Beside : LoadsAnswer → Loads → Type 0
+Beside OutOfRange loads = loads ≡ no-loads
+Beside NoCoefficient loads = loads ≡ no-loads
+Beside TooMany loads = loads ≡ no-loads
 Beside Given loads = Unit {0}
 
 -- the whole answer
-pub record Answers (fill : ℕ → ℕ → Coefficient) (rows : List Row) (count : ℕ) (taken : Taken) : Type 0 where
-  pub says : Says fill rows (rowsOf count) (told taken)
+pub record LoadsAnswered (fill : ℕ → ℕ → Coefficient) (rows : List Row) (count : ℕ) (taken : LoadsRead) : Type 0 where
+  pub says : LoadsSays fill rows (row-count count) (loads-told taken)
   pub beside : Beside (taken .answer) (taken .loads)

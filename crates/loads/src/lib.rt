@@ -1,19 +1,21 @@
 // The loads of a job's load rows, or their refusal (document 01, refusals 11, 15 and 16 of a job).
 //
-// Everything above sees loads and no rows. Each question is over the first n rows, and so is a loop. What is hard is that past the rows of
-// the job there stands no load, and the order of the refusals, which is over all the rows and by number.
+// Everything above sees loads and no rows. One loop asks each row once. What is hard is the order of the refusals, which is over all the
+// rows and by number, and that past the rows of the job there stands no load.
+mod forces;
+
+use forces::RowLoad;
 use kinds::Row;
 use sets::Loads;
 ghost use mathlib.Core.Path.{_≡_};
 ghost use Prim.Native.Nat.{_≤_};
-ghost use Rattle.decides.specs.Decides.{Decides};
-ghost use Rattle.table2.specs.Table2.{table2-fill};
-ghost use Rattle.loads.specs.LoadRows.{AllRanged, NoneBlank, optionals, AreLoads};
-ghost use Rattle.loads.specs.Taken.{noLoads, rowsOf, Answers};
+ghost use Rattle.earth.specs.table2.Table2.{table2-fill};
+ghost use Rattle.loads.specs.Taken.{no-loads, row-count, LoadsAnswered};
+ghost use Rattle.loads.specs.Asking.{AskedIs};
 
 // What the load rows are told: refusal 11 (a number out of range), 15 (Table 2 blank) or 16 (more than 12 optional rows), in that
 // order over all of them; or the loads.
-pub enum Answer {
+pub enum LoadsAnswer {
     OutOfRange,
     NoCoefficient,
     TooMany,
@@ -21,22 +23,23 @@ pub enum Answer {
 }
 
 // The answer, and the loads where they are given.
-pub struct Taken {
-    pub answer: Answer,
+pub struct LoadsRead {
+    pub answer: LoadsAnswer,
     pub loads: Loads,
 }
 
 // What 11, 15 and 16 ask of rows: whether every number is in its range, whether Table 2 is filled for each that asks it, and how many
-// rows are optional.
+// rows are optional; and the loads of the rows. The last two count where the first two say yes.
 struct Asked {
     ranged: bool,
     filled: bool,
     optional: u64,
+    loads: Loads,
 }
 
 // No loads.
 fn no_loads() -> Loads
-    ensures { λ r. ⌜ r ≡ noLoads ⌝ }
+    ensures { λ r. ⌜ r ≡ no-loads ⌝ }
 {
     let none = sets::no_load();
     let loads = [none; 16];
@@ -45,7 +48,7 @@ fn no_loads() -> Loads
 
 // The count of load rows that is looked at: the count given, at most the 16 that a job may have (document 01, the job book).
 fn rows_of(count: usize) -> usize
-    ensures { λ r. ⌜ (r ≡ rowsOf count) × (r ≤ 16) ⌝ }
+    ensures { λ r. ⌜ (r ≡ row-count count) × (r ≤ 16) ⌝ }
 {
     if 16 < count {
         return 16;
@@ -53,80 +56,66 @@ fn rows_of(count: usize) -> usize
     count
 }
 
-// What 11, 15 and 16 ask of the first n rows.
+// What 11, 15 and 16 ask of the first n rows, and their loads.
 fn asked_of(rows: [Row; 16], n: usize) -> Asked
     requires { ⌜ n ≤ 16 ⌝ }
-    ensures { λ r. ⌜ Decides (r .ranged) (AllRanged rows n) ⌝ }
-    ensures { λ r. ⌜ Decides (r .filled) (NoneBlank table2-fill rows n) ⌝ }
-    ensures { λ r. ⌜ r .optional ≡ optionals rows n ⌝ }
+    ensures { λ r. ⌜ AskedIs table2-fill rows n r ⌝ }
 {
+    let none = sets::no_load();
+    let mut loads = [none; 16];
     let mut ranged = true;
     let mut filled = true;
     let mut optional: u64 = 0;
     let mut i: usize = 0;
     while i < n {
         let row = rows[i];
-        let kind = row.kind;
-        let numbers = row.numbers;
-        ranged = ranged & ranges::is_ranged(kind, numbers);
-        filled = filled & !blanks::is_blank(row);
-        optional = optional + classes::optional_count(classes::class_of(kind));
+        match forces::load_of(row) {
+            RowLoad::OutOfRange => ranged = false,
+            RowLoad::NoCoefficient => filled = false,
+            RowLoad::Exerted(load) => {
+                let class = load.class;
+                optional = optional + kinds::classes::optional_count(class);
+                loads[i] = load;
+            }
+        }
         i = i + 1;
     }
+    let loads = Loads { count: n, loads };
     Asked {
         ranged,
         filled,
         optional,
+        loads,
     }
-}
-
-// The loads of the first n rows.
-fn exert_all(rows: [Row; 16], n: usize) -> Loads
-    requires { ⌜ n ≤ 16 ⌝ }
-    requires { ⌜ AllRanged rows n ⌝ }
-    requires { ⌜ NoneBlank table2-fill rows n ⌝ }
-    ensures { λ r. ⌜ AreLoads table2-fill rows n r ⌝ }
-{
-    let none = sets::no_load();
-    let mut loads = [none; 16];
-    let mut i: usize = 0;
-    while i < n {
-        let row = rows[i];
-        let load = forces::exert(row);
-        loads[i] = load;
-        i = i + 1;
-    }
-    Loads { count: n, loads }
 }
 
 // The loads of a job's load rows, which are the first `count` of `rows`, at most 16; or refusal 11, 15 or 16.
-pub fn loads_of(rows: [Row; 16], count: usize) -> Taken
-    ensures { λ r. ⌜ Answers table2-fill rows count r ⌝ }
+pub fn loads_of(rows: [Row; 16], count: usize) -> LoadsRead
+    ensures { λ r. ⌜ LoadsAnswered table2-fill rows count r ⌝ }
 {
-    let n = rows_of(count);
-    let asked = asked_of(rows, n);
+    let asked = asked_of(rows, rows_of(count));
     let none = no_loads();
     if !asked.ranged {
-        return Taken {
-            answer: Answer::OutOfRange,
+        return LoadsRead {
+            answer: LoadsAnswer::OutOfRange,
             loads: none,
         };
     }
     if !asked.filled {
-        return Taken {
-            answer: Answer::NoCoefficient,
+        return LoadsRead {
+            answer: LoadsAnswer::NoCoefficient,
             loads: none,
         };
     }
     if 12 < asked.optional {
-        return Taken {
-            answer: Answer::TooMany,
+        return LoadsRead {
+            answer: LoadsAnswer::TooMany,
             loads: none,
         };
     }
-    let loads = exert_all(rows, n);
-    Taken {
-        answer: Answer::Given,
+    let loads = asked.loads;
+    LoadsRead {
+        answer: LoadsAnswer::Given,
         loads,
     }
 }

@@ -7,16 +7,16 @@ use native.Mathlib.Omega.{arith}
 use borrow.Author.Tests.{eqb-false, ne-eqb}
 use lib.Dec.{T, eqb}
 use lib.ListN.{length, drop, getD}
-use Rattle.rfc4180.specs.Rfc4180.{COMMA, CR}
-use Rattle.names.specs.Names.{Letter, hyphen, digit, upper, IsName}
-use Rattle.digits.specs.Numerals.{Numeral, one, more}
+use Rattle.csv.specs.rfc4180.Rfc4180.{COMMA, CR}
+use Rattle.fields.specs.names.Names.{Letter, hyphen, digit, upper, IsName}
+use Rattle.fields.specs.digits.Numerals.{Numeral, one, more}
 use Rattle.sets.specs.declared.Combination.{Combination}
 use Rattle.sets.specs.declared.Combination.the-variants.{I, II, III, IV}
 use Rattle.checks.specs.declared.Check.{Check}
 use Rattle.checks.specs.declared.Check.the-variants.{OP, OM, SL, PR, RK}
-use Rattle.lines.specs.Lines.{LineName, VERDICT, check, SC, CL, Value, accepted, not-accepted, none, off, number, minus, Cell, empty, holds, Mark, unmarked, Y, N}
+use Rattle.lines.specs.Lines.{LineName, VERDICT, check, SC, CL, Value, accepted, not-accepted, none, off, number, minus, NumberField, empty, holds, YesOrNo, unmarked, Y, N}
 use Rattle.block.specs.Decimal.{decimal}
-use Rattle.line_fields.specs.Text.{HYPHEN, combination-text, check-text, name-text, value-text, cell-text, mark-text}
+use Rattle.printing.specs.line_fields.Text.{HYPHEN, combination-text, check-text, name-text, value-text, number-text, mark-text}
 use Rattle.block.proofs.Numbers.{decimal-numeral, decimal-plain, decimal-some}
 
 -- ---- where a field ends
@@ -105,13 +105,13 @@ value-without off = without-test COMMA (value-text off) tt
 value-without (number n) = decimal-without COMMA n (omega arith)
 value-without (minus n) = (λ e. omega arith, decimal-without COMMA n (omega arith))
 
-pub cell-without : (c : Cell) → Without COMMA (cell-text c)
-unfolding cell-text Without
+pub cell-without : (c : NumberField) → Without COMMA (number-text c)
+unfolding number-text Without
 cell-without empty = tt
 cell-without (holds n) = decimal-without COMMA n (omega arith)
 
 -- the last field ends at CR
-pub mark-without : (m : Mark) → Without CR (mark-text m)
+pub mark-without : (m : YesOrNo) → Without CR (mark-text m)
 unfolding mark-text apart
 mark-without unmarked = without-test CR (mark-text unmarked) tt
 mark-without Y = without-test CR (mark-text Y) tt
@@ -202,20 +202,20 @@ value-read (number n) =
     rw (ne-eqb (first (decimal n)) 0x41 (λ e. omega arith), ne-eqb (first (decimal n)) 0x4E (λ e. omega arith), ne-eqb (first (decimal n)) 0x6E (λ e. omega arith), ne-eqb (first (decimal n)) 0x6F (λ e. omega arith), ne-eqb (first (decimal n)) 0x2D (λ e. omega arith), worth-decimal n)
 value-read (minus n) = ap minus (worth-decimal n)
 
-pub read-cell : List ℕ → Cell
+pub read-cell : List ℕ → NumberField
 unfolding worth
 read-cell t = cond (eqb (length t) 0) empty (holds (worth 0 t))
 
-pub cell-read : (c : Cell) → read-cell (cell-text c) ≡ c
-unfolding read-cell cell-text
+pub cell-read : (c : NumberField) → read-cell (number-text c) ≡ c
+unfolding read-cell number-text
 cell-read empty = refl
 cell-read (holds n) = rw (ne-eqb (length (decimal n)) 0 (λ e. omega (arith, decimal-some n)), worth-decimal n)
 
-pub read-mark : List ℕ → Mark
+pub read-mark : List ℕ → YesOrNo
 unfolding first
 read-mark t = cond (eqb (length t) 0) unmarked (cond (eqb (first t) 0x59) Y N)
 
-pub mark-read : (m : Mark) → read-mark (mark-text m) ≡ m
+pub mark-read : (m : YesOrNo) → read-mark (mark-text m) ≡ m
 unfolding read-mark mark-text
 mark-read unmarked = refl
 mark-read Y = refl

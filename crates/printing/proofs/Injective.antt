@@ -2,14 +2,14 @@
 use Prim.Native.Nat.{ℕ}
 use mathlib.Core.Path.{_≡_, refl, sym, _∙_}
 use mathlib.Core.List.{List, [], _∷_, _++_, append-assoc}
-use native.Mathlib.Omega.{arith}
 use lib.Seq.{take-append-seam}
-use Rattle.rfc4180.specs.Rfc4180.{COMMA, CR, LF}
-use Rattle.names.specs.Names.{NameIn, name}
-use Rattle.keys.specs.declared.Key.{Key}
+use Rattle.arithmetic.proofs.Cases.{impossible}
+use Rattle.csv.specs.rfc4180.Rfc4180.{COMMA, CR, LF}
+use Rattle.fields.specs.names.Names.{NameIn, name}
+use Rattle.rows.specs.declared.keys.Key.{Key}
 use Rattle.lines.specs.Lines.{PrintedLine, lines-of}
-use Rattle.line_key.specs.Text.{name-bytes, key-text}
-use Rattle.line_fields.specs.Text.{name-text, value-text, cell-text, mark-text}
+use Rattle.printing.specs.line_key.Text.{name-bytes, key-text}
+use Rattle.printing.specs.line_fields.Text.{name-text, value-text, number-text, mark-text}
 use Rattle.printing.specs.Keys.{IsKey}
 use Rattle.printing.specs.Text.{line-text, texts, text}
 use Rattle.printing.proofs.Fields.{Without, until-first, name-without, line-name-without, value-without, cell-without, mark-without, read-back, read-name, name-read, read-value, value-read, read-cell, cell-read, read-mark, mark-read}
@@ -19,7 +19,7 @@ use Rattle.lines.specs.declared.Answer.{Answer}
 
 line-laid : (key : Key) (l : PrintedLine) (later : List ℕ) → line-text key l ++ later
     ≡ name-bytes (key .member) ++ (COMMA ∷ (name-bytes (key .job) ++ (COMMA ∷ (name-text (l .name) ++ (COMMA ∷ (value-text (l .value)
-    ++ (COMMA ∷ (cell-text (l .limit) ++ (COMMA ∷ (cell-text (l .set) ++ (COMMA ∷ (mark-text (l .mark) ++ (CR ∷ (LF ∷ later))))))))))))))
+    ++ (COMMA ∷ (number-text (l .limit) ++ (COMMA ∷ (number-text (l .set) ++ (COMMA ∷ (mark-text (l .mark) ++ (CR ∷ (LF ∷ later))))))))))))))
 unfolding line-text key-text
 line-laid key l later = simp append-assoc
 
@@ -44,8 +44,8 @@ module _ (k k′ : Key) (l l′ : PrintedLine) (later later′ : List ℕ)
       let h = until-first CR _ _ _ _ (mark-without (l .mark)) (mark-without (l′ .mark)) (g .1) in
       let names = read-back name-text read-name name-read _ _ (c .0) in
       let values = read-back value-text read-value value-read _ _ (d .0) in
-      let limits = read-back cell-text read-cell cell-read _ _ (f .0) in
-      let sets = read-back cell-text read-cell cell-read _ _ (g .0) in
+      let limits = read-back number-text read-cell cell-read _ _ (f .0) in
+      let sets = read-back number-text read-cell cell-read _ _ (g .0) in
       let marks = read-back mark-text read-mark mark-read _ _ (h .0) in
       record {
         members = a .0;
@@ -57,8 +57,8 @@ module _ (k k′ : Key) (l l′ : PrintedLine) (later later′ : List ℕ)
 -- ---- lines
 
 not-empty : (s : List ℕ) (x : ℕ) (t : List ℕ) → [] ≡ s ++ (x ∷ t) → ⊥
-not-empty [] x t e = let z : _≡_ {A = ℕ} 0 1 = cc in omega arith
-not-empty (y ∷ s) x t e = let z : _≡_ {A = ℕ} 0 1 = cc in omega arith
+not-empty [] x t e = impossible cc
+not-empty (y ∷ s) x t e = impossible cc
 
 line-some : (key : Key) (l : PrintedLine) (later : List ℕ) → [] ≡ line-text key l ++ later → ⊥
 line-some key l later e = not-empty (name-bytes (key .member)) COMMA _ (e ∙ line-laid key l later)

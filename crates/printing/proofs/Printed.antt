@@ -5,24 +5,24 @@ use mathlib.Core.Bool.{Bool, true, false}
 use mathlib.Core.List.{List, [], _∷_, _++_, append-assoc, append-nil}
 use native.Mathlib.Omega.{arith}
 use lib.ListN.{length}
-use Rattle.keys.specs.declared.Key.{Key}
+use Rattle.arithmetic.proofs.Cases.{impossible}
+use Rattle.rows.specs.declared.keys.Key.{Key}
 use Rattle.sets.specs.declared.Combination.{Combination}
 use Rattle.sets.specs.declared.Combination.the-variants.{I, II, III, IV}
 use Rattle.checks.specs.declared.Check.{Check}
+use Rattle.checks.specs.declared.Check.the-variants.{OP, OM, SL, PR, RK}
 use Rattle.checks.specs.declared.Figure.{Figure}
 use Rattle.lines.specs.declared.Line.{Line}
 use Rattle.lines.specs.declared.Line.the-variants as line
-use Rattle.lines.specs.declared.DepthLine.{DepthLine}
-use Rattle.lines.specs.declared.DepthLine.the-variants as depth
-use Rattle.lines.specs.declared.ClearLine.{ClearLine}
-use Rattle.lines.specs.declared.ClearLine.the-variants as clear
-use Rattle.lines.specs.Lines.{LineName, SC, CL, PrintedLine, value-of, signed-value, check-line, depth-line, clear-line, verdict-line, later-lines, unless-refused, Alone, lines-of}
+use Rattle.lines.specs.declared.RiverLine.{RiverLine}
+use Rattle.lines.specs.declared.RiverLine.the-variants as river
+use Rattle.lines.specs.Lines.{LineName, PrintedLine, value-of, signed-value, check-line, river-line, verdict-line, later-lines, unless-refused, Alone, lines-of}
 use Rattle.block.specs.declared.Block.{Block}
 use Rattle.block.specs.Decimal.{decimal}
 use Rattle.block.specs.Block.{field, puts, Put}
-use Rattle.line_key.specs.Text.{key-text}
-use Rattle.line_fields.specs.Text.{HYPHEN, combination-text, check-text, name-text, value-text, cell-text, ending}
-use Rattle.printing.specs.Text.{line-text, river-line, texts, text}
+use Rattle.printing.specs.line_key.Text.{key-text}
+use Rattle.printing.specs.line_fields.Text.{HYPHEN, combination-text, check-text, name-text, value-text, number-text, ending}
+use Rattle.printing.specs.Text.{line-text, texts, text}
 use Rattle.printing.specs.Room.{line-room}
 use Rattle.block.proofs.Pages.{spelled, then-put, put-as, put-nothing}
 use Rattle.lines.specs.declared.Verdict.{Verdict}
@@ -60,9 +60,20 @@ combination-short II = omega arith
 combination-short III = omega arith
 combination-short IV = omega arith
 
--- the letters of a combination
+-- the letters of a combination, and of a check behind its hyphen
 pub combination-put : (b r : Block) (of : Combination) (t : List ℕ) → t ≡ combination-text of → r ≡ puts b t → Put b (combination-text of) 3 r
 combination-put b r of t e f = record { is = f ∙ ap (puts b) e; short = combination-short of }
+
+check-short : (by : Check) → length (check-text by) ≤ 2
+unfolding check-text
+check-short OP = omega arith
+check-short OM = omega arith
+check-short SL = omega arith
+check-short PR = omega arith
+check-short RK = omega arith
+
+pub check-put : (b r : Block) (by : Check) (t : List ℕ) → t ≡ HYPHEN ∷ check-text by → r ≡ puts b t → Put b (HYPHEN ∷ check-text by) 3 r
+check-put b r by t e f = record { is = f ∙ ap (puts b) e; short = omega (arith, check-short by) }
 
 module _ (key : Key) (b₀ b₁ b₂ b₃ b₄ b₅ : Block) where
   pub check-printed : (b₆ b₇ : Block) (of : Combination) (by : Check) (l : Line) (figure : Figure) (limit set : ℕ) (passes : Bool)
@@ -75,7 +86,7 @@ module _ (key : Key) (b₀ b₁ b₂ b₃ b₄ b₅ : Block) where
       → Put b₅ (field (decimal set)) (1 + length (decimal set)) b₆ × (length (decimal set) ≤ 20)
       → Put b₆ (ending passes) 4 b₇
       → Put b₀ (texts key (check-line of by l)) (line-room l) b₇
-  unfolding check-line line-room line-text name-text cell-text
+  unfolding check-line line-room line-text name-text number-text
   check-printed b₆ b₇ of by l figure limit set passes e p₁ p₂ p₃ p₄ p₅ p₆ p₇ =
       rw e
       (put-as b₀ b₇ _ _ _ _ (texts-one key _) (omega (arith, p₅ .1))
@@ -85,40 +96,31 @@ module _ (key : Key) (b₀ b₁ b₂ b₃ b₄ b₅ : Block) where
       (then-put b₄ b₅ b₇ _ _ _ _ (p₅ .0)
       (then-put b₅ b₆ b₇ _ _ _ _ (p₆ .0) p₇))))))
 
-  pub river-printed : (b₆ : Block) (name : LineName) (below : Bool) (size limit : ℕ) (passes : Bool)
+  pub river-printed : (b₆ : Block) (name : LineName) (l : RiverLine) (below : Bool) (size limit : ℕ) (passes : Bool)
+      → l ≡ river.Shown below size limit passes
       → Put b₀ (key-text key) 26 b₁
       → Put b₁ (name-text name) 2 b₂
       → Put b₂ (field (value-text (signed-value below size))) 22 b₃
       → Put b₃ (field (decimal limit)) (1 + length (decimal limit)) b₄ × (length (decimal limit) ≤ 20)
       → b₅ ≡ puts b₄ (field [])
       → Put b₅ (ending passes) 4 b₆
-      → Put b₀ (line-text key (river-line name below size limit passes)) 76 b₆
-  unfolding line-text cell-text
-  river-printed b₆ name below size limit passes p₁ p₂ p₃ p₄ p₅ p₆ =
-      put-as b₀ b₆ _ _ _ _ refl (omega (arith, p₄ .1))
+      → Put b₀ (texts key (river-line name l)) 76 b₆
+  unfolding river-line line-text number-text
+  river-printed b₆ name l below size limit passes e p₁ p₂ p₃ p₄ p₅ p₆ =
+      rw e
+      (put-as b₀ b₆ _ _ _ _ (texts-one key _) (omega (arith, p₄ .1))
       (then-put b₀ b₁ b₆ _ _ _ _ p₁
       (then-put b₁ b₂ b₆ _ _ _ _ p₂
       (then-put b₂ b₃ b₆ _ _ _ _ p₃
       (then-put b₃ b₄ b₆ _ _ _ _ (p₄ .0)
-      (then-put b₄ b₅ b₆ _ _ 1 _ (spelled _ _ _ _ _ refl p₅ tt) p₆)))))
-
--- SC and CL, where they are shown
-pub depth-printed : (key : Key) (b r : Block) (l : DepthLine) (needed found : ℕ) (passes : Bool) → l ≡ depth.Shown needed found passes
-    → Put b (line-text key (river-line SC false needed found passes)) 76 r → Put b (texts key (depth-line l)) 76 r
-unfolding depth-line signed-value
-depth-printed key b r l needed found passes e p = rw e (put-as b r _ _ _ _ (texts-one key _) (omega arith) p)
-
-pub clear-printed : (key : Key) (b r : Block) (l : ClearLine) (below : Bool) (size needed : ℕ) (passes : Bool) → l ≡ clear.Shown below size needed passes
-    → Put b (line-text key (river-line CL below size needed passes)) 76 r → Put b (texts key (clear-line l)) 76 r
-unfolding clear-line
-clear-printed key b r l below size needed passes e p = rw e (put-as b r _ _ _ _ (texts-one key _) (omega arith) p)
+      (then-put b₄ b₅ b₆ _ _ 1 _ (spelled _ _ _ _ _ refl p₅ tt) p₆))))))
 
 pub alone-holds : (verdict : Verdict) (r : Bool) → r ≡ true → Alone r verdict → (later : List PrintedLine) → unless-refused verdict later ≡ []
 alone-holds verdict true e h = h
-alone-holds verdict false e h = let z : _≡_ {A = ℕ} 0 1 = cc in absurd (omega arith)
+alone-holds verdict false e h = impossible cc
 
 pub alone-fails : (verdict : Verdict) (r : Bool) → r ≡ false → Alone r verdict → (later : List PrintedLine) → unless-refused verdict later ≡ later
-alone-fails verdict true e h = let z : _≡_ {A = ℕ} 0 1 = cc in absurd (omega arith)
+alone-fails verdict true e h = impossible cc
 alone-fails verdict false e h = h
 
 -- VERDICT, and behind it the other lines, unless the job is refused

@@ -2,8 +2,8 @@
 use Prim.Native.Nat.{ℕ}
 use mathlib.Core.Path.{_≡_}
 use mathlib.Core.List.{List}
-use Rattle.names.specs.Names.{IsName, name}
-use Rattle.keys.specs.declared.Key.{Key}
+use Rattle.fields.specs.names.Names.{IsName, name}
+use Rattle.rows.specs.declared.keys.Key.{Key}
 
 pub record IsKey (key : Key) : Type 0 where
   pub member : List ℕ

@@ -3,25 +3,28 @@
 // Each function puts a field, a line or lines behind the text that a page of 2,048 bytes holds, or nothing where a line is missing. What is
 // hard is that nothing is cut: each says how many bytes it puts at most, and the sum is below 2,048 where the set numbers are those of
 // at most 16 load rows; and that what a line says is read back from its text (`proofs/`).
+mod line_fields;
+mod line_key;
+pub mod refused_book;
+
 use block::Block;
 use checks::Figure;
-use keys::Key;
 use lines::Answer;
-use lines::ClearLine;
-use lines::DepthLine;
 use lines::Line;
 use lines::Lines;
+use lines::RiverLine;
 use lines::Verdict;
+use rows::keys::Key;
 ghost use mathlib.Core.Path.{_≡_};
-ghost use mathlib.Core.List.{[], _∷_, _++_};
+ghost use mathlib.Core.List.{[], _∷_};
 ghost use Prim.Native.Nat.{_≤_};
 ghost use lib.ListN.{length};
 ghost use Rattle.sets.specs.declared.Combination.{Combination};
 ghost use Rattle.checks.specs.declared.Check.{Check};
-ghost use Rattle.lines.specs.Lines.{LineName, combination-lines, later-lines, Numbered, value-of, verdict-line, check-line, depth-line, clear-line};
+ghost use Rattle.lines.specs.Lines.{LineName, combination-lines, later-lines, Numbered, value-of, verdict-line, check-line, river-line};
 ghost use Rattle.block.specs.Block.{Adds, block-of, field};
-ghost use Rattle.line_fields.specs.Text.{combination-text, check-text, name-text, value-text, ending};
-ghost use Rattle.printing.specs.Text.{texts, text, line-text, river-line};
+ghost use Rattle.printing.specs.line_fields.Text.{HYPHEN, combination-text, check-text, name-text, value-text, ending};
+ghost use Rattle.printing.specs.Text.{texts, text, line-text};
 ghost use Rattle.printing.specs.Room.{lines-room, answer-room, line-room};
 
 // The value of a check.
@@ -53,17 +56,16 @@ fn put_verdict(out: &mut [u8; 2048], at: usize, key: Key, verdict: Verdict) -> u
     block::put(out, end, b",,,\r\n")
 }
 
-// The line of a check in a combination, if there is one: each is given by its letters.
+// The line of a check in a combination, if there is one: each is given by its letters, as I and -OP.
 fn put_line(
     out: &mut [u8; 2048],
     at: usize,
     key: Key,
     combination: &[u8],
-    first: u8,
-    second: u8,
+    check: &[u8],
     line: Line,
 ) -> usize
-    ensures { λ r. ⌜ ((of : Combination) (by : Check) → now (combination .entry) ≡ combination-text of → first ∷ second ∷ [] ≡ check-text by
+    ensures { λ r. ⌜ ((of : Combination) (by : Check) → now (combination .entry) ≡ combination-text of → now (check .entry) ≡ HYPHEN ∷ check-text by
         → Adds (now (out .entry)) at (texts key (check-line of by line)) (line-room line) (now (out .exit)) r) ⌝ }
 {
     match line {
@@ -76,7 +78,7 @@ fn put_line(
         } => {
             let end = line_key::put_key(out, at, key);
             let end = block::put(out, end, combination);
-            let end = block::put(out, end, &[b'-', first, second]);
+            let end = block::put(out, end, check);
             let end = put_figure(out, end, figure);
             let end = block::put_number(out, end, limit);
             let end = block::put_number(out, end, set);
@@ -85,49 +87,33 @@ fn put_line(
     }
 }
 
-// SC or CL, given by its letters: a value that may be below zero, a limit, and no set.
+// SC or CL, given by its letters, if there is one.
 fn put_river_line(
     out: &mut [u8; 2048],
     at: usize,
     key: Key,
     first: u8,
     second: u8,
-    minus: bool,
-    size: u64,
-    limit: u64,
-    passes: bool,
+    line: RiverLine,
 ) -> usize
     ensures { λ r. ⌜ ((name : LineName) → first ∷ second ∷ [] ≡ name-text name
-        → Adds (now (out .entry)) at (line-text key (river-line name minus size limit passes)) 76 (now (out .exit)) r) ⌝ }
+        → Adds (now (out .entry)) at (texts key (river-line name line)) 76 (now (out .exit)) r) ⌝ }
 {
-    let end = line_key::put_key(out, at, key);
-    let end = block::put(out, end, &[first, second]);
-    let end = line_fields::put_signed(out, end, minus, size);
-    let end = block::put_number(out, end, limit);
-    let end = block::push(out, end, b',');
-    put_ending(out, end, passes)
-}
-
-// SC, if there is one, and CL, if there is one.
-fn put_river(out: &mut [u8; 2048], at: usize, key: Key, depth: DepthLine, clear: ClearLine) -> usize
-    ensures { λ r. ⌜ Adds (now (out .entry)) at (texts key (depth-line depth ++ clear-line clear)) 152 (now (out .exit)) r ⌝ }
-{
-    let end = match depth {
-        DepthLine::Missing => at,
-        DepthLine::Shown {
-            needed,
-            found,
-            passes,
-        } => put_river_line(out, at, key, b'S', b'C', false, needed, found, passes),
-    };
-    match clear {
-        ClearLine::Missing => end,
-        ClearLine::Shown {
+    match line {
+        RiverLine::Missing => at,
+        RiverLine::Shown {
             minus,
             size,
-            needed,
+            limit,
             passes,
-        } => put_river_line(out, end, key, b'C', b'L', minus, size, needed, passes),
+        } => {
+            let end = line_key::put_key(out, at, key);
+            let end = block::put(out, end, &[first, second]);
+            let end = line_fields::put_signed(out, end, minus, size);
+            let end = block::put_number(out, end, limit);
+            let end = block::push(out, end, b',');
+            put_ending(out, end, passes)
+        }
     }
 }
 
@@ -137,15 +123,15 @@ fn put_lines(out: &mut [u8; 2048], at: usize, key: Key, combination: &[u8], line
         → Adds (now (out .entry)) at (texts key (combination-lines of lines)) (lines-room lines) (now (out .exit)) r) ⌝ }
 {
     let op = lines.op;
-    let end = put_line(out, at, key, combination, b'O', b'P', op);
+    let end = put_line(out, at, key, combination, b"-OP", op);
     let om = lines.om;
-    let end = put_line(out, end, key, combination, b'O', b'M', om);
+    let end = put_line(out, end, key, combination, b"-OM", om);
     let sl = lines.sl;
-    let end = put_line(out, end, key, combination, b'S', b'L', sl);
+    let end = put_line(out, end, key, combination, b"-SL", sl);
     let pr = lines.pr;
-    let end = put_line(out, end, key, combination, b'P', b'R', pr);
+    let end = put_line(out, end, key, combination, b"-PR", pr);
     let rk = lines.rk;
-    put_line(out, end, key, combination, b'R', b'K', rk)
+    put_line(out, end, key, combination, b"-RK", rk)
 }
 
 // The lines after VERDICT.
@@ -157,8 +143,9 @@ fn put_later(out: &mut [u8; 2048], at: usize, key: Key, answer: Answer) -> usize
     let end = put_lines(out, end, key, b"III", answer.three);
     let end = put_lines(out, end, key, b"IV", answer.four);
     let depth = answer.depth;
+    let end = put_river_line(out, end, key, b'S', b'C', depth);
     let clear = answer.clear;
-    put_river(out, end, key, depth, clear)
+    put_river_line(out, end, key, b'C', b'L', clear)
 }
 
 // The bytes of a job's lines, of a refused job those of VERDICT alone. Where its set numbers are those of at most 16 load rows they

@@ -4,17 +4,17 @@ use mathlib.Core.Bool.{Bool, true, false}
 use mathlib.Core.Path.{_≡_, refl, sym, ap, subst, _∙_}
 use mathlib.Core.List.{List, _∷_}
 use lib.ListN.{drop}
-use Rattle.rfc4180.specs.Rfc4180.{Cell, File, Readable}
-use Rattle.rfc4180.proofs.First.{first, some-row}
+use Rattle.csv.specs.rfc4180.Rfc4180.{Cell, File, Readable}
+use Rattle.csv.proofs.rfc4180.First.{first, some-row}
 use Rattle.kinds.specs.Table.{columns}
 use Rattle.kinds.specs.declared.Columns.{Columns}
 use Rattle.kinds.specs.declared.Kind.{Kind}
 use Rattle.kinds.specs.declared.Numbers.{Numbers}
-use Rattle.letters.proofs.Letters.{letters-one}
+use Rattle.kinds.proofs.letters.Letters.{letters-one}
 use Rattle.kinds.proofs.Answers.{means-one}
 use Rattle.rows.specs.Form.{BookRow, content, Six, Form}
-use Rattle.rows.specs.Answer.{formed, SeenAt}
-use Rattle.keys.specs.declared.Keyed.{Keyed}
+use Rattle.rows.specs.Answer.{RowGiven, SeenAt}
+use Rattle.rows.specs.declared.keys.Keyed.{Keyed}
 use Rattle.rows.specs.declared.RowRead.{RowRead}
 
 six-one : (c : Columns) (cs : List Cell) (m n : Numbers) → Six c cs m → Six c cs n → m ≡ n
@@ -36,7 +36,7 @@ form-one {cs} {a} {b} f g =
     let t = f .note ∙ sym (g .note) in
     λ i. record { keyed = record { key = record { member = m i; job = j i }; row = record { kind = k i; numbers = n i } }; note = t i }
 
-formed-one : (cs : List Cell) (a b : Bool) (j k : Keyed) → formed a cs j → formed b cs k → (a ≡ b) × (j ≡ k)
+formed-one : (cs : List Cell) (a b : Bool) (j k : Keyed) → RowGiven a cs j → RowGiven b cs k → (a ≡ b) × (j ≡ k)
 formed-one cs true true j k p q = (refl, ap (λ (r : BookRow). r .keyed) (form-one p q))
 formed-one cs true false j k p q = absurd (q .0 _ p)
 formed-one cs false true j k p q = absurd (p .0 _ q)

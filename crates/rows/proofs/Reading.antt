@@ -6,32 +6,33 @@ use mathlib.Core.Bool.{Bool, true, false, _&&_}
 use mathlib.Core.List.{List, _∷_}
 use lib.Dec.{eqb}
 use lib.ListN.{length, drop}
-use Rattle.rfc4180.specs.Rfc4180.{Cell, Field, File}
-use Rattle.rfc4180.proofs.Unique.{content-unique}
-use Rattle.decides.specs.Decides.{Decides, decides-both, decides-equal, decides-flag}
-use Rattle.cells.specs.Cells.{offset, RowAt, CellAt}
-use Rattle.cells.specs.declared.Cells.{Cells}
-use Rattle.cells.proofs.Fields.{row-fields}
-use Rattle.names.specs.Names.{ContentNamed, NameIn, named, NameAt}
+use Rattle.csv.specs.rfc4180.Rfc4180.{Cell, Field, File}
+use Rattle.csv.proofs.rfc4180.Unique.{content-unique}
+use Rattle.arithmetic.proofs.Tests.{AllOf, all-of, decides-six}
+use Rattle.arithmetic.specs.decides.Decides.{Decides, decides-both, decides-equal, decides-flag}
+use Rattle.csv.specs.cells.Cells.{offset, RowAt, CellAt}
+use Rattle.csv.specs.declared.cells.Cells.{Cells}
+use Rattle.csv.proofs.cells.Fields.{row-fields}
+use Rattle.fields.specs.names.Names.{ContentNamed, NameIn, NameGiven, NameAt}
 use Rattle.fields.specs.Numbers.{EntryAt}
-use Rattle.names.specs.declared.Name.{Name}
-use Rattle.names.specs.declared.NameRead.{NameRead}
+use Rattle.fields.specs.declared.names.Name.{Name}
+use Rattle.fields.specs.declared.names.NameRead.{NameRead}
 use Rattle.fields.specs.declared.Entry.{Entry}
 use Rattle.kinds.specs.Table.{columns, letters}
 use Rattle.kinds.specs.Form.{Means}
-use Rattle.letters.specs.Form.{KindAt}
+use Rattle.kinds.specs.letters.Form.{KindAt}
 use Rattle.kinds.specs.declared.Column.{Column}
 use Rattle.kinds.specs.declared.Columns.{Columns}
 use Rattle.kinds.specs.declared.Kind.{Kind}
-use Rattle.letters.specs.declared.KindRead.the-variants.{Known, Unknown}
+use Rattle.kinds.specs.declared.letters.KindRead.the-variants.{Known, Unknown}
 use Rattle.kinds.specs.declared.Numbers.{Numbers}
-use Rattle.letters.proofs.Letters.{letters-one}
+use Rattle.kinds.proofs.letters.Letters.{letters-one}
 use Rattle.rows.specs.Form.{BookRow, raw, content, Six, Form}
-use Rattle.keys.specs.Keyed.{no-row}
-use Rattle.rows.specs.Answer.{TenAt, entered, numbers-are, RowSeen}
+use Rattle.rows.specs.keys.Keyed.{no-row}
+use Rattle.rows.specs.Answer.{TenAt, entered, NumbersGiven, RowSeen}
 use Rattle.rows.specs.declared.EntryRead.{EntryRead}
 use Rattle.rows.specs.declared.RowRead.{RowRead}
-use Rattle.keys.specs.declared.Keyed.{Keyed}
+use Rattle.rows.specs.declared.keys.Keyed.{Keyed}
 
 module _ {s : List ℕ} {c : Cells} {cs : List Cell} (t : TenAt s c cs) where
   -- a cell's stretch is a field of its content
@@ -47,14 +48,14 @@ module _ {s : List ℕ} {c : Cells} {cs : List Cell} (t : TenAt s c cs) where
     -- so the content is what the stretch was found to be
     pub cell-name : (n : NameRead) → n .good ≡ true → NameAt r n → ContentNamed true (content cs k) (n .name)
     cell-name n g p =
-        let w : NameIn r (n .name) = subst (λ (b : Bool). named b r (n .name)) g p in
+        let w : NameIn r (n .name) = subst (λ (b : Bool). NameGiven b r (n .name)) g p in
         let e = content-unique (w .field) cell-field in
         subst (λ (l : List ℕ). ContentNamed true l (n .name)) e (w .is, w .held)
 
     pub cell-good : (n : NameRead) → NameAt r n → (m : Name) → ContentNamed true (content cs k) m → n .good ≡ true
     cell-good n p m w = go (n .good) p
       where
-        go : (b : Bool) → named b r (n .name) → b ≡ true
+        go : (b : Bool) → NameGiven b r (n .name) → b ≡ true
         go true q = refl
         go false q = absurd (q .0 m (record { content = content cs k; field = cell-field; is = w .0; held = w .1 }))
 
@@ -79,37 +80,16 @@ module _ {s : List ℕ} {c : Cells} {cs : List Cell} (t : TenAt s c cs) where
 
 -- six flags by one
 module _ (a b c d e f : Bool) where
-  abbrev Two : Type 0
-  Two = (a ≡ true) × (b ≡ true)
-
-  abbrev Three : Type 0
-  Three = Two × (c ≡ true)
-
-  abbrev Four : Type 0
-  Four = Three × (d ≡ true)
-
-  abbrev Five : Type 0
-  Five = Four × (e ≡ true)
-
   abbrev All : Type 0
-  All = Five × (f ≡ true)
-
-  abbrev all : Bool
-  all = ((((a && b) && c) && d) && e) && f
-
-  all-set : Decides all All
-  all-set =
-      decides-both Five (f ≡ true) ((((a && b) && c) && d) && e) f
-      (decides-both Four (e ≡ true) (((a && b) && c) && d) e
-      (decides-both Three (d ≡ true) ((a && b) && c) d
-      (decides-both Two (c ≡ true) (a && b) c
-      (decides-both (a ≡ true) (b ≡ true) a b (decides-flag a) (decides-flag b)) (decides-flag c)) (decides-flag d)) (decides-flag e)) (decides-flag f)
+  All = AllOf (a ≡ true) (b ≡ true) (c ≡ true) (d ≡ true) (e ≡ true) (f ≡ true)
 
   -- the six numbers are good if each of them is
-  pub six-by : (n : Numbers) (kind : Kind) (cs : List Cell) (k : Columns) → k ≡ columns kind → (All → Six k cs n) → ((m : Numbers) → Six k cs m → All) → numbers-are all n kind cs
-  six-by n kind cs k z some none = go all all-set
+  pub six-by : (n : Numbers) (kind : Kind) (cs : List Cell) (k : Columns) → k ≡ columns kind → (All → Six k cs n) → ((m : Numbers) → Six k cs m → All) → NumbersGiven (all-of a b c d e f) n kind cs
+  six-by n kind cs k z some none =
+      go (all-of a b c d e f)
+      (decides-six (a ≡ true) (b ≡ true) (c ≡ true) (d ≡ true) (e ≡ true) (f ≡ true) a b c d e f (decides-flag a) (decides-flag b) (decides-flag c) (decides-flag d) (decides-flag e) (decides-flag f))
     where
-      go : (r : Bool) → Decides r All → numbers-are r n kind cs
+      go : (r : Bool) → Decides r All → NumbersGiven r n kind cs
       go true h = subst (λ (j : Columns). Six j cs n) z (some h)
       go false h = λ m s. h (none m (subst (λ (j : Columns). Six j cs m) (sym z) s))
 
@@ -119,7 +99,7 @@ no-numbers kind cs e h q f =
     h (q .keyed .row .numbers)
     (subst (λ (k : Kind). Six (columns k) cs (q .keyed .row .numbers)) (letters-one (q .keyed .row .kind) kind (sym (f .kind) ∙ e)) (f .numbers))
 
-pub numbers-good : (kind : Kind) (cs : List Cell) → content cs 2 ≡ letters kind → (g : Bool) (n : Numbers) → numbers-are g n kind cs → (q : BookRow) → Form cs q → g ≡ true
+pub numbers-good : (kind : Kind) (cs : List Cell) → content cs 2 ≡ letters kind → (g : Bool) (n : Numbers) → NumbersGiven g n kind cs → (q : BookRow) → Form cs q → g ≡ true
 numbers-good kind cs e true n h q f = refl
 numbers-good kind cs e false n h q f = absurd (no-numbers kind cs e h q f)
 

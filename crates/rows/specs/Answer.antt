@@ -1,12 +1,12 @@
--- What the functions of `src/` answer for the row that starts at a place.
+-- What the functions of `src/lib.rt` answer for the row that starts at a place.
 use Prim.Native.Nat.{ℕ, _+_, _<_, min}
 use mathlib.Core.Path.{_≡_}
 use mathlib.Core.Bool.{Bool, true, false}
 use mathlib.Core.List.{List, _∷_}
 use lib.ListN.{length, getD, drop}
-use Rattle.rfc4180.specs.Rfc4180.{Cell, Field, File, Rest}
-use Rattle.cells.specs.Cells.{no-cell, Stretch, offset}
-use Rattle.cells.specs.declared.Cells.{Cells}
+use Rattle.csv.specs.rfc4180.Rfc4180.{Cell, Field, File, no-cell}
+use Rattle.csv.specs.cells.Cells.{Stretch, offset, Rest}
+use Rattle.csv.specs.declared.cells.Cells.{Cells}
 use Rattle.fields.specs.declared.Entry.{Entry}
 use Rattle.fields.specs.declared.Entered.{Entered}
 use Rattle.fields.specs.declared.Entered.the-variants.{Is, Wrong}
@@ -14,8 +14,8 @@ use Rattle.kinds.specs.Table.{columns}
 use Rattle.kinds.specs.declared.Kind.{Kind}
 use Rattle.kinds.specs.declared.Numbers.{Numbers}
 use Rattle.rows.specs.Form.{BookRow, raw, content, Six, Form}
-use Rattle.keys.specs.Keyed.{no-row}
-use Rattle.keys.specs.declared.Keyed.{Keyed}
+use Rattle.rows.specs.keys.Keyed.{no-row}
+use Rattle.rows.specs.declared.keys.Keyed.{Keyed}
 use Rattle.rows.specs.declared.NumbersRead.{NumbersRead}
 use Rattle.rows.specs.declared.RowRead.{RowRead}
 
@@ -32,21 +32,21 @@ entered true x = Is x
 entered false x = Wrong
 
 -- the six numbers; or that the cells have none by the columns of the kind
-abbrev pub numbers-are : Bool → Numbers → Kind → List Cell → Type 0
-numbers-are true n kind cs = Six (columns kind) cs n
-numbers-are false n kind cs = (m : Numbers) → Six (columns kind) cs m → ⊥
+abbrev pub NumbersGiven : Bool → Numbers → Kind → List Cell → Type 0
+NumbersGiven true n kind cs = Six (columns kind) cs n
+NumbersGiven false n kind cs = (m : Numbers) → Six (columns kind) cs m → ⊥
 
 abbrev pub NumbersAre : List ℕ → Cells → Kind → NumbersRead → Type 0
-NumbersAre s c kind r = (cs : List Cell) → TenAt s c cs → numbers-are (r .good) (r .numbers) kind cs
+NumbersAre s c kind r = (cs : List Cell) → TenAt s c cs → NumbersGiven (r .good) (r .numbers) kind cs
 
 -- the row that the cells mean; or that they mean none, and no row
-abbrev pub formed : Bool → List Cell → Keyed → Type 0
-formed true cs k = Form cs (record { keyed = k; note = raw cs 9 })
-formed false cs k = ((r : BookRow) → Form cs r → ⊥) × (k ≡ no-row)
+abbrev pub RowGiven : Bool → List Cell → Keyed → Type 0
+RowGiven true cs k = Form cs (record { keyed = k; note = raw cs 9 })
+RowGiven false cs k = ((r : BookRow) → Form cs r → ⊥) × (k ≡ no-row)
 
 -- of the row that starts at a place: what it means, and where the next one starts
 pub record RowSeen (s : List ℕ) (start : ℕ) (cs : List Cell) (css : List (List Cell)) (r : RowRead) : Type 0 where
-  pub means : formed (r .good) cs (r .row)
+  pub means : RowGiven (r .good) cs (r .row)
   pub behind : r .next ≡ min (length s) (start + offset cs (length cs) + 1)
   pub on : r .next < length s → start < r .next
   pub rest : Rest (drop (r .next) s) css

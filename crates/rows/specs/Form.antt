@@ -4,14 +4,13 @@ use mathlib.Core.Path.{_≡_}
 use mathlib.Core.Bool.{true}
 use mathlib.Core.List.{List}
 use lib.ListN.{length, getD}
-use Rattle.rfc4180.specs.Rfc4180.{Cell}
-use Rattle.cells.specs.Cells.{no-cell}
-use Rattle.names.specs.Names.{ContentNamed}
+use Rattle.csv.specs.rfc4180.Rfc4180.{Cell, no-cell}
+use Rattle.fields.specs.names.Names.{ContentNamed}
 use Rattle.kinds.specs.Table.{columns, letters}
 use Rattle.kinds.specs.Form.{Means}
 use Rattle.kinds.specs.declared.Columns.{Columns}
 use Rattle.kinds.specs.declared.Numbers.{Numbers}
-use Rattle.keys.specs.declared.Keyed.{Keyed}
+use Rattle.rows.specs.declared.keys.Keyed.{Keyed}
 
 -- a row as the book has it: with its key, and the stretch of its note, which is handed on and never interpreted
 pub record BookRow : Type 0 where

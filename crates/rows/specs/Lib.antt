@@ -1,2 +1,4 @@
 pub mod Form
 pub mod Answer
+pub mod keys
+pub mod refusals

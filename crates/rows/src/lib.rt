@@ -2,7 +2,10 @@
 //
 // The text is known to be RFC 4180, and the row has one reading. What is hard is to say that of the cells that the
 // reading has, and not of whatever the code looks at: each promise here speaks of every reading of the text.
-use cells::Cells;
+pub mod keys;
+pub mod refusals;
+
+use csv::cells::Cells;
 use fields::Entered;
 use fields::Entry;
 use keys::Key;
@@ -11,15 +14,15 @@ use kinds::Column;
 use kinds::Kind;
 use kinds::Numbers;
 use kinds::Row;
-use letters::KindRead;
+use kinds::letters::KindRead;
 ghost use mathlib.Core.Path.{_≡_};
 ghost use mathlib.Core.Bool.{false};
 ghost use Prim.Native.Nat.{_≤_};
 ghost use lib.ListN.{length, drop};
-ghost use Rattle.rfc4180.specs.Rfc4180.{Readable};
+ghost use Rattle.csv.specs.rfc4180.Rfc4180.{Readable};
 ghost use Rattle.fields.specs.Numbers.{EntryAt};
 ghost use Rattle.kinds.specs.Form.{Means};
-ghost use Rattle.keys.specs.Keyed.{no-row};
+ghost use Rattle.rows.specs.keys.Keyed.{no-row};
 ghost use Rattle.rows.specs.Answer.{entered, NumbersAre, SeenAt};
 
 // A number or an empty field; or neither, where a field holds neither by its column.
@@ -52,11 +55,7 @@ fn entry_at(column: Column, raw: &[u8]) -> EntryRead
     match read {
         Entered::Is(entry) => EntryRead { good: true, entry },
         Entered::Wrong => {
-            let entry = Entry {
-                filled: false,
-                minus: false,
-                size: 0,
-            };
+            let entry = fields::blank_entry();
             EntryRead { good: false, entry }
         }
     }
@@ -68,22 +67,22 @@ fn numbers_of(s: &[u8], places: Cells, kind: Kind) -> NumbersRead
 {
     let columns = kinds::columns_of(kind);
     let c1 = columns.n1;
-    let e1 = entry_at(c1, cells::cell(s, places, 3));
+    let e1 = entry_at(c1, csv::cells::cell(s, places, 3));
     let n1 = e1.entry;
     let c2 = columns.n2;
-    let e2 = entry_at(c2, cells::cell(s, places, 4));
+    let e2 = entry_at(c2, csv::cells::cell(s, places, 4));
     let n2 = e2.entry;
     let c3 = columns.n3;
-    let e3 = entry_at(c3, cells::cell(s, places, 5));
+    let e3 = entry_at(c3, csv::cells::cell(s, places, 5));
     let n3 = e3.entry;
     let c4 = columns.n4;
-    let e4 = entry_at(c4, cells::cell(s, places, 6));
+    let e4 = entry_at(c4, csv::cells::cell(s, places, 6));
     let n4 = e4.entry;
     let c5 = columns.n5;
-    let e5 = entry_at(c5, cells::cell(s, places, 7));
+    let e5 = entry_at(c5, csv::cells::cell(s, places, 7));
     let n5 = e5.entry;
     let c6 = columns.n6;
-    let e6 = entry_at(c6, cells::cell(s, places, 8));
+    let e6 = entry_at(c6, csv::cells::cell(s, places, 8));
     let n6 = e6.entry;
     let numbers = Numbers {
         n1,
@@ -115,14 +114,13 @@ pub fn read_row(s: &[u8], start: usize) -> RowRead
     requires { ⌜ Readable (drop start (now s)) ⌝ }
     ensures { λ r. ⌜ SeenAt (now (s .entry)) start r ⌝ }
 {
-    let places = places::row_at(s, start);
-    let kind_read = letters::kind_at(cells::cell(s, places, 2));
-    let KindRead::Known(kind) = kind_read else {
+    let places = csv::cells::cells_at(s, start);
+    let KindRead::Known(kind) = kinds::letters::kind_at(csv::cells::cell(s, places, 2)) else {
         return unread(places.next);
     };
     let numbers_read = numbers_of(s, places, kind);
-    let member_read = names::name_at(cells::cell(s, places, 0));
-    let job_read = names::name_at(cells::cell(s, places, 1));
+    let member_read = fields::names::name_at(csv::cells::cell(s, places, 0));
+    let job_read = fields::names::name_at(csv::cells::cell(s, places, 1));
     // of a row that has not ten fields these are read for nothing
     if (places.count == 10) & member_read.good & job_read.good & numbers_read.good {
         let member = member_read.name;

@@ -4,13 +4,13 @@ use mathlib.Core.Bool.{cond}
 use Prim.Native.Nat.{ℕ, _<_}
 use native.Mathlib.Omega.{arith}
 use lib.Dec.{eqb}
-use Rattle.rounding.proofs.Laws.{least-one}
-use Rattle.lacey.specs.Lacey.{Intensity, RegimeDepth, ConstrictedDepth, DepthNeeded}
-use Rattle.scour.specs.Scour.{Told, refused, needs, told, Constricted, LaceyDepth, regime, constricted, Scoured, large-catchment, too-intense, needed}
+use Rattle.arithmetic.proofs.rounding.Laws.{least-one}
+use Rattle.scour.specs.lacey.Lacey.{Intensity, RegimeDepth, ConstrictedDepth, DepthNeeded}
+use Rattle.scour.specs.Scour.{ScourTold, refused, needs, scour-told, Constricted, LaceyDepth, regime, constricted, Scoured, large-catchment, too-intense, needed}
 use Rattle.scour.specs.declared.ScourAnswer.{ScourAnswer}
 use Rattle.scour.specs.declared.ScourAnswer.the-variants.{OutOfRange, LargeCatchment, TooIntense, Needed}
-use Rattle.discharge.proofs.Rules.{discharge-one, no-discharge}
-use Rattle.lacey.proofs.Rules.{depth-needed-one}
+use Rattle.scour.proofs.discharge.Rules.{discharge-one, no-discharge}
+use Rattle.scour.proofs.lacey.Rules.{depth-needed-one}
 
 module _ {Q Z W : ℕ} where
   intensity-one : {p q : ℕ} → Constricted Q Z W p → Constricted Q Z W q → p ≡ q
@@ -32,7 +32,7 @@ module _ {Q Z W : ℕ} where
     intense a h (regime b k u) = a .narrow k
     intense a h (constricted b k u) = omega (arith, intensity-one a b)
 
-    pub scoured-one : {reach : ℕ} {t u : Told} → Scoured Q Z f W reach t → Scoured Q Z f W reach u → t ≡ u
+    pub scoured-one : {reach : ℕ} {t u : ScourTold} → Scoured Q Z f W reach t → Scoured Q Z f W reach u → t ≡ u
     scoured-one (large-catchment h) (large-catchment k) = refl
     scoured-one (large-catchment h) (too-intense a k) = absurd (no-discharge h (a .flood))
     scoured-one (large-catchment h) (needed l n) = absurd (large h l)
@@ -43,11 +43,11 @@ module _ {Q Z W : ℕ} where
     scoured-one (needed l m) (too-intense a k) = absurd (intense a k l)
     scoured-one {reach} (needed l m) (needed {depth = d} k n) = ap needs (depth-needed-one m (subst (λ (D : ℕ). DepthNeeded D reach d) (lacey-one k l) n))
 
-back : Told → ScourAnswer
+back : ScourTold → ScourAnswer
 back (refused n) = cond (eqb n 11) OutOfRange (cond (eqb n 12) LargeCatchment TooIntense)
 back (needs depth) = Needed depth
 
-back-told : (r : ScourAnswer) → back (told r) ≡ r
+back-told : (r : ScourAnswer) → back (scour-told r) ≡ r
 unfolding back
 back-told OutOfRange = refl
 back-told LargeCatchment = refl
@@ -55,5 +55,5 @@ back-told TooIntense = refl
 back-told (Needed depth) = refl
 
 -- answers that tell the same are one
-pub told-one : (r s : ScourAnswer) → told r ≡ told s → r ≡ s
-told-one r s e = sym (back-told r) ∙ ap back e ∙ back-told s
+pub scour-told-one : (r s : ScourAnswer) → scour-told r ≡ scour-told s → r ≡ s
+scour-told-one r s e = sym (back-told r) ∙ ap back e ∙ back-told s

@@ -1,1 +1,4 @@
 pub mod Scour
+pub mod discharge
+pub mod lacey
+pub mod River

@@ -3,7 +3,7 @@ use mathlib.Core.Path.{_≡_, sym, _∙_, ap, subst}
 use Prim.Native.Nat.{ℕ, _+_, _*_, _-_, _/_, _%_, _^_, _≤_, _<_}
 use native.Mathlib.Omega.{arith}
 use native.Mathlib.Numerals.{add-one}
-use native.Mathlib.Nat.{add-div-right, add-mod-right, div-lt-iff-lt-mul, div-eq-of-lt, le-antisymm, one-mul, pow-suc, zero-div}
+use native.Mathlib.Nat.{add-div-right, add-mod-right, div-lt-iff-lt-mul, div-eq-of-lt, le-antisymm, one-mul, pow-suc}
 use lib.Pow.{shr-shr, field, mod-mod-pow, pow-pos}
 use lib.Dec.{lit<}
 use Rattle.sets.specs.Sets.{bit}
@@ -58,11 +58,3 @@ bit-kept s i j h = bit-low (s + 2 ^ j) i j h ∙ ap (λ (x : ℕ). x / 2 ^ i % 2
 
 pub one-more : (s i : ℕ) → s < 2 ^ i → s + 2 ^ i < 2 ^ (i + 1)
 one-more s i h = rw (add-one, pow-suc 2 i) (omega arith)
-
-pub no-more : (s i : ℕ) → s < 2 ^ i → s < 2 ^ (i + 1)
-no-more s i h = rw (add-one, pow-suc 2 i) (omega arith)
-
--- the empty set has no row
-pub bit-empty : (i : ℕ) → bit 0 i ≡ 0
-unfolding bit
-bit-empty i = ap (λ (x : ℕ). x % 2) (zero-div (2 ^ i))

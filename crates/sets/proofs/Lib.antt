@@ -1,5 +1,5 @@
--- The laws of bits, of sums, of classes and of what opens a combination. Other crates' proofs cite them.
+-- The laws of bits, of sums, of what raises a combination, and of arms of several variants. Other crates' proofs cite them.
 pub mod Bits
 pub mod Adding
-pub mod Classes
-pub mod Opening
+pub mod Arms
+pub mod Occasions

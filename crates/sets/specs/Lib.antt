@@ -1,3 +1,3 @@
 pub mod Sets
 pub mod Totals
-pub mod Sums
+pub mod steps

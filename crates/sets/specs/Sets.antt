@@ -4,7 +4,7 @@ use mathlib.Core.Logic.{_⊎_}
 use mathlib.Core.Bool.{false}
 use Prim.Native.Nat.{ℕ, _/_, _%_, _^_, _≤_, _<_}
 use lib.ListN.{getD}
-use Rattle.signed.specs.declared.Amount.{Amount}
+use Rattle.arithmetic.specs.declared.signed.Amount.{Amount}
 use Rattle.sets.specs.declared.Class.{Class}
 use Rattle.sets.specs.declared.Class.the-variants.{Permanent, Wind, Earthquake}
 use Rattle.sets.specs.declared.Combination.{Combination}
@@ -17,25 +17,25 @@ unfoldable pub bit : ℕ → ℕ → ℕ
 bit set i = set / 2 ^ i % 2
 
 -- no load: what stands past the last row
-abbrev pub noAmount : Amount
-noAmount = record { minus = false; size = 0 }
+abbrev pub no-amount : Amount
+no-amount = record { minus = false; size = 0 }
 
-abbrev pub noLoad : Load
-noLoad = record { class = Permanent; phase = 0; v = noAmount; x = noAmount; h = noAmount; twist = noAmount }
+abbrev pub no-load : Load
+no-load = record { class = Permanent; phase = 0; v = no-amount; x = no-amount; h = no-amount; twist = no-amount }
 
 -- row i, from 0
 unfoldable pub row : Loads → ℕ → Load
-row loads i = getD (loads .loads) i noLoad
+row loads i = getD (loads .loads) i no-load
 
 -- I, II and III are over phases 0 and 2; IV is over phases 1 and 2.
-unfoldable pub ownPhase : Combination → ℕ
-ownPhase I = 0
-ownPhase II = 0
-ownPhase III = 0
-ownPhase IV = 1
+unfoldable pub own-phase : Combination → ℕ
+own-phase I = 0
+own-phase II = 0
+own-phase III = 0
+own-phase IV = 1
 
 unfoldable pub Acts : Combination → ℕ → Type 0
-Acts combination phase = (phase ≡ ownPhase combination) ⊎ (phase ≡ 2)
+Acts combination phase = (phase ≡ own-phase combination) ⊎ (phase ≡ 2)
 
 -- a row of the class is in the set
 unfoldable pub Has : Class → Loads → ℕ → Type 0
@@ -76,32 +76,3 @@ pub record BoundedLoad (load : Load) : Type 0 where
 pub record Bounded (loads : Loads) : Type 0 where
   pub count : loads .count ≤ 16
   pub each : (i : ℕ) → i < loads .count → BoundedLoad (row loads i)
-
--- ---- the same, row by row and by counts, as the program decides it
-
--- a row may stand in a set as its bit says
-pub record RowFits (combination : Combination) (load : Load) (held : ℕ) : Type 0 where
-  pub acting : held ≡ 1 → Acts combination (load .phase)
-  pub permanent : load .class ≡ Permanent → Acts combination (load .phase) → held ≡ 1
-
--- a row of this class and phase opens the combination: any row I, a WL row II, an SF row III, a row of phase 1 IV
-unfoldable pub OpenedBy : Combination → Class → ℕ → Type 0
-OpenedBy I class phase = Unit {0}
-OpenedBy II class phase = class ≡ Wind
-OpenedBy III class phase = class ≡ Earthquake
-OpenedBy IV class phase = phase ≡ 1
-
--- some row opens the combination
-unfoldable pub Opens : Combination → Loads → Type 0
-Opens combination loads = (i : ℕ) × (i < loads .count) × OpenedBy combination ((row loads i) .class) ((row loads i) .phase)
-
--- so many wind and earthquake rows may act together, in a set that has a row
-unfoldable pub Together : Combination → ℕ → ℕ → Type 0
-Together I winds quakes = (winds ≡ 0) × (quakes ≡ 0)
-Together II winds quakes = (0 < winds) × (quakes ≡ 0)
-Together III winds quakes = (winds ≡ 0) × (0 < quakes)
-Together IV winds quakes = (winds ≡ 0) ⊎ (quakes ≡ 0)
-
-pub record Admits (combination : Combination) (winds quakes set : ℕ) : Type 0 where
-  pub some : 0 < set
-  pub together : Together combination winds quakes

@@ -1,7 +1,7 @@
 -- Document 01, Load sets: the sums over the rows of a set. N and the sum of H are in kN, M in kN mm, and so is what resists and what overturns.
 use Prim.Native.Nat.{ℕ, zero, suc, _+_}
 use lib.IntN.{ℤ, pos, negℤ, _+ℤ_, _-ℤ_, _*ℤ_}
-use Rattle.signed.specs.Whole.{worth, amount, above, below}
+use Rattle.arithmetic.specs.signed.Whole.{worth, amount, above, below}
 use Rattle.sets.specs.declared.Load.{Load}
 use Rattle.sets.specs.declared.Loads.{Loads}
 use Rattle.sets.specs.declared.Totals.{Totals}
@@ -71,8 +71,8 @@ unfoldable pub overturning : Edge → ℕ → Loads → ℕ → ℕ
 overturning edge width loads set = sum (overturns edge width) loads set (loads .count)
 
 -- all of them
-unfoldable pub totalsOf : ℕ → Loads → ℕ → Totals
-totalsOf width loads set =
+unfoldable pub totals-of : ℕ → Loads → ℕ → Totals
+totals-of width loads set =
     record {
       n = amount (N loads set);
       h = amount (H loads set);

@@ -2,11 +2,15 @@
 //
 // A set is a bit pattern: the first load row counts 1, the next 2, the next 4. What is hard is to keep the definition free of any
 // order of going through the sets, and to add whole numbers by their natural parts alone.
-use signed::Amount;
-use signed::Parts;
+pub mod admission;
+pub mod arising;
+pub mod phases;
+
+use arithmetic::signed::Amount;
+use arithmetic::signed::Parts;
 ghost use mathlib.Core.Path.{_≡_};
-ghost use Rattle.sets.specs.Sets.{noLoad};
-ghost use Rattle.sets.specs.Sums.{noSums, add, Room};
+ghost use Rattle.sets.specs.Sets.{no-load};
+ghost use Rattle.sets.specs.steps.Sums.{no-sums, add, Room};
 
 // What a row is to a combination: DL, EP and E are permanent, WL is wind, SF is earthquake, every other row is free.
 pub enum Class {
@@ -71,7 +75,7 @@ pub struct Totals {
 
 // A row that exerts nothing.
 pub fn no_load() -> Load
-    ensures { λ r. ⌜ r ≡ noLoad ⌝ }
+    ensures { λ r. ⌜ r ≡ no-load ⌝ }
 {
     let none = Amount {
         minus: false,
@@ -89,7 +93,7 @@ pub fn no_load() -> Load
 
 // The sums over no rows, from which every set's sums are built up; their set is 0.
 pub fn no_sums() -> Sums
-    ensures { λ r. ⌜ r ≡ noSums ⌝ }
+    ensures { λ r. ⌜ r ≡ no-sums ⌝ }
 {
     let none = Parts { above: 0, below: 0 };
     let even = Balance {

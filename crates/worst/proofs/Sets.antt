@@ -11,16 +11,16 @@ use Rattle.lines.specs.declared.Line.{Line}
 use Rattle.lines.specs.declared.Line.the-variants.{Missing, Shown}
 use Rattle.lines.specs.declared.Lines.{Lines}
 use Rattle.lines.specs.Lines.{SetFits, SetsFit}
-use Rattle.worst.specs.Lines.{Says, line}
+use Rattle.worst.specs.Lines.{LineSays, line}
 
 module _ (combination : Combination) (base : Base) (loads : Loads) (few : loads .count ≤ 16) where
-  set-fits : (check : Check) (l : Line) → Says combination check base loads l → SetFits l
-  unfolding Says SetFits
+  set-fits : (check : Check) (l : Line) → LineSays combination check base loads l → SetFits l
+  unfolding LineSays SetFits
   set-fits check Missing says = tt
   set-fits check (Shown figure limit set passes) says =
       lt-of-lt-of-le (says .named .permitted .within) (pow-le-pow-right (lit< tt) few)
 
-  pub sets-fit : (lines : Lines) → ((check : Check) → Says combination check base loads (line check lines)) → SetsFit lines
+  pub sets-fit : (lines : Lines) → ((check : Check) → LineSays combination check base loads (line check lines)) → SetsFit lines
   unfolding line
   sets-fit lines says =
       record {

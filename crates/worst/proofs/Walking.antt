@@ -7,128 +7,127 @@ use native.Mathlib.Omega.{arith}
 use native.Mathlib.Nat.{lt-of-lt-of-le}
 use native.Mathlib.Decide.{decLt}
 use lib.Pow.{pow-mono}
-use Rattle.decides.specs.Decides.{Decides}
+use Rattle.arithmetic.proofs.Cases.{by-cases}
+use Rattle.arithmetic.specs.decides.Decides.{Decides}
 use Rattle.sets.specs.declared.Combination.{Combination}
 use Rattle.sets.specs.declared.Loads.{Loads}
 use Rattle.sets.specs.declared.Sums.{Sums}
-use Rattle.sets.specs.Sets.{row, Bounded, Opens, Permitted, Admits, RowFits}
-use Rattle.sets.specs.Sums.{sumsOf}
-use Rattle.permits.proofs.Permits.{Fit, permits, admitted}
+use Rattle.sets.specs.Sets.{row, Bounded, Permitted}
+use Rattle.sets.specs.steps.Deciding.{Arises, Admits, RowFits}
+use Rattle.sets.specs.steps.Sums.{sums-of}
+use Rattle.sets.proofs.admission.Permits.{Fit, permits, admitted}
 use Rattle.checks.specs.declared.Base.{Base}
 use Rattle.checks.specs.declared.Check.{Check}
 use Rattle.checks.specs.declared.Check.the-variants.{OP, OM, SL, PR, RK}
 use Rattle.checks.specs.declared.Figure.{Figure}
-use Rattle.set_figures.specs.Figures.{Shows, Judged}
+use Rattle.checks.specs.set_figures.Figures.{Shows}
+use Rattle.checks.specs.steps.BySums.{ShowsBySums}
 use Rattle.checks.specs.Order.{side}
-use Rattle.service.specs.Service.{Service, HasCheck}
+use Rattle.checks.specs.service.Service.{Service, HasCheck}
 use Rattle.checks.proofs.Ranking.{ranks-map}
-use Rattle.set_figures.proofs.Showing.{judged-shows, shows-one}
-use Rattle.named.specs.declared.Worst.{Worst}
-use Rattle.marks.specs.declared.Mark.{Mark}
-use Rattle.filling.specs.declared.Table.{Table}
-use Rattle.marks.specs.Marks.{Offered}
-use Rattle.choices.specs.Stance.{free, pick, chosen, stanceAt}
-use Rattle.named.specs.Weighs.{markOf, Weighed, Weighs}
-use Rattle.table_rows.specs.Table.{rowOf}
-use Rattle.visits.specs.Visits.{Visits}
-use Rattle.filling.specs.Filling.{Filled}
-use Rattle.worst.specs.Search.{Walked}
-use Rattle.named.proofs.Weights.{Extends, nothing-yet, offer, skip, ends-named, ends-empty}
-use Rattle.choices.proofs.Choices.{pick-low, pick-bit, Stands, Made, made, sums-number, Tabled, pick-sums}
-use Rattle.choices.proofs.Rows.{stance-says, held-never, held-always, stance-fits}
+use Rattle.checks.proofs.set_figures.Showing.{by-sums-shows, shows-one}
+use Rattle.weighing.specs.declared.Worst.{Worst}
+use Rattle.weighing.specs.declared.ranked.RankedSet.{RankedSet}
+use Rattle.worst.specs.declared.term_table.Table.{Table}
+use Rattle.weighing.specs.steps.Ranked.{Offered}
+use Rattle.worst.specs.steps.Stance.{free, pick, chosen, stance-at}
+use Rattle.weighing.specs.steps.Weighs.{ranked-of, Weighed, Weighs, Visits}
+use Rattle.worst.specs.steps.Table.{terms-at}
+use Rattle.worst.specs.steps.Filling.{TableIs}
+use Rattle.worst.specs.steps.Search.{Walked}
+use Rattle.weighing.proofs.Searching.{Extends, nothing-yet, offer, skip, ends-named, ends-empty}
+use Rattle.worst.proofs.choices.Choices.{pick-low, pick-bit, Stands, Made, made, sums-number, Tabled, pick-sums}
+use Rattle.worst.proofs.choices.Rows.{stance-says, held-never, held-always, stance-fits}
 
 -- ---- the choices gone through, and what is found over all of them
 -- the set of choice k, and the sets of the first n choices
-unfoldable pub setOf : Combination → Loads → ℕ → ℕ
-setOf combination loads k = pick (stanceAt combination loads) (loads .count) k
+unfoldable pub set-of : Combination → Loads → ℕ → ℕ
+set-of combination loads k = pick (stance-at combination loads) (loads .count) k
 
 unfoldable pub Passed : Combination → Loads → ℕ → ℕ → Type 0
-Passed combination loads n t = (k : ℕ) × (k < n) × (t ≡ setOf combination loads k)
+Passed combination loads n t = (k : ℕ) × (k < n) × (t ≡ set-of combination loads k)
 
 -- the worst so far, check by check, after the first n choices
-unfoldable pub So-far : Combination → Base → Loads → Bool → Bool → ℕ → Mark → Worst → Type 0
-So-far combination base loads serves rock n none worst =
-    (check : Check) → Weighed serves rock check → Extends (side check) (Permitted combination loads) (Shows check base loads) (Passed combination loads n) none (markOf check worst)
+unfoldable pub So-far : Combination → Base → Loads → Bool → ℕ → RankedSet → Worst → Type 0
+So-far combination base loads serves n none worst =
+    (check : Check) → Weighed serves base check → Extends (side check) (Permitted combination loads) (Shows check base loads) (Passed combination loads n) none (ranked-of check worst)
 
-module _ (combination : Combination) (base : Base) (loads : Loads) (bounded : Bounded loads) (opens : Opens combination loads) where
-  pub set-low : (k : ℕ) → setOf combination loads k < 65536
-  unfolding setOf
-  set-low k = lt-of-lt-of-le (pick-low (stanceAt combination loads) (loads .count) k) (pow-mono {j = 16} (bounded .count))
+module _ (combination : Combination) (base : Base) (loads : Loads) (bounded : Bounded loads) (arises : Arises combination loads) where
+  pub set-low : (k : ℕ) → set-of combination loads k < 65536
+  unfolding set-of
+  set-low k = lt-of-lt-of-le (pick-low (stance-at combination loads) (loads .count) k) (pow-mono {j = 16} (bounded .count))
 
-  fits : (k : ℕ) → Fit (base .width) loads (setOf combination loads k) combination
-  unfolding Fit setOf stanceAt
+  fits : (k : ℕ) → Fit (base .width) loads (set-of combination loads k) combination
+  unfolding Fit set-of stance-at
   fits k = (
-    pick-low (stanceAt combination loads) (loads .count) k,
-    λ i h. subst⁻¹ (RowFits combination (row loads i)) (pick-bit (stanceAt combination loads) (loads .count) k i h)
-        (stance-fits combination (row loads i) (stanceAt combination loads i) _ (stance-says combination (row loads i))),
+    pick-low (stance-at combination loads) (loads .count) k,
+    λ i h. subst⁻¹ (RowFits combination (row loads i)) (pick-bit (stance-at combination loads) (loads .count) k i h)
+        (stance-fits combination (row loads i) (stance-at combination loads i) _ (stance-says combination (row loads i))),
   )
 
   -- the sums of a choice are those of its set
-  pub choice-sums : (table : Table) (k : ℕ) → Filled combination (base .width) loads (loads .count) table
-      → chosen (table .fixed) (rowOf (table .terms)) k (table .free) ≡ sumsOf (base .width) loads (setOf combination loads k)
-  unfolding setOf sumsOf Tabled
+  pub choice-sums : (table : Table) (k : ℕ) → TableIs combination (base .width) loads (loads .count) table
+      → chosen (table .fixed) (terms-at (table .terms)) k (table .free) ≡ sums-of (base .width) loads (set-of combination loads k)
+  unfolding set-of sums-of Tabled
   choice-sums table k f =
-      (λ i. chosen (f .always i) (rowOf (table .terms)) k (f .count i)) ∙ sym (pick-sums (stanceAt combination loads) (base .width) loads (rowOf (table .terms)) (loads .count) k (f .rows))
+      (λ i. chosen (f .always i) (terms-at (table .terms)) k (f .count i)) ∙ sym (pick-sums (stance-at combination loads) (base .width) loads (terms-at (table .terms)) (loads .count) k (f .rows))
 
-  pub set-number : (k : ℕ) → (sumsOf (base .width) loads (setOf combination loads k)) .set ≡ setOf combination loads k
-  unfolding setOf sumsOf
-  set-number k = sums-number (base .width) loads _ (loads .count) (pick-low (stanceAt combination loads) (loads .count) k)
+  pub set-number : (k : ℕ) → (sums-of (base .width) loads (set-of combination loads k)) .set ≡ set-of combination loads k
+  unfolding set-of sums-of
+  set-number k = sums-number (base .width) loads _ (loads .count) (pick-low (stance-at combination loads) (loads .count) k)
 
   -- one choice more
-  passed-more : (n t : ℕ) → Passed combination loads (n + 1) t → Passed combination loads n t ⊎ (t ≡ setOf combination loads n)
+  passed-more : (n t : ℕ) → Passed combination loads (n + 1) t → Passed combination loads n t ⊎ (t ≡ set-of combination loads n)
   unfolding Passed
-  passed-more n t w = go (decLt (w .0) n)
-    where
-      go : Dec (w .0 < n) → Passed combination loads n t ⊎ (t ≡ setOf combination loads n)
-      go (yes h) = inl (w .0, h, w .2)
-      go (no h) = let e : w .0 ≡ n = omega (arith, w .1) in inr (w .2 ∙ ap (setOf combination loads) e)
+  passed-more n t w =
+      by-cases (decLt (w .0) n) (λ h. inl (w .0, h, w .2)) (λ h. let e : w .0 ≡ n = omega (arith, w .1) in inr (w .2 ∙ ap (set-of combination loads) e))
 
-  pub one-choice : (serves rock : Bool) (n : ℕ) (none : Mark) {sums : Sums} {b r : Worst} → sums ≡ sumsOf (base .width) loads (setOf combination loads n) → Visits combination serves rock base sums b r
-      → So-far combination base loads serves rock n none b → So-far combination base loads serves rock (n + 1) none r
+  pub one-choice : (serves : Bool) (n : ℕ) (none : RankedSet) {sums : Sums} {b r : Worst} → sums ≡ sums-of (base .width) loads (set-of combination loads n) → Visits combination serves base sums b r
+      → So-far combination base loads serves n none b → So-far combination base loads serves (n + 1) none r
   unfolding So-far
-  one-choice serves rock n none {sums} {b} {r} e v so check on = ⊎-elim inside outside (v .came)
+  one-choice serves n none {sums} {b} {r} e v so check on = ⊎-elim inside outside (v .came)
     where
-      number : sums .set ≡ setOf combination loads n
+      number : sums .set ≡ set-of combination loads n
       number = ap (λ (s : Sums). s .set) e ∙ set-number n
 
-      admits : Admits combination (sums .winds) (sums .quakes) (sums .set) ≡ Admits combination ((sumsOf (base .width) loads (setOf combination loads n)) .winds) ((sumsOf (base .width) loads (setOf combination loads n)) .quakes) (setOf combination loads n)
+      admits : Admits combination (sums .winds) (sums .quakes) (sums .set) ≡ Admits combination ((sums-of (base .width) loads (set-of combination loads n)) .winds) ((sums-of (base .width) loads (set-of combination loads n)) .quakes) (set-of combination loads n)
       admits = (λ i. Admits combination ((e i) .winds) ((e i) .quakes) (number i))
 
       inside : Admits combination (sums .winds) (sums .quakes) (sums .set)
-          × Weighs serves rock base sums b r
-          → Extends (side check) (Permitted combination loads) (Shows check base loads) (Passed combination loads (n + 1)) none (markOf check r)
+          × Weighs serves base sums b r
+          → Extends (side check) (Permitted combination loads) (Shows check base loads) (Passed combination loads (n + 1)) none (ranked-of check r)
       inside w =
-          offer (side check) (Permitted combination loads) (Shows check base loads) (setOf combination loads n) (so check on) (passed-more n)
-          (permits (base .width) loads (setOf combination loads n) combination (fits n) opens (subst (λ (A : Type 0). A) admits (w .0)))
+          offer (side check) (Permitted combination loads) (Shows check base loads) (set-of combination loads n) (so check on) (passed-more n)
+          (permits (base .width) loads (set-of combination loads n) combination (fits n) arises (subst (λ (A : Type 0). A) admits (w .0)))
           (shown (w .1 .offered check on))
         where
-          shown : Offered (side check) (Judged check base sums) (markOf check b) (sums .set) (markOf check r) → Offered (side check) (Shows check base loads (setOf combination loads n)) (markOf check b) (setOf combination loads n) (markOf check r)
+          shown : Offered (side check) (ShowsBySums check base sums) (ranked-of check b) (sums .set) (ranked-of check r) → Offered (side check) (Shows check base loads (set-of combination loads n)) (ranked-of check b) (set-of combination loads n) (ranked-of check r)
           shown o =
-              subst (λ (s : ℕ). Offered (side check) (Shows check base loads (setOf combination loads n)) (markOf check b) s (markOf check r)) number
+              subst (λ (s : ℕ). Offered (side check) (Shows check base loads (set-of combination loads n)) (ranked-of check b) s (ranked-of check r)) number
               (record {
                 rank = o .rank;
-                ranks = ranks-map (λ f h. judged-shows base loads (setOf combination loads n) check f (subst (λ (s : Sums). Judged check base s f) e h)) (o .ranks);
+                ranks = ranks-map (λ f h. by-sums-shows base loads (set-of combination loads n) check f (subst (λ (s : Sums). ShowsBySums check base s f) e h)) (o .ranks);
                 worse = o .worse;
               })
 
       outside : (Admits combination (sums .winds) (sums .quakes) (sums .set) → ⊥) × (r ≡ b)
-          → Extends (side check) (Permitted combination loads) (Shows check base loads) (Passed combination loads (n + 1)) none (markOf check r)
+          → Extends (side check) (Permitted combination loads) (Shows check base loads) (Passed combination loads (n + 1)) none (ranked-of check r)
       outside w =
-          subst⁻¹ (λ (x : Worst). Extends (side check) (Permitted combination loads) (Shows check base loads) (Passed combination loads (n + 1)) none (markOf check x)) (w .1)
-          (skip (side check) (Permitted combination loads) (Shows check base loads) (setOf combination loads n) (so check on) (passed-more n)
-          (λ p. w .0 (subst⁻¹ (λ (A : Type 0). A) admits (admitted (base .width) loads (setOf combination loads n) combination p))))
+          subst⁻¹ (λ (x : Worst). Extends (side check) (Permitted combination loads) (Shows check base loads) (Passed combination loads (n + 1)) none (ranked-of check x)) (w .1)
+          (skip (side check) (Permitted combination loads) (Shows check base loads) (set-of combination loads n) (so check on) (passed-more n)
+          (λ p. w .0 (subst⁻¹ (λ (A : Type 0). A) admits (admitted (base .width) loads (set-of combination loads n) combination p))))
 
   -- every permitted set is a choice
-  every : (t : ℕ) → Permitted combination loads t → Passed combination loads (2 ^ free (stanceAt combination loads) (loads .count)) t
-  unfolding Passed setOf Made Stands stanceAt
+  every : (t : ℕ) → Permitted combination loads t → Passed combination loads (2 ^ free (stance-at combination loads) (loads .count)) t
+  unfolding Passed set-of Made Stands stance-at
   every t p =
-      let m = made (stanceAt combination loads) t (loads .count) (p .within) (λ i h. (held-never combination loads t i p h, held-always combination loads t i p h)) in
+      let m = made (stance-at combination loads) t (loads .count) (p .within) (λ i h. (held-never combination loads t i p h, held-always combination loads t i p h)) in
       (m .0, m .1, sym (m .2))
 
-  pub all-found : (serves rock : Bool) (n : ℕ) (none : Mark) (worst : Worst) → n ≡ 2 ^ free (stanceAt combination loads) (loads .count) → none .set ≡ 0 → none .rank ≡ 2 ^ 64 - 1
-      → Decides serves (Service combination) → rock ≡ base .rock → So-far combination base loads serves rock n none worst → Walked combination base loads worst
+  pub all-found : (serves : Bool) (n : ℕ) (none : RankedSet) (worst : Worst) → n ≡ 2 ^ free (stance-at combination loads) (loads .count) → none .set ≡ 0 → none .rank ≡ 2 ^ 64 - 1
+      → Decides serves (Service combination) → So-far combination base loads serves n none worst → Walked combination base loads worst
   unfolding Walked So-far Weighed HasCheck
-  all-found serves rock n none worst e z l d o so check has =
+  all-found serves n none worst e z l d so check has =
       record {
         named = λ found v sound ranked. ends-named _ _ _ over every some rows one z l v sound ranked found;
         none = λ empty. ends-empty _ _ _ over every some rows one z l empty;
@@ -138,15 +137,15 @@ module _ (combination : Combination) (base : Base) (loads : Loads) (bounded : Bo
       serving true d s = refl
       serving false d s = absurd (d s)
 
-      weighed : (check : Check) → HasCheck combination check base → Weighed serves rock check
+      weighed : (check : Check) → HasCheck combination check base → Weighed serves base check
       weighed OP h = serving serves d h
       weighed OM h = serving serves d h
       weighed SL h = serving serves d h
       weighed PR h = tt
-      weighed RK h = o ∙ h
+      weighed RK h = h
 
-      over : Extends (side check) (Permitted combination loads) (Shows check base loads) (Passed combination loads (2 ^ free (stanceAt combination loads) (loads .count))) none (markOf check worst)
-      over = subst (λ (m : ℕ). Extends (side check) (Permitted combination loads) (Shows check base loads) (Passed combination loads m) none (markOf check worst)) e (so check (weighed check has))
+      over : Extends (side check) (Permitted combination loads) (Shows check base loads) (Passed combination loads (2 ^ free (stance-at combination loads) (loads .count))) none (ranked-of check worst)
+      over = subst (λ (m : ℕ). Extends (side check) (Permitted combination loads) (Shows check base loads) (Passed combination loads m) none (ranked-of check worst)) e (so check (weighed check has))
 
       some : (t : ℕ) → Permitted combination loads t → 0 < t
       some t p = p .some
@@ -157,8 +156,8 @@ module _ (combination : Combination) (base : Base) (loads : Loads) (bounded : Bo
       one : (t : ℕ) (v w : Figure) → Shows check base loads t v → Shows check base loads t w → v ≡ w
       one t v w p q = shows-one check base loads t v w p q
 
-  pub nothing-passed : (serves rock : Bool) (none : Mark) (worst : Worst) → ((check : Check) → markOf check worst ≡ none) → So-far combination base loads serves rock 0 none worst
+  pub nothing-passed : (serves : Bool) (none : RankedSet) (worst : Worst) → ((check : Check) → ranked-of check worst ≡ none) → So-far combination base loads serves 0 none worst
   unfolding So-far Passed
-  nothing-passed serves rock none worst e check on =
+  nothing-passed serves none worst e check on =
       subst⁻¹ (Extends (side check) (Permitted combination loads) (Shows check base loads) (Passed combination loads 0) none) (e check)
       (nothing-yet (side check) (Permitted combination loads) (Shows check base loads) (λ t w. omega (arith, w .1)))

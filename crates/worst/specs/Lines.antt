@@ -1,7 +1,7 @@
 -- Document 01, Load sets and the printed answer: the line of a check in a combination.
 use mathlib.Core.Bool.{Bool}
 use Prim.Native.Nat.{ℕ}
-use Rattle.decides.specs.Decides.{Decides}
+use Rattle.arithmetic.specs.decides.Decides.{Decides}
 use Rattle.sets.specs.declared.Combination.{Combination}
 use Rattle.sets.specs.declared.Loads.{Loads}
 use Rattle.sets.specs.Sets.{Permitted}
@@ -9,15 +9,15 @@ use Rattle.checks.specs.declared.Base.{Base}
 use Rattle.checks.specs.declared.Check.{Check}
 use Rattle.checks.specs.declared.Check.the-variants.{OP, OM, SL, PR, RK}
 use Rattle.checks.specs.declared.Figure.{Figure}
-use Rattle.set_figures.specs.Figures.{Shows}
+use Rattle.checks.specs.set_figures.Figures.{Shows}
 use Rattle.checks.specs.Order.{side}
-use Rattle.limits.specs.Limits.{Limit}
+use Rattle.checks.specs.limits.Limits.{Limit}
 use Rattle.lines.specs.declared.Line.{Line}
 use Rattle.lines.specs.declared.Line.the-variants.{Missing, Shown}
 use Rattle.lines.specs.declared.Lines.{Lines}
-use Rattle.service.specs.Service.{HasCheck}
-use Rattle.passing.specs.Passing.{Passes}
-use Rattle.named.specs.Named.{Named}
+use Rattle.checks.specs.service.Service.{HasCheck}
+use Rattle.checks.specs.passing.Passing.{Passes}
+use Rattle.weighing.specs.Named.{Named}
 
 -- value, limit, set, Y or N
 pub record Printed (combination : Combination) (check : Check) (base : Base) (loads : Loads) (figure : Figure) (limit set : ℕ) (passes : Bool) : Type 0 where
@@ -27,9 +27,9 @@ pub record Printed (combination : Combination) (check : Check) (base : Base) (lo
   pub marked : Decides passes (Passes (side check) limit figure)
 
 -- A combination with no set is not checked, and one that has not the check has no line of it.
-unfoldable pub Says : Combination → Check → Base → Loads → Line → Type 0
-Says combination check base loads Missing = HasCheck combination check base → (set : ℕ) → Permitted combination loads set → ⊥
-Says combination check base loads (Shown figure limit set passes) = Printed combination check base loads figure limit set passes
+unfoldable pub LineSays : Combination → Check → Base → Loads → Line → Type 0
+LineSays combination check base loads Missing = HasCheck combination check base → (set : ℕ) → Permitted combination loads set → ⊥
+LineSays combination check base loads (Shown figure limit set passes) = Printed combination check base loads figure limit set passes
 
 -- the line of each check
 unfoldable pub line : Check → Lines → Line

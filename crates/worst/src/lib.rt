@@ -3,38 +3,41 @@
 // One walk goes through the choices of the combination's free rows and weighs all its checks at once. What is hard is that every
 // permitted set is a choice and no other, and that the promise of the walk names no order: it is only that no permitted set comes
 // before the one that is named.
+mod choices;
+mod term_table;
+
 use checks::Base;
 use checks::Check;
 use checks::TOP;
 use lines::Line;
 use lines::Lines;
-use marks::Mark;
-use named::Worst;
 use sets::Combination;
 use sets::Loads;
+use weighing::Worst;
+use weighing::ranked::RankedSet;
 ghost use Prim.Native.Nat.{_≤_};
 ghost use Rattle.sets.specs.declared.Loads.{Loads};
-ghost use Rattle.sets.specs.Sets.{Bounded, Opens};
+ghost use Rattle.sets.specs.Sets.{Bounded};
+ghost use Rattle.sets.specs.steps.Deciding.{Arises};
 ghost use Rattle.checks.specs.Sized.{Sized};
-ghost use Rattle.service.specs.Service.{HasCheck};
-ghost use Rattle.worst.specs.Lines.{Says, line};
-ghost use Rattle.worst.specs.Search.{Found, Walked};
+ghost use Rattle.checks.specs.service.Service.{HasCheck};
+ghost use Rattle.worst.specs.Lines.{LineSays, line};
+ghost use Rattle.worst.specs.steps.Search.{FoundWorst, Walked};
 
 // The worst of all choices: every permitted set of the combination is one of them. The first rows, a quarter of them, change most
 // often, so the sums of the others are added once for all choices that differ in the first alone.
 fn walk(combination: Combination, base: Base, loads: Loads) -> Worst
     requires { ⌜ Sized base ⌝ }
     requires { ⌜ Bounded loads ⌝ }
-    requires { ⌜ Opens combination loads ⌝ }
+    requires { ⌜ Arises combination loads ⌝ }
     ensures { λ r. ⌜ Walked combination base loads r ⌝ }
 {
-    let serves = service::serves(combination);
-    let rock = base.rock;
-    let table = filling::fill(combination, base.width, loads);
+    let serves = checks::service::serves(combination);
+    let table = term_table::fill(combination, base.width, loads);
     let terms = table.terms;
     let free = table.free;
     let fixed = table.fixed;
-    let none = Mark { rank: TOP, set: 0 };
+    let none = RankedSet { rank: TOP, set: 0 };
     let mut worst = Worst {
         op: none,
         om: none,
@@ -49,28 +52,28 @@ fn walk(combination: Combination, base: Base, loads: Loads) -> Worst
     let mut k: u64 = 0;
     while k < choices {
         if k % step == 0 {
-            upper = tables::sums_at(&terms, low, free - low, k / step, fixed);
+            upper = term_table::sums_at(&terms, low, free - low, k / step, fixed);
         }
-        let sums = tables::sums_at(&terms, 0, low, k % step, upper);
-        worst = visits::visit(combination, serves, rock, base, sums, worst);
+        let sums = term_table::sums_at(&terms, 0, low, k % step, upper);
+        worst = weighing::visit(combination, serves, base, sums, worst);
         k = k + 1;
     }
     worst
 }
 
-// The line of a check from the rank and the set of the mark that the walk found.
+// The line of a check from the rank and the set that the walk found.
 fn line_at(combination: Combination, check: Check, base: Base, rank: u64, set: u64) -> Line
     requires { ⌜ base .allowable ≤ 10000 ⌝ }
-    ensures { λ r. ⌜ ((loads : Loads) → (HasCheck combination check base → Found combination check base loads (record { rank = rank; set = set }))
-        → Says combination check base loads r) ⌝ }
+    ensures { λ r. ⌜ ((loads : Loads) → (HasCheck combination check base → FoundWorst combination check base loads (record { rank = rank; set = set }))
+        → LineSays combination check base loads r) ⌝ }
 {
-    let has = service::has_check(combination, check, base);
+    let has = checks::service::has_check(combination, check, base);
     if !has | (set == 0) {
         return Line::Missing;
     }
     let figure = checks::figure_at(check, rank);
-    let limit = limits::limit_of(combination, check, base);
-    let passes = passing::passes(check, limit, figure);
+    let limit = checks::limits::limit_of(combination, check, base);
+    let passes = checks::passing::passes(check, limit, figure);
     Line::Shown {
         figure,
         limit,
@@ -83,9 +86,9 @@ fn line_at(combination: Combination, check: Check, base: Base, rank: u64, set: u
 pub fn worst_lines(combination: Combination, base: Base, loads: Loads) -> Lines
     requires { ⌜ Sized base ⌝ }
     requires { ⌜ Bounded loads ⌝ }
-    ensures { λ r. ⌜ ((check : Check) → Says combination check base loads (line check r)) ⌝ }
+    ensures { λ r. ⌜ ((check : Check) → LineSays combination check base loads (line check r)) ⌝ }
 {
-    if !openings::opens(combination, loads) {
+    if !sets::arising::arises(combination, loads) {
         return lines::no_lines();
     }
     let worst = walk(combination, base, loads);

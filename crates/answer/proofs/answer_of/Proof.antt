@@ -1,15 +1,16 @@
--- Refusal 11 of the B, S and C rows comes first, and `told-first` orders the rest. Where it leaves the river's lines the loads are given,
+-- Refusal 11 of the B row comes first, and `told-first` orders the rest. Where it leaves the river's lines the loads are given,
 -- and their bounds and the base's are what `whole` asks.
 use mathlib.Core.Path.{sym, subst, _∙_}
 use borrow.Author.Tests.{not-true, not-false}
-use Rattle.decides.specs.Decides.{decided, refuted}
-use Rattle.table2.specs.Table2.{table2-fill}
-use Rattle.table2.proofs.Marks.{table2-small}
+use Rattle.arithmetic.specs.decides.Decides.{decided, refuted}
+use Rattle.earth.specs.table2.Table2.{table2-fill}
+use Rattle.earth.proofs.table2.Marks.{table2-small}
 use Rattle.checks.specs.Sized.{Sized}
 use Rattle.checks.specs.declared.Base.{Base}
 use Rattle.loads.proofs.Answering.{given-bounded}
-use Rattle.job_ranges.specs.Rows.{RowsRanged}
-use Rattle.waters.specs.Waters.{RiverSays}
+use Rattle.kinds.specs.ranges.Range.{Ranged}
+use Rattle.kinds.specs.declared.Kind.the-variants.{B}
+use Rattle.answer.specs.river.River.{RiverSays}
 use Rattle.answer.specs.Answer.{refused, answered}
 use Rattle.answer.proofs.Ordering.{refuses-11, given-answer, sized, first-refuses, first-given}
 use borrow.Author.Needs.{needs}
@@ -21,34 +22,32 @@ module _ (c : tie.After-river-of) where
   abbrev at-loads : tie.After-loads-of
   at-loads = c .before
 
-  ranged : RowsRanged (at-loads .before .before .before .before .args .job)
-  ranged = decided (at-loads .before .before .before .rows-ranged .result) (not-false _ (at-loads .before .before .if1 .left)) (at-loads .before .before .before .rows-ranged .ensures)
+  ranged : Ranged B (at-loads .before .before .before .before .args .job .base)
+  ranged = decided (at-loads .before .before .before .is-ranged .result) (not-false _ (at-loads .before .before .if1 .left)) (at-loads .before .before .before .is-ranged .ensures)
 
-rows-ranged-requires : tie.Need-rows-ranged-requires
-rows-ranged-requires c κs = search needs
+is-ranged-requires : tie.Need-is-ranged-requires
+is-ranged-requires c κs = search needs
 
-refused-requires : tie.Need-refused-requires
-refused-requires c κs = search needs
+refused-answer-requires : tie.Need-refused-answer-requires
+refused-answer-requires c κs = search needs
 
 returns : tie.Need-returns
-returns c = refused (refuses-11 _ _ (λ a. refuted (c .before .before .rows-ranged .result) (not-true _ (c .before .if1 .taken)) (c .before .before .rows-ranged .ensures) (a .rows))) (c .refused .ensures)
+returns c = refused (refuses-11 _ _ (λ a. refuted (c .before .before .is-ranged .result) (not-true _ (c .before .if1 .taken)) (c .before .before .is-ranged .ensures) (a .rows .base))) (c .refused-answer .ensures)
 
 loads-of-requires : tie.Need-loads-of-requires
 loads-of-requires c κs = search needs
 
 river-of-requires : tie.Need-river-of-requires
-river-of-requires c κs =
-    let at-row = c .before .before .before in
-    decided (at-row .rows-ranged .result) (not-false _ (c .before .before .if1 .left)) (at-row .rows-ranged .ensures)
+river-of-requires c κs = search needs
 
-joined-requires : tie.Need-joined-requires
-joined-requires c κs = search needs
+first-told-requires : tie.Need-first-told-requires
+first-told-requires c κs = search needs
 
 enum-known-number : tie.Need-enum-known-number
 enum-known-number c = search needs
 
-refused-requires-2 : tie.Need-refused-requires-2
-refused-requires-2 c κs = search needs
+refused-answer-requires-2 : tie.Need-refused-answer-requires-2
+refused-answer-requires-2 c κs = search needs
 
 enum-known-depth : tie.Need-enum-known-depth
 enum-known-depth c = search needs
@@ -58,44 +57,44 @@ base-at-requires c κs = search needs
 
 whole-requires : tie.Need-whole-requires
 whole-requires c κs =
-    let at-joined = c .before .before .before .before in
-    let at-river = at-joined .before in
+    let at-first = c .before .before .before .before in
+    let at-river = at-first .before in
     let loads = at-loads at-river in
     let job = loads .before .before .before .before .args .job in
-    let given = first-given (loads .loads-of .result .answer) _ (sym (at-joined .joined .ensures) ∙ c .before .before .depth .given .1) in (
-      subst (λ (b : Base). Sized b) (sym (c .base-at .ensures)) (sized (job .base) (ranged at-river .base)),
+    let given = first-given (loads .loads-of .result .answer) _ (sym (at-first .first-told .ensures) ∙ c .before .before .depth .given .1) in (
+      subst (λ (b : Base). Sized b) (sym (c .base-at .ensures)) (sized (job .base) (ranged at-river)),
       given-bounded table2-fill table2-small (job .loads) (job .count) (loads .loads-of .result) (loads .loads-of .ensures) (given .0),
     )
 
 returns-2 : tie.Need-returns-2
 returns-2 c =
-    let at-joined = c .before .before .before .before in
-    let at-river = at-joined .before in
+    let at-first = c .before .before .before .before in
+    let at-river = at-first .before in
     let loads = at-loads at-river in
     let job = loads .before .before .before .before .args .job in
-    refused (first-refuses table2-fill job (loads .loads-of .result) (loads .loads-of .ensures) (ranged at-river) (at-river .river-of .result) (at-river .river-of .ensures) (sym (at-joined .joined .ensures) ∙ c .before .before .number .given .1)) (c .refused2 .ensures)
+    refused (first-refuses table2-fill job (loads .loads-of .result) (loads .loads-of .ensures) (ranged at-river) (at-river .river-of .result) (at-river .river-of .ensures) (sym (at-first .first-told .ensures) ∙ c .before .before .number .given .1)) (c .refused-answer2 .ensures)
 
 returns-3 : tie.Need-returns-3
 returns-3 c =
-    let at-joined = c .before .before .before .before .before in
-    let at-river = at-joined .before in
+    let at-first = c .before .before .before .before .before in
+    let at-river = at-first .before in
     let loads = at-loads at-river in
     let job = loads .before .before .before .before .args .job in
-    let given = first-given (loads .loads-of .result .answer) _ (sym (at-joined .joined .ensures) ∙ c .before .before .before .depth .given .1) in
+    let given = first-given (loads .loads-of .result .answer) _ (sym (at-first .first-told .ensures) ∙ c .before .before .before .depth .given .1) in
     answered (given-answer table2-fill job (loads .loads-of .result) (loads .loads-of .ensures) (ranged at-river) (given .0) (subst (RiverSays job) (given .1) (at-river .river-of .ensures)) (c .before .base-at .ensures) (c .whole .ensures))
 
 pub answer-of-spec : {M : Type 1} → statement M
 answer-of-spec =
     tie.close
     (tie.spec
-    rows-ranged-requires
-    refused-requires
+    is-ranged-requires
+    refused-answer-requires
     returns
     loads-of-requires
     river-of-requires
-    joined-requires
+    first-told-requires
     enum-known-number
-    refused-requires-2
+    refused-answer-requires-2
     enum-known-depth
     base-at-requires
     whole-requires

@@ -2,7 +2,7 @@
 use Prim.Native.Nat.{_<_}
 use mathlib.Core.List.{[], _∷_}
 use native.Mathlib.Omega.{arith}
-use Rattle.rfc4180.specs.Rfc4180.{COMMA}
+use Rattle.csv.specs.rfc4180.Rfc4180.{COMMA}
 use Rattle.block.proofs.Numbers.{decimal-length}
 use Rattle.block.proofs.Pages.{then}
 use borrow.Author.Needs.{needs}

@@ -3,7 +3,7 @@
 use borrow.Author.Needs.{needs}
 use native.Mathlib.Omega.{arith}
 use mathlib.Core.Path.{refl, sym}
-use Rattle.checks.specs.Order.{Sound, rank}
+use Rattle.checks.specs.steps.Ranks.{HasRank, rank}
 use Rattle.checks.proofs.Sides.{low-side, high-side}
 use Rattle.checks.proofs.figure_at.Statement.{statement}
 use Rattle.checks.proofs.figure_at.Tie as tie
@@ -12,19 +12,19 @@ sub-t8 : tie.Need-sub-t8
 sub-t8 c = search needs
 
 returns : tie.Need-returns
-unfolding Sound rank
+unfolding HasRank rank
 returns c = rw (low-side (c .before .before .args .check) (c .before .match .keys1)) (tt, sym (c .if1 .taken))
 
 returns-2 : tie.Need-returns-2
-unfolding Sound rank
+unfolding HasRank rank
 returns-2 c = rw (low-side (c .before .before .args .check) (c .before .match .keys1)) (omega (arith, c .if1 .left), refl)
 
 returns-3 : tie.Need-returns-3
-unfolding Sound rank
+unfolding HasRank rank
 returns-3 c = rw (high-side (c .before .before .args .check) (c .before .match .keys2)) (tt, sym (c .if2 .taken))
 
 returns-4 : tie.Need-returns-4
-unfolding Sound rank
+unfolding HasRank rank
 returns-4 c = rw (high-side (c .before .before .args .check) (c .before .match .keys2)) (omega (arith, c .if2 .left), omega arith)
 
 pub figure-at-spec : {M : Type 1} → statement M

@@ -3,13 +3,13 @@
 use mathlib.Core.Path.{sym, _∙_, subst}
 use borrow.Author.Needs.{needs}
 use borrow.Author.Tests.{not-true, not-false}
-use Rattle.decides.specs.Decides.{decided, refuted}
-use Rattle.ranges.specs.Range.{Ranged}
+use Rattle.arithmetic.specs.decides.Decides.{decided, refuted}
+use Rattle.kinds.specs.ranges.Range.{Ranged}
 use Rattle.kinds.specs.declared.Kind.the-variants.{E}
-use Rattle.table2.specs.Table2.{Small}
+use Rattle.earth.specs.table2.Table2.{LowCoefficient}
 use Rattle.earth.specs.Earth.{refused, push, Pushed, blank, value, out-of-range, in-range}
-use Rattle.table2.specs.declared.Coefficient.{Coefficient}
-use Rattle.table2.proofs.Marks.{table2-small}
+use Rattle.earth.specs.declared.table2.Coefficient.{Coefficient}
+use Rattle.earth.proofs.table2.Marks.{table2-small}
 use Rattle.earth.proofs.pressure.Statement.{statement}
 use Rattle.earth.proofs.pressure.Tie as tie
 
@@ -47,7 +47,7 @@ thrust-of-requires c κs =
     let found = known .before .before in
     let row = found .before .before .before .args .row in
     let r = ranged (found .before) in
-    (subst Small (sym (found .look-up .ensures) ∙ known .k .given .1) (table2-small (row .n1 .size) (row .n2 .size)), r .n3 .to, r .n4 .to)
+    (subst LowCoefficient (sym (found .look-up .ensures) ∙ known .k .given .1) (table2-small (row .n1 .size) (row .n2 .size)), r .n3 .to, r .n4 .to)
 
 cast-arm-of : tie.Need-cast-arm-of
 cast-arm-of c = search needs

@@ -2,7 +2,7 @@
 use mathlib.Core.Path.{ap}
 use lib.ListN.{length}
 use Rattle.fields.specs.declared.Entered.the-variants.{Is, Wrong}
-use Rattle.quotes.proofs.Contents.{nothing}
+use Rattle.fields.proofs.content.Contents.{nothing}
 use Rattle.fields.proofs.Numerals.{empty-field}
 use borrow.Author.Needs.{needs}
 use Rattle.fields.proofs.empty_at.Statement.{statement}

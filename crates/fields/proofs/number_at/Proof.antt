@@ -2,8 +2,8 @@
 -- No number has a quote in it, so the number of the stretch without its quotes is that of the field.
 use mathlib.Core.Path.{refl, subst}
 use mathlib.Core.Logic.{inl, inr, ⊎-elim}
-use Rattle.digits.specs.Numerals.{DigitsAre}
-use Rattle.digits.proofs.Numerals.{numeral-unique}
+use Rattle.fields.specs.digits.Numerals.{DigitsAre}
+use Rattle.fields.proofs.digits.Numerals.{numeral-unique}
 use Rattle.fields.specs.declared.Entered.the-variants.{Is, Wrong}
 use Rattle.fields.proofs.Numerals.{Signed, sign-told, sign-within, number, no-number, number-field}
 use borrow.Author.Needs.{needs}
@@ -34,8 +34,8 @@ part-digits-of-end c = search needs
 digits-of-requires : tie.Need-digits-of-requires
 digits-of-requires c κs = search needs
 
-enum-known-d : tie.Need-enum-known-d
-enum-known-d c = search needs
+enum-known-size : tie.Need-enum-known-size
+enum-known-size c = search needs
 
 enum-told : tie.Need-enum-told
 enum-told c = search needs
@@ -49,13 +49,13 @@ returns c =
 returns-2 : tie.Need-returns-2
 returns-2 c =
     let joined = c .before .before .before .before .before .before in
-    let digits = subst (DigitsAre _) (c .before .before .d .given .1) (c .before .before .before .before .digits-of .ensures) in
+    let digits = subst (DigitsAre _) (c .before .before .size .given .1) (c .before .before .before .before .digits-of .ensures) in
     number-field (joined .before .bare .ensures) Wrong (no-number _ (joined .if1 .minus) (sign joined) (λ n w. rw (numeral-unique (w .numeral) (digits .numeral) refl) (c .if2 .taken)))
 
 returns-3 : tie.Need-returns-3
 returns-3 c =
     let joined = c .before .before .before .before .before .before in
-    let digits = subst (DigitsAre _) (c .before .before .d .given .1) (c .before .before .before .before .digits-of .ensures) in
+    let digits = subst (DigitsAre _) (c .before .before .size .given .1) (c .before .before .before .before .digits-of .ensures) in
     number-field (joined .before .bare .ensures) (Is _) (number _ (joined .if1 .minus) (sign joined) _ digits (c .if2 .left))
 
 pub number-at-spec : {M : Type 1} → statement M
@@ -69,7 +69,7 @@ number-at-spec =
     part-digits-of-start
     part-digits-of-end
     digits-of-requires
-    enum-known-d
+    enum-known-size
     enum-told
     returns
     returns-2

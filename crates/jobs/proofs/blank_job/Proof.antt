@@ -1,9 +1,9 @@
 -- The blank row gives all of it: the key and the numbers of the base, and nothing else is there.
 use mathlib.Core.Path.{ap, _∙_}
-use Rattle.keys.specs.declared.Keyed.{Keyed}
-use Rattle.placing.specs.declared.Stage.the-variants.{Unbegun}
+use Rattle.rows.specs.declared.keys.Keyed.{Keyed}
+use Rattle.jobs.specs.declared.stages.Stage.the-variants.{Unbegun}
 use borrow.Author.Needs.{needs}
-use Rattle.jobs.specs.Place.{based}
+use Rattle.jobs.specs.Blank.{based}
 use Rattle.jobs.proofs.blank_job.Statement.{statement}
 use Rattle.jobs.proofs.blank_job.Tie as tie
 

@@ -12,7 +12,7 @@ use Rattle.kinds.specs.declared.Role.the-variants.{Base, Scour, Clearance, Load
 use Rattle.kinds.specs.declared.Numbers.{Numbers}
 use Rattle.kinds.specs.declared.Row.{Row}
 use Rattle.kinds.proofs.Role.{the-type}
-use Rattle.placing.specs.declared.Stage.{Stage}
+use Rattle.jobs.specs.declared.stages.Stage.{Stage}
 use Rattle.jobs.specs.Place.{with-row}
 use Rattle.jobs.specs.declared.Job.{Job}
 use borrow.Author.Needs.{needs}

@@ -5,11 +5,11 @@ use mathlib.Core.Bool.{true, false, not}
 use mathlib.Core.List.{List}
 use Prim.Native.Nat.{ℕ, _≤_, _<_}
 use borrow.Author.Tests.{not-true, not-false}
-use Rattle.decides.specs.Decides.{decided, refuted}
-use Rattle.table2.specs.Table2.{table2-fill}
+use Rattle.arithmetic.specs.decides.Decides.{decided, refuted}
+use Rattle.earth.specs.table2.Table2.{table2-fill}
 use Rattle.kinds.specs.declared.Row.{Row}
-use Rattle.loads.specs.LoadRows.{AllRanged, NoneBlank}
-use Rattle.loads.specs.Taken.{Told, rowsOf, told, toldBy, Says, out-of-range, blank, too-many, loaded, Beside}
+use Rattle.loads.specs.LoadRows.{AllRanged, NoneBlank, optionals}
+use Rattle.loads.specs.Taken.{LoadsTold, row-count, loads-told, loads-told-by, LoadsSays, out-of-range, blank, too-many, loaded, Beside}
 use Rattle.loads.specs.declared.Asked.{Asked}
 use Rattle.loads.proofs.loads_of.Statement.{statement}
 use Rattle.loads.proofs.loads_of.Tie as tie
@@ -35,59 +35,56 @@ module _ (a : tie.After-asked-of) where
   asked = a .asked-of .result
 
   ranged : not (asked .ranged) ≡ false → AllRanged rows n
-  ranged e = decided (asked .ranged) (not-false (asked .ranged) e) (a .asked-of .ensures .0)
+  ranged e = decided (asked .ranged) (not-false (asked .ranged) e) (a .asked-of .ensures .ranged)
 
   filled : not (asked .filled) ≡ false → NoneBlank table2-fill rows n
-  filled e = decided (asked .filled) (not-false (asked .filled) e) (a .asked-of .ensures .1 .0)
+  filled e = decided (asked .filled) (not-false (asked .filled) e) (a .asked-of .ensures .filled)
 
-  says : {t : Told} → Says table2-fill rows n t → Says table2-fill rows (rowsOf (a .before .before .args .count)) t
-  says {t} = subst (λ (m : ℕ). Says table2-fill rows m t) (a .before .rows-of .ensures .0)
+  -- where nothing is refused so far, the rows are counted and their loads are there
+  counted : not (asked .ranged) ≡ false → not (asked .filled) ≡ false → asked .optional ≡ optionals rows n
+  counted e f = a .asked-of .ensures .optional (not-false (asked .ranged) e) (not-false (asked .filled) f)
+
+  says : {t : LoadsTold} → LoadsSays table2-fill rows n t → LoadsSays table2-fill rows (row-count (a .before .before .args .count)) t
+  says {t} = subst (λ (m : ℕ). LoadsSays table2-fill rows m t) (a .before .rows-of .ensures .0)
 
 returns : tie.Need-returns
-unfolding told toldBy Beside
+unfolding loads-told loads-told-by Beside
 returns c =
     let a = c .before .before .before in
     record {
-      says = says a (out-of-range (refuted (asked a .ranged) (not-true (asked a .ranged) (c .if1 .taken)) (a .asked-of .ensures .0)));
+      says = says a (out-of-range (refuted (asked a .ranged) (not-true (asked a .ranged) (c .if1 .taken)) (a .asked-of .ensures .ranged)));
       beside = c .before .before .no-loads .ensures;
     }
 
 returns-2 : tie.Need-returns-2
-unfolding told toldBy Beside
+unfolding loads-told loads-told-by Beside
 returns-2 c =
     let past-11 = c .before .before in
     let a = past-11 .before .before .before in
     record {
-      says = says a (blank (ranged a (past-11 .if1 .left)) (refuted (asked a .filled) (not-true (asked a .filled) (c .if2 .taken)) (a .asked-of .ensures .1 .0)));
+      says = says a (blank (ranged a (past-11 .if1 .left)) (refuted (asked a .filled) (not-true (asked a .filled) (c .if2 .taken)) (a .asked-of .ensures .filled)));
       beside = past-11 .before .before .no-loads .ensures;
     }
 
 returns-3 : tie.Need-returns-3
-unfolding told toldBy Beside
+unfolding loads-told loads-told-by Beside
 returns-3 c =
     let past-15 = c .before .before in
     let past-11 = past-15 .before .before in
     let a = past-11 .before .before .before in
     record {
-      says = says a (too-many (ranged a (past-11 .if1 .left)) (filled a (past-15 .if2 .left)) (subst (λ (m : ℕ). 12 < m) (a .asked-of .ensures .1 .1) (c .if3 .taken)));
+      says = says a (too-many (ranged a (past-11 .if1 .left)) (filled a (past-15 .if2 .left)) (subst (λ (m : ℕ). 12 < m) (counted a (past-11 .if1 .left) (past-15 .if2 .left)) (c .if3 .taken)));
       beside = past-11 .before .before .no-loads .ensures;
     }
 
-exert-all-requires : tie.Need-exert-all-requires
-exert-all-requires c κs =
-    let past-15 = c .before .before in
-    let past-11 = past-15 .before .before in
-    let a = past-11 .before .before .before in
-    (a .before .rows-of .ensures .1, (ranged a (past-11 .if1 .left), filled a (past-15 .if2 .left)))
-
 returns-4 : tie.Need-returns-4
-unfolding told toldBy Beside
+unfolding loads-told loads-told-by Beside
 returns-4 c =
     let past-15 = c .before .before .before in
     let past-11 = past-15 .before .before in
     let a = past-11 .before .before .before in
     record {
-      says = says a (loaded (ranged a (past-11 .if1 .left)) (filled a (past-15 .if2 .left)) (subst (λ (m : ℕ). m ≤ 12) (a .asked-of .ensures .1 .1) (c .before .if3 .left)) (c .exert-all .ensures));
+      says = says a (loaded (ranged a (past-11 .if1 .left)) (filled a (past-15 .if2 .left)) (subst (λ (m : ℕ). m ≤ 12) (counted a (past-11 .if1 .left) (past-15 .if2 .left)) (c .before .if3 .left)) (a .asked-of .ensures .loads (not-false _ (past-11 .if1 .left)) (not-false _ (past-15 .if2 .left))));
       beside = tt;
     }
 
@@ -101,5 +98,4 @@ loads-of-spec =
     returns
     returns-2
     returns-3
-    exert-all-requires
     returns-4)

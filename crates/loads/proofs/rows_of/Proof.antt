@@ -1,18 +1,18 @@
--- The test is the one in `rowsOf`, and on either side of it at most 16 rows are left.
+-- The test is the one in `row-count`, and on either side of it at most 16 rows are left.
 use mathlib.Core.Path.{sym, ap}
 use mathlib.Core.Bool.{Bool, cond}
 use borrow.Author.Tests.{lt-ltb, le-ltb}
 use lib.Dec.{lit≤}
-use Rattle.loads.specs.Taken.{rowsOf}
+use Rattle.loads.specs.Taken.{row-count}
 use Rattle.loads.proofs.rows_of.Statement.{statement}
 use Rattle.loads.proofs.rows_of.Tie as tie
 
 returns : tie.Need-returns
-unfolding rowsOf
+unfolding row-count
 returns c = (sym (ap (λ (t : Bool). cond t 16 (c .before .args .count)) (lt-ltb 16 _ (c .if1 .taken))), lit≤ tt)
 
 returns-2 : tie.Need-returns-2
-unfolding rowsOf
+unfolding row-count
 returns-2 c = (sym (ap (λ (t : Bool). cond t 16 (c .before .args .count)) (le-ltb 16 _ (c .if1 .left))), c .if1 .left)
 
 pub rows-of-spec : {M : Type 1} → statement M

@@ -5,7 +5,7 @@ use mathlib.Core.Path.{_≡_, refl, _∙_}
 use mathlib.Core.List.{[]}
 use native.Mathlib.Omega.{arith}
 use lib.ListN.{length}
-use Rattle.keys.specs.declared.Key.{Key}
+use Rattle.rows.specs.declared.keys.Key.{Key}
 use Rattle.lines.specs.declared.Answer.{Answer}
 use Rattle.lines.specs.Lines.{Numbered, later-lines}
 use Rattle.block.specs.declared.Block.{Block}

@@ -4,7 +4,7 @@ use mathlib.Core.Path.{sym, ap, _∙_}
 use mathlib.Core.List.{List, _∷_}
 use mathlib.Core.Logic.{⊎-elim}
 use Rattle.lines.specs.Lines.{mark-of}
-use Rattle.line_fields.specs.Text.{mark-text, ending}
+use Rattle.printing.specs.line_fields.Text.{mark-text, ending}
 use Rattle.block.specs.Block.{field, line-end}
 use Rattle.block.proofs.Pages.{spelled}
 use borrow.Author.Needs.{needs}

@@ -6,7 +6,7 @@ use native.Mathlib.Omega.{arith}
 use Rattle.checks.specs.declared.Figure.{Figure}
 use Rattle.lines.specs.Lines.{value-of}
 use Rattle.block.specs.Block.{field}
-use Rattle.line_fields.specs.Text.{value-text}
+use Rattle.printing.specs.line_fields.Text.{value-text}
 use Rattle.block.proofs.Pages.{spelled, put-as}
 use borrow.Author.Needs.{needs}
 use Rattle.printing.proofs.put_figure.Statement.{statement}

@@ -1,8 +1,8 @@
 -- The lines of the four combinations, then SC and CL.
 use mathlib.Core.Path.{refl}
 use Rattle.sets.specs.declared.Combination.the-variants.{I, II, III, IV}
-use Rattle.lines.specs.Lines.{later-lines}
-use Rattle.line_fields.specs.Text.{combination-text}
+use Rattle.lines.specs.Lines.{SC, CL, later-lines}
+use Rattle.printing.specs.line_fields.Text.{combination-text, name-text}
 use Rattle.printing.specs.Room.{answer-room}
 use Rattle.printing.proofs.Printed.{then-lines}
 use borrow.Author.Needs.{needs}
@@ -33,20 +33,24 @@ slice-aggregate-put-lines-4 c = search needs
 put-lines-requires-4 : tie.Need-put-lines-requires-4
 put-lines-requires-4 c κs = search needs
 
-put-river-requires : tie.Need-put-river-requires
-put-river-requires c κs = search needs
+put-river-line-requires : tie.Need-put-river-line-requires
+put-river-line-requires c κs = search needs
+
+put-river-line-requires-2 : tie.Need-put-river-line-requires-2
+put-river-line-requires-2 c κs = search needs
 
 returns : tie.Need-returns
-unfolding later-lines answer-room combination-text
+unfolding later-lines answer-room combination-text name-text
 returns c =
-    let fourth = c .before .before in
+    let depth = c .before .before in
+    let fourth = depth .before .before in
     let third = fourth .before .before .before in
     let second = third .before .before .before in
     let first = second .before .before .before in
     then-lines _ _ _ _ _ _ _ _ (first .put-lines .ensures I refl)
     (then-lines _ _ _ _ _ _ _ _ (second .put-lines2 .ensures II refl)
     (then-lines _ _ _ _ _ _ _ _ (third .put-lines3 .ensures III refl)
-    (then-lines _ _ _ _ _ _ _ _ (fourth .put-lines4 .ensures IV refl) (c .put-river .ensures))))
+    (then-lines _ _ _ _ _ _ _ _ (fourth .put-lines4 .ensures IV refl) (then-lines _ _ _ _ _ _ 76 76 (depth .put-river-line .ensures SC refl) (c .put-river-line2 .ensures CL refl)))))
 
 pub put-later-spec : {M : Type 1} → statement M
 put-later-spec =
@@ -60,5 +64,6 @@ put-later-spec =
     put-lines-requires-3
     slice-aggregate-put-lines-4
     put-lines-requires-4
-    put-river-requires
+    put-river-line-requires
+    put-river-line-requires-2
     returns)

@@ -1,10 +1,7 @@
 -- The fields are put one behind the other; a missing line has no text.
-use mathlib.Core.Path.{ap, sym}
-use mathlib.Core.List.{_∷_}
+use mathlib.Core.Path.{ap}
 use Rattle.lines.specs.Lines.{check-line}
-use Rattle.line_fields.specs.Text.{HYPHEN}
-use Rattle.block.proofs.Pages.{spelled}
-use Rattle.printing.proofs.Printed.{no-line, combination-put, check-printed}
+use Rattle.printing.proofs.Printed.{no-line, combination-put, check-put, check-printed}
 use borrow.Author.Needs.{needs}
 use Rattle.printing.proofs.put_line.Statement.{statement}
 use Rattle.printing.proofs.put_line.Tie as tie
@@ -20,9 +17,6 @@ put-key-requires c κs = search needs
 
 put-requires : tie.Need-put-requires
 put-requires c κs = search needs
-
-slice-aggregate-put : tie.Need-slice-aggregate-put
-slice-aggregate-put c = search needs
 
 put-requires-2 : tie.Need-put-requires-2
 put-requires-2 c κs = search needs
@@ -49,11 +43,10 @@ returns-2 c of by e f =
     let limit = set .before .before in
     let figure = limit .before .before in
     let check = figure .before .before in
-    let combination = check .before .before .before in
+    let combination = check .before .before in
     let key = combination .before .before in
     check-printed _ _ _ _ _ _ _ _ _ of by _ _ _ _ _ (key .before .before .before .line .given .1)
-    (key .put-key .ensures) (combination-put _ _ of _ e (combination .put .ensures))
-    (spelled _ _ _ _ 3 (ap (λ t. HYPHEN ∷ t) (sym f)) (check .put2 .ensures) tt) (figure .put-figure .ensures)
+    (key .put-key .ensures) (combination-put _ _ of _ e (combination .put .ensures)) (check-put _ _ by _ f (check .put2 .ensures)) (figure .put-figure .ensures)
     (limit .put-number .ensures) (set .put-number2 .ensures) (c .put-ending .ensures)
 
 pub put-line-spec : {M : Type 1} → statement M
@@ -64,7 +57,6 @@ put-line-spec =
     enum-known-line
     put-key-requires
     put-requires
-    slice-aggregate-put
     put-requires-2
     put-figure-requires
     put-number-requires

@@ -1,10 +1,17 @@
--- The fields are put one behind the other.
-use mathlib.Core.Path.{sym}
+-- The fields are put one behind the other; a missing line has no text.
+use mathlib.Core.Path.{ap, sym}
+use Rattle.lines.specs.Lines.{river-line}
 use Rattle.block.proofs.Pages.{spelled}
-use Rattle.printing.proofs.Printed.{river-printed}
+use Rattle.printing.proofs.Printed.{no-line, river-printed}
 use borrow.Author.Needs.{needs}
 use Rattle.printing.proofs.put_river_line.Statement.{statement}
 use Rattle.printing.proofs.put_river_line.Tie as tie
+
+enum-told : tie.Need-enum-told
+enum-told c = search needs
+
+enum-known-line : tie.Need-enum-known-line
+enum-known-line c = search needs
 
 put-key-requires : tie.Need-put-key-requires
 put-key-requires c κs = search needs
@@ -28,19 +35,25 @@ put-ending-requires : tie.Need-put-ending-requires
 put-ending-requires c κs = search needs
 
 returns : tie.Need-returns
-returns c name e =
+unfolding river-line
+returns c name e = no-line _ _ _ _ (ap (river-line _) (c .enum-told .given .1))
+
+returns-2 : tie.Need-returns-2
+returns-2 c name e =
     let comma = c .before .before in
     let limit = comma .before .before in
     let value = limit .before .before in
     let letters = value .before .before in
     let key = letters .before .before .before in
-    river-printed _ _ _ _ _ _ _ _ name _ _ _ _ (key .put-key .ensures) (spelled _ _ _ _ 2 (sym e) (letters .put .ensures) tt)
+    river-printed _ _ _ _ _ _ _ _ name _ _ _ _ _ (key .before .before .before .line .given .1) (key .put-key .ensures) (spelled _ _ _ _ 2 (sym e) (letters .put .ensures) tt)
     (value .put-signed .ensures) (limit .put-number .ensures) (comma .push .ensures) (c .put-ending .ensures)
 
 pub put-river-line-spec : {M : Type 1} → statement M
 put-river-line-spec =
     tie.close
     (tie.spec
+    enum-told
+    enum-known-line
     put-key-requires
     slice-aggregate-put
     put-requires
@@ -48,4 +61,5 @@ put-river-line-spec =
     put-number-requires
     push-requires
     put-ending-requires
-    returns)
+    returns
+    returns-2)

@@ -1,7 +1,7 @@
 -- Key, VERDICT, value and three empty fields, one behind the other.
 use mathlib.Core.Path.{refl}
 use Rattle.lines.specs.Lines.{verdict-line}
-use Rattle.line_fields.specs.Text.{name-text, cell-text, mark-text}
+use Rattle.printing.specs.line_fields.Text.{name-text, number-text, mark-text}
 use Rattle.printing.specs.Text.{line-text}
 use Rattle.block.proofs.Pages.{spelled, then-put}
 use borrow.Author.Needs.{needs}
@@ -27,7 +27,7 @@ put-requires-2 : tie.Need-put-requires-2
 put-requires-2 c κs = search needs
 
 returns : tie.Need-returns
-unfolding line-text verdict-line name-text cell-text mark-text
+unfolding line-text verdict-line name-text number-text mark-text
 returns c =
     let third = c .before .before .before in
     let second = third .before .before in

@@ -48,11 +48,14 @@ enum-known-read c = search needs
 enum-told-2 : tie.Need-enum-told-2
 enum-told-2 c = search needs
 
+blank-entry-requires : tie.Need-blank-entry-requires
+blank-entry-requires c κs = search needs
+
 returns : tie.Need-returns
 returns c = subst (Reads (c .before .before .before)) (c .before .read .given .1) (reads (c .before .before .before))
 
 returns-2 : tie.Need-returns-2
-returns-2 c = subst (Reads (c .before .before)) (c .enum-told2 .given .1) (reads (c .before .before))
+returns-2 c = subst (Reads (c .before .before .before)) (c .before .enum-told2 .given .1) (reads (c .before .before .before))
 
 pub entry-at-spec : {M : Type 1} → statement M
 entry-at-spec =
@@ -63,5 +66,6 @@ entry-at-spec =
     number-at-requires
     enum-known-read
     enum-told-2
+    blank-entry-requires
     returns
     returns-2)

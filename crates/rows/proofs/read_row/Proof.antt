@@ -4,15 +4,15 @@ use mathlib.Core.Path.{refl, subst}
 use mathlib.Core.Bool.{Bool}
 use lib.Dec.{lit<}
 use borrow.Author.Needs.{needs}
-use Rattle.decides.specs.Decides.{decided, refuted}
-use Rattle.letters.specs.Form.{KindAt}
-use Rattle.rows.specs.Answer.{numbers-are}
+use Rattle.arithmetic.specs.decides.Decides.{decided, refuted}
+use Rattle.kinds.specs.letters.Form.{KindAt}
+use Rattle.rows.specs.Answer.{NumbersGiven}
 use Rattle.rows.proofs.Reading.{cell-name, cell-good, cell-kind, cell-no-kind, numbers-good, seen-row, seen-none, passed}
 use Rattle.rows.proofs.read_row.Statement.{statement}
 use Rattle.rows.proofs.read_row.Tie as tie
 
-row-at-requires : tie.Need-row-at-requires
-row-at-requires c κs = search needs
+cells-at-requires : tie.Need-cells-at-requires
+cells-at-requires c κs = search needs
 
 cell-requires : tie.Need-cell-requires
 cell-requires c κs = search needs
@@ -20,8 +20,8 @@ cell-requires c κs = search needs
 kind-at-requires : tie.Need-kind-at-requires
 kind-at-requires c κs = search needs
 
-enum-known-kind-read : tie.Need-enum-known-kind-read
-enum-known-kind-read c = search needs
+enum-known-kind : tie.Need-enum-known-kind
+enum-known-kind c = search needs
 
 enum-told : tie.Need-enum-told
 enum-told c = search needs
@@ -32,7 +32,7 @@ unread-requires c κs = search needs
 returns : tie.Need-returns
 returns c = λ cs css q.
     let at-kind = c .before .before .before in
-    seen-none (at-kind .before .before .row-at .ensures) cs css q (c .unread .result) (c .unread .ensures)
+    seen-none (at-kind .before .before .cells-at .ensures) cs css q (c .unread .result) (c .unread .ensures)
     (λ n t b f. cell-no-kind t 2 _ (lit< tt) (at-kind .before .cell .ensures) (subst (KindAt _) (c .before .enum-told .given .1) (at-kind .kind-at .ensures)) (b .keyed .row .kind) (f .kind))
 
 numbers-of-requires : tie.Need-numbers-of-requires
@@ -58,15 +58,15 @@ returns-2 c = λ cs css q.
     let numbers = at-numbers .numbers-of .result in
     let at-x = at-numbers .before .before in
     let at-kind = at-x .before .before in
-    let kind = at-x .kind-read .given .0 .0 in
+    let kind = at-x .kind .given .0 .0 in
     let at-row = at-kind .before .before in
-    let tests = decided _ (c .before .before .before .if1 .taken) (passed (at-row .row-at .result .count) (at-member .name-at .result .good) (at-job .name-at2 .result .good) (numbers .good)) in
-    seen-row (at-row .row-at .ensures) cs css q (tests .0 .0 .0) _ (λ t. record {
+    let tests = decided _ (c .before .before .before .if1 .taken) (passed (at-row .cells-at .result .count) (at-member .name-at .result .good) (at-job .name-at2 .result .good) (numbers .good)) in
+    seen-row (at-row .cells-at .ensures) cs css q (tests .0 .0 .0) _ (λ t. record {
       ten = t .ten;
       member = cell-name t 0 _ (lit< tt) (at-member .before .cell2 .ensures) (at-member .name-at .result) (tests .0 .0 .1) (at-member .name-at .ensures);
       job = cell-name t 1 _ (lit< tt) (at-job .before .cell3 .ensures) (at-job .name-at2 .result) (tests .0 .1) (at-job .name-at2 .ensures);
-      kind = cell-kind t 2 _ (lit< tt) (at-kind .before .cell .ensures) kind (subst (KindAt _) (at-x .kind-read .given .1) (at-kind .kind-at .ensures));
-      numbers = subst (λ (g : Bool). numbers-are g (numbers .numbers) kind cs) (tests .1) (at-numbers .numbers-of .ensures cs t);
+      kind = cell-kind t 2 _ (lit< tt) (at-kind .before .cell .ensures) kind (subst (KindAt _) (at-x .kind .given .1) (at-kind .kind-at .ensures));
+      numbers = subst (λ (g : Bool). NumbersGiven g (numbers .numbers) kind cs) (tests .1) (at-numbers .numbers-of .ensures cs t);
       note = refl;
     })
 
@@ -81,14 +81,14 @@ returns-3 c = λ cs css q.
     let numbers = at-numbers .numbers-of .result in
     let at-x = at-numbers .before .before in
     let at-kind = at-x .before .before in
-    let kind = at-x .kind-read .given .0 .0 in
+    let kind = at-x .kind .given .0 .0 in
     let at-row = at-kind .before .before in
-    let tests = refuted _ (c .before .if1 .left) (passed (at-row .row-at .result .count) (at-member .name-at .result .good) (at-job .name-at2 .result .good) (numbers .good)) in
-    seen-none (at-row .row-at .ensures) cs css q (c .unread2 .result) (c .unread2 .ensures)
+    let tests = refuted _ (c .before .if1 .left) (passed (at-row .cells-at .result .count) (at-member .name-at .result .good) (at-job .name-at2 .result .good) (numbers .good)) in
+    seen-none (at-row .cells-at .ensures) cs css q (c .unread2 .result) (c .unread2 .ensures)
     (λ n t b f.
     let m = cell-good t 0 _ (lit< tt) (at-member .before .cell2 .ensures) (at-member .name-at .result) (at-member .name-at .ensures) (b .keyed .key .member) (f .member) in
     let j = cell-good t 1 _ (lit< tt) (at-job .before .cell3 .ensures) (at-job .name-at2 .result) (at-job .name-at2 .ensures) (b .keyed .key .job) (f .job) in
-    let e = cell-kind t 2 _ (lit< tt) (at-kind .before .cell .ensures) kind (subst (KindAt _) (at-x .kind-read .given .1) (at-kind .kind-at .ensures)) in
+    let e = cell-kind t 2 _ (lit< tt) (at-kind .before .cell .ensures) kind (subst (KindAt _) (at-x .kind .given .1) (at-kind .kind-at .ensures)) in
     let g = numbers-good kind cs e (numbers .good) (numbers .numbers) (at-numbers .numbers-of .ensures cs t) b f in
     tests (((n, m), j), g))
 
@@ -96,10 +96,10 @@ pub read-row-spec : {M : Type 1} → statement M
 read-row-spec =
     tie.close
     (tie.spec
-    row-at-requires
+    cells-at-requires
     cell-requires
     kind-at-requires
-    enum-known-kind-read
+    enum-known-kind
     enum-told
     unread-requires
     returns

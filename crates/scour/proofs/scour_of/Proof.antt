@@ -4,9 +4,9 @@ use native.Mathlib.Omega.{arith}
 use mathlib.Core.Path.{subst⁻¹}
 use mathlib.Core.Logic.{⊎-elim}
 use borrow.Author.Needs.{needs}
-use Rattle.decides.specs.Decides.{decided, refuted}
+use Rattle.arithmetic.specs.decides.Decides.{decided, refuted}
 use Rattle.scour.specs.Scour.{Constricted, LaceyDepth, regime, constricted, large-catchment, too-intense, needed}
-use Rattle.discharge.proofs.Bounds.{discharge-most}
+use Rattle.scour.proofs.discharge.Bounds.{discharge-most}
 use Rattle.scour.proofs.scour_of.Statement.{statement}
 use Rattle.scour.proofs.scour_of.Tie as tie
 

@@ -1,7 +1,7 @@
 -- Each field is added to its like. What 64 rows give is at most 64 · 2³⁴ = 2⁴⁰ in any field, so no sum overflows.
 use native.Mathlib.Omega.{arith}
 use mathlib.Core.Path.{refl}
-use Rattle.sets.specs.Sums.{add, addParts, addBalance}
+use Rattle.sets.specs.steps.Sums.{add, parts-sum, balance-sum}
 use Rattle.sets.proofs.add_sums.Statement.{statement}
 use Rattle.sets.proofs.add_sums.Tie as tie
 
@@ -61,7 +61,7 @@ add-t20 : tie.Need-add-t20
 add-t20 c = omega (arith, (minus (c .before .before .before .before .before .before)) .pre)
 
 returns : tie.Need-returns
-unfolding add addParts addBalance
+unfolding add parts-sum balance-sum
 returns c = refl
 
 pub add-sums-spec : {M : Type 1} → statement M

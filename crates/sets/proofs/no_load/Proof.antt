@@ -1,11 +1,9 @@
 -- A permanent row of zeros without a sign, as the definition says.
 use mathlib.Core.Path.{refl}
-use Rattle.sets.specs.Sets.{noLoad}
 use Rattle.sets.proofs.no_load.Statement.{statement}
 use Rattle.sets.proofs.no_load.Tie as tie
 
 returns : tie.Need-returns
-unfolding noLoad
 returns c = refl
 
 pub no-load-spec : {M : Type 1} → statement M

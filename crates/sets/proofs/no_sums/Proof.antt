@@ -1,11 +1,11 @@
 -- All fields are 0, and the definition says the same.
 use mathlib.Core.Path.{refl}
-use Rattle.sets.specs.Sums.{noSums}
+use Rattle.sets.specs.steps.Sums.{no-sums}
 use Rattle.sets.proofs.no_sums.Statement.{statement}
 use Rattle.sets.proofs.no_sums.Tie as tie
 
 returns : tie.Need-returns
-unfolding noSums
+unfolding no-sums
 returns c = refl
 
 pub no-sums-spec : {M : Type 1} → statement M

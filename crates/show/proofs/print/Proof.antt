@@ -17,16 +17,19 @@ part-write-all-start : tie.Need-part-write-all-start
 part-write-all-start c = search needs
 
 part-write-all-end : tie.Need-part-write-all-end
-part-write-all-end c = omega (arith, whole (c .before .before .before))
+part-write-all-end c = omega (arith, whole (c .before .before .before .before))
 
 write-all-requires : tie.Need-write-all-requires
 write-all-requires c κs = search needs
 
+write-all-requires-2 : tie.Need-write-all-requires-2
+write-all-requires-2 c κs = search needs
+
 slice-aggregate-write-all : tie.Need-slice-aggregate-write-all
 slice-aggregate-write-all c = search needs
 
-write-all-requires-2 : tie.Need-write-all-requires-2
-write-all-requires-2 c κs = search needs
+write-all-requires-3 : tie.Need-write-all-requires-3
+write-all-requires-3 c κs = search needs
 
 returns : tie.Need-returns
 returns c = search needs
@@ -45,8 +48,9 @@ print-spec =
     part-write-all-start
     part-write-all-end
     write-all-requires
-    slice-aggregate-write-all
     write-all-requires-2
+    slice-aggregate-write-all
+    write-all-requires-3
     returns
     returns-2
     returns-3)

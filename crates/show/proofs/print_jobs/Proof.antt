@@ -5,10 +5,10 @@ use Rattle.show.proofs.print_jobs.Statement.{statement}
 use Rattle.show.proofs.print_jobs.Tie as tie
 
 abbrev Inv-loop : tie.InvT-loop
-Inv-loop count jobs i₀ i = Unit
+Inv-loop program count read i₀ i = Unit
 
 abbrev μ-loop : tie.MeasureT-loop
-μ-loop count jobs i₀ i = 64 - i
+μ-loop program count read i₀ i = 64 - i
 
 loop-holds : tie.Need-loop-holds Inv-loop μ-loop
 loop-holds c = search needs
@@ -16,14 +16,17 @@ loop-holds c = search needs
 mul-job : tie.Need-mul-job Inv-loop μ-loop
 mul-job c = search needs
 
-array-copy-out-job : tie.Need-array-copy-out-job Inv-loop μ-loop
-array-copy-out-job c = search needs
+element-copy-out-job : tie.Need-element-copy-out-job Inv-loop μ-loop
+element-copy-out-job c = search needs
 
 lines-of-requires : tie.Need-lines-of-requires Inv-loop μ-loop
 lines-of-requires c κs = search needs
 
 print-requires : tie.Need-print-requires Inv-loop μ-loop
 print-requires c κs = search needs
+
+returns : tie.Need-returns Inv-loop μ-loop
+returns c = search needs
 
 add-i : tie.Need-add-i Inv-loop μ-loop
 add-i c = search needs
@@ -34,8 +37,8 @@ loop-less c = search needs
 loop-again : tie.Need-loop-again Inv-loop μ-loop
 loop-again c = search needs
 
-returns : tie.Need-returns Inv-loop μ-loop
-returns c = search needs
+returns-2 : tie.Need-returns-2 Inv-loop μ-loop
+returns-2 c = search needs
 
 pub print-jobs-spec : {M : Type 1} → statement M
 print-jobs-spec =
@@ -45,10 +48,11 @@ print-jobs-spec =
     μ-loop
     loop-holds
     mul-job
-    array-copy-out-job
+    element-copy-out-job
     lines-of-requires
     print-requires
+    returns
     add-i
     loop-less
     loop-again
-    returns)
+    returns-2)

@@ -1,4 +1,4 @@
--- A line is missing where the combination has not the check, or where the walk found no set. Else its figure is read back from the mark's rank, and
+-- A line is missing where the combination has not the check, or where the walk found no set. Else its figure is read back from the rank, and
 -- what the walk found says of that figure and set that they are the ones to name.
 use borrow.Author.Needs.{needs}
 use borrow.Author.Tests.{eqb-false}
@@ -6,9 +6,9 @@ use mathlib.Core.Path.{_≡_, refl}
 use mathlib.Core.Logic.{⊎-elim}
 use mathlib.Core.Bool.{Bool, true, false, not, _||_}
 use lib.Dec.{eqb}
-use Rattle.decides.specs.Decides.{decided, not-both, decides-not, decides-either, decides-equal}
-use Rattle.service.specs.Service.{HasCheck}
-use Rattle.worst.specs.Lines.{Says}
+use Rattle.arithmetic.specs.decides.Decides.{decided, not-both, decides-not, decides-either, decides-equal}
+use Rattle.checks.specs.service.Service.{HasCheck}
+use Rattle.worst.specs.Lines.{LineSays}
 use Rattle.worst.proofs.line_at.Statement.{statement}
 use Rattle.worst.proofs.line_at.Tie as tie
 
@@ -27,7 +27,7 @@ has-check-requires : tie.Need-has-check-requires
 has-check-requires c κs = search needs
 
 returns : tie.Need-returns
-unfolding Says
+unfolding LineSays
 returns c =
     let has = c .before .has-check .result in
     let set = c .before .before .args .set in
@@ -44,7 +44,7 @@ passes-requires : tie.Need-passes-requires
 passes-requires c κs = search needs
 
 returns-2 : tie.Need-returns-2
-unfolding Says
+unfolding LineSays
 returns-2 c =
     let k = told (c .before .before .before) in
     let figure = c .before .before .figure-at .ensures in

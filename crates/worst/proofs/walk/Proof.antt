@@ -10,60 +10,61 @@ use lib.Dec.{lit<, lit≤}
 use lib.Pow.{shl-exact, pow-pos, split, high}
 use Rattle.sets.specs.declared.Loads.{Loads}
 use Rattle.sets.specs.declared.Sums.{Sums}
-use Rattle.sets.specs.Sets.{Bounded, Opens}
-use Rattle.sets.specs.Sums.{Room}
+use Rattle.sets.specs.Sets.{Bounded}
+use Rattle.sets.specs.steps.Deciding.{Arises}
+use Rattle.sets.specs.steps.Sums.{Room}
 use Rattle.sets.proofs.Adding.{room-more, room-all}
 use Rattle.checks.specs.declared.Check.{Check}
 use Rattle.checks.specs.declared.Check.the-variants.{OP, OM, SL, PR, RK}
-use Rattle.named.specs.declared.Worst.{Worst}
-use Rattle.marks.specs.declared.Mark.{Mark}
-use Rattle.named.specs.Weighs.{markOf, Low}
-use Rattle.filling.specs.Filling.{Filled}
-use Rattle.choices.specs.Stance.{chosen}
-use Rattle.choices.proofs.Choices.{chosen-room}
-use Rattle.table_rows.specs.Table.{rowOf, rowsFrom}
-use Rattle.tables.proofs.Tables.{two-parts}
-use Rattle.filling.proofs.Filling.{fixed-room, filled-room, filled-few}
+use Rattle.weighing.specs.declared.Worst.{Worst}
+use Rattle.weighing.specs.declared.ranked.RankedSet.{RankedSet}
+use Rattle.weighing.specs.steps.Weighs.{ranked-of, Low}
+use Rattle.worst.specs.steps.Filling.{TableIs}
+use Rattle.worst.specs.steps.Stance.{chosen}
+use Rattle.worst.proofs.choices.Choices.{chosen-room}
+use Rattle.worst.specs.steps.Table.{terms-at, terms-from}
+use Rattle.worst.proofs.term_table.Tables.{two-parts}
+use Rattle.worst.proofs.term_table.Filling.{fixed-room, filled-room, filled-few}
 use Rattle.worst.proofs.Walking.{So-far, choice-sums, set-number, set-low, one-choice, all-found, nothing-passed}
 use Rattle.worst.proofs.walk.Statement.{statement}
 use Rattle.worst.proofs.walk.Tie as tie
 
 abbrev Inv-loop : tie.InvT-loop
-Inv-loop combination base serves rock terms free fixed worst₀ low step choices upper₀ k₀ worst upper k = (k ≤ choices) × Low worst
-    × (0 < k % step → upper ≡ chosen fixed (rowsFrom terms low) (k / step) (free - low))
-    × ((loads : Loads) → Bounded loads → Opens combination loads → Filled combination (base .width) loads (loads .count) (record { terms = terms; free = free; fixed = fixed })
-    → So-far combination base loads serves rock k (record { rank = 2 ^ 64 - 1; set = 0 }) worst)
+Inv-loop combination base serves terms free fixed worst₀ low step choices upper₀ k₀ worst upper k = (k ≤ choices) × Low worst
+    × (0 < k % step → upper ≡ chosen fixed (terms-from terms low) (k / step) (free - low))
+    × ((loads : Loads) → Bounded loads → Arises combination loads → TableIs combination (base .width) loads (loads .count) (record { terms = terms; free = free; fixed = fixed })
+    → So-far combination base loads serves k (record { rank = 2 ^ 64 - 1; set = 0 }) worst)
 
 abbrev μ-loop : tie.MeasureT-loop
-μ-loop combination base serves rock terms free fixed worst₀ low step choices upper₀ k₀ worst upper k = choices - k
+μ-loop combination base serves terms free fixed worst₀ low step choices upper₀ k₀ worst upper k = choices - k
 
-none : Mark
+none : RankedSet
 none = record { rank = 2 ^ 64 - 1; set = 0 }
 
 start : Worst
 start = record { op = none; om = none; sl = none; pr = none; rk = none }
 
-none-yet : (check : Check) → markOf check start ≡ none
-unfolding start markOf
+none-yet : (check : Check) → ranked-of check start ≡ none
+unfolding start ranked-of
 none-yet OP = refl
 none-yet OM = refl
 none-yet SL = refl
 none-yet PR = refl
 none-yet RK = refl
 
-none-low : (check : Check) → (markOf check start) .set < 65536
+none-low : (check : Check) → (ranked-of check start) .set < 65536
 unfolding none
-none-low check = subst⁻¹ (λ (m : Mark). m .set < 65536) (none-yet check) (lit< tt)
+none-low check = subst⁻¹ (λ (m : RankedSet). m .set < 65536) (none-yet check) (lit< tt)
 
 power : (n : ℕ) → n ≤ 16 → (1 * 2 ^ n) % 2 ^ 64 ≡ 2 ^ n
 power n h = shl-exact 1 n 64 (lit< tt) (omega arith) ∙ one-mul (2 ^ n)
 
 -- a choice's sums, those of the rows from `low` on having been added before
-in-parts : (t : List ℕ) (first upper : Sums) (k step low free : ℕ) → step ≡ 2 ^ low → low ≤ free → upper ≡ chosen first (rowsFrom t low) (k / step) (free - low)
-    → chosen upper (rowsFrom t 0) (k % step) low ≡ chosen first (rowOf t) k free
+in-parts : (t : List ℕ) (first upper : Sums) (k step low free : ℕ) → step ≡ 2 ^ low → low ≤ free → upper ≡ chosen first (terms-from t low) (k / step) (free - low)
+    → chosen upper (terms-from t 0) (k % step) low ≡ chosen first (terms-at t) k free
 in-parts t first upper k step low free s l e =
-    (λ i. chosen (e i) (rowsFrom t 0) (k % step) low) ∙ (λ i. chosen (chosen first (rowsFrom t low) (k / s i) (free - low)) (rowsFrom t 0) (k % s i) low)
-    ∙ two-parts t first k low (free - low) ∙ ap (chosen first (rowOf t) k) (omega arith)
+    (λ i. chosen (e i) (terms-from t 0) (k % step) low) ∙ (λ i. chosen (chosen first (terms-from t low) (k / s i) (free - low)) (terms-from t 0) (k % s i) low)
+    ∙ two-parts t first k low (free - low) ∙ ap (chosen first (terms-at t) k) (omega arith)
 
 -- a choice that differs from the one before in the first rows alone
 same-part : (k step low : ℕ) → step ≡ 2 ^ low → 0 < (k + 1) % step → (k + 1) / step ≡ k / step
@@ -87,20 +88,20 @@ module _ (c : tie.After-fill Inv-loop μ-loop) where
   fixed-fits =
       subst⁻¹ (Room 16) (c .fill .ensures .always) (room-more (c .before .before .pre .1 .0 .count) (fixed-room _ _ _ (c .before .before .pre .0 .width) (c .before .before .pre .1 .0) _ (le-refl _)))
 
-  row-fits : (j : ℕ) → j < c .fill .result .free → Room 1 (rowOf (c .fill .result .terms) j)
+  row-fits : (j : ℕ) → j < c .fill .result .free → Room 1 (terms-at (c .fill .result .terms) j)
   row-fits = filled-room _ _ _ _ (c .before .before .pre .0 .width) (c .before .before .pre .1 .0) (c .fill .ensures)
 
 -- the sums of the rows from `low` on, whether they were added for this choice or before
 upper-is : (c : tie.Joined1 Inv-loop μ-loop)
     → let t = c .before .before .before .before .before .fill .result in
     let step = (1 * 2 ^ (t .free / 4)) % 2 ^ 64 in
-    c .if1 .upper ≡ chosen (t .fixed) (rowsFrom (t .terms) (t .free / 4)) (c .before .before .loop .k / step) (t .free - t .free / 4)
+    c .if1 .upper ≡ chosen (t .fixed) (terms-from (t .terms) (t .free / 4)) (c .before .before .loop .k / step) (t .free - t .free / 4)
 upper-is c = ⊎-elim (λ w. w .3 ∙ w .2 .ensures) (λ w. w .1 ∙ c .before .before .loop .inv .2 (omega (arith, w .0 .left))) (c .if1 .came)
 
 -- the sums are those of the choice
 summed : (c : tie.After-sums-at2 Inv-loop μ-loop)
     → let t = c .before .before .before .before .before .before .before .fill .result in
-    c .sums-at2 .result ≡ chosen (t .fixed) (rowOf (t .terms)) (c .before .before .before .before .loop .k) (t .free)
+    c .sums-at2 .result ≡ chosen (t .fixed) (terms-at (t .terms)) (c .before .before .before .before .loop .k) (t .free)
 summed c =
     c .sums-at2 .ensures
     ∙ in-parts _ _ _ _ _ _ _ (stepped (c .before .before .before .before .before .before .before)) (omega arith) (upper-is (c .before .before))
@@ -118,9 +119,9 @@ shl-choices : tie.Need-shl-choices Inv-loop μ-loop
 shl-choices c = omega (arith, few (c .before .before))
 
 loop-holds : tie.Need-loop-holds Inv-loop μ-loop
-unfolding Low markOf start none
+unfolding Low ranked-of start none
 loop-holds c =
-    (search needs, none-low, (λ h. absurd (omega (arith, zero-mod ((1 * 2 ^ (c .before .before .fill .result .free / 4)) % 2 ^ 64), h))), λ loads bounded opens filled. nothing-passed _ _ loads bounded opens _ _ none _ none-yet)
+    (search needs, none-low, (λ h. absurd (omega (arith, zero-mod ((1 * 2 ^ (c .before .before .fill .result .free / 4)) % 2 ^ 64), h))), λ loads bounded arises filled. nothing-passed _ _ loads bounded arises _ none _ none-yet)
 
 rem-if1 : tie.Need-rem-if1 Inv-loop μ-loop
 rem-if1 c = some (c .before .before .before .before)
@@ -132,7 +133,7 @@ div-sums-at : tie.Need-div-sums-at Inv-loop μ-loop
 div-sums-at c = some (c .before .before .before .before .before .before)
 
 sums-at-requires : tie.Need-sums-at-requires Inv-loop μ-loop
-unfolding rowsFrom
+unfolding terms-from
 sums-at-requires c κs =
     let f = c .before .before .before .before .before .before in (
       omega (arith, few f),
@@ -143,7 +144,7 @@ rem-sums-at : tie.Need-rem-sums-at Inv-loop μ-loop
 rem-sums-at c = some (c .before .before .before .before .before .before)
 
 sums-at-requires-2 : tie.Need-sums-at-requires-2 Inv-loop μ-loop
-unfolding rowsFrom
+unfolding terms-from
 sums-at-requires-2 c κs =
     let f = c .before .before .before .before .before .before in (
       omega (arith, few f),
@@ -182,8 +183,8 @@ loop-again c =
     let a = f .before .before .args in (
       omega (arith, c .before .before .before .before .loop-test .taken),
       c .visit .ensures .low,
-      (λ h. upper-is (c .before .before .before) ∙ ap (λ (n : ℕ). chosen (t .fixed) (rowsFrom (t .terms) (t .free / 4)) n (t .free - t .free / 4)) (sym (same-part k _ _ (stepped f) h))),
-      λ loads bounded opens filled. one-choice (a .combination) (a .base) loads bounded opens _ _ k none (summed (c .before) ∙ choice-sums (a .combination) (a .base) loads bounded opens _ k filled) (c .visit .ensures) (inv .3 loads bounded opens filled),
+      (λ h. upper-is (c .before .before .before) ∙ ap (λ (n : ℕ). chosen (t .fixed) (terms-from (t .terms) (t .free / 4)) n (t .free - t .free / 4)) (sym (same-part k _ _ (stepped f) h))),
+      λ loads bounded arises filled. one-choice (a .combination) (a .base) loads bounded arises _ k none (summed (c .before) ∙ choice-sums (a .combination) (a .base) loads bounded arises _ k filled) (c .visit .ensures) (inv .3 loads bounded arises filled),
     )
 
 returns : tie.Need-returns Inv-loop μ-loop
@@ -192,8 +193,8 @@ returns c =
     let e = c .before .before .before .before .before .before in
     let inv = c .before .loop .inv in
     let f = c .before .before .before .before in
-    all-found (e .args .combination) (e .args .base) (e .args .loads) (e .pre .1 .0) (e .pre .1 .1) _ _ _ none _
-    (le-antisymm (inv .0) (c .loop-test .left) ∙ power _ (few f) ∙ ap (λ (n : ℕ). 2 ^ n) (f .fill .ensures .count)) refl refl (c .before .before .before .before .before .serves .ensures) refl
+    all-found (e .args .combination) (e .args .base) (e .args .loads) (e .pre .1 .0) (e .pre .1 .1) _ _ none _
+    (le-antisymm (inv .0) (c .loop-test .left) ∙ power _ (few f) ∙ ap (λ (n : ℕ). 2 ^ n) (f .fill .ensures .count)) refl refl (c .before .before .before .before .before .serves .ensures)
     (inv .3 _ (e .pre .1 .0) (e .pre .1 .1) (f .fill .ensures))
 
 pub walk-spec : {M : Type 1} → statement M

@@ -1,37 +1,37 @@
--- A combination that no row opens has no permitted set, so that every line of it is missing; of one that is opened, each line is told by the mark
--- that the walk found for its check.
+-- A combination that no row raises has no permitted set, so that every line of it is missing; of one that arises, each line is told by the
+-- set that the walk found for its check.
 use borrow.Author.Needs.{needs}
 use mathlib.Core.Path.{subst⁻¹}
 use borrow.Author.Tests.{not-true, not-false}
-use Rattle.decides.specs.Decides.{decided, refuted}
+use Rattle.arithmetic.specs.decides.Decides.{decided, refuted}
 use Rattle.sets.specs.declared.Combination.{Combination}
 use Rattle.sets.specs.declared.Loads.{Loads}
-use Rattle.sets.specs.Sets.{Opens}
-use Rattle.sets.proofs.Opening.{permitted-opens}
+use Rattle.sets.specs.steps.Deciding.{Arises}
+use Rattle.sets.proofs.Occasions.{permitted-arises}
 use Rattle.checks.specs.declared.Base.{Base}
 use Rattle.checks.specs.declared.Check.{Check}
 use Rattle.checks.specs.declared.Check.the-variants.{OP, OM, SL, PR, RK}
 use Rattle.lines.specs.declared.Lines.{Lines}
 use Rattle.lines.specs.Lines.{no-lines}
-use Rattle.worst.specs.Lines.{Says, line}
-use Rattle.named.specs.Weighs.{markOf}
-use Rattle.worst.specs.Search.{Walked}
+use Rattle.worst.specs.Lines.{LineSays, line}
+use Rattle.weighing.specs.steps.Weighs.{ranked-of}
+use Rattle.worst.specs.steps.Search.{Walked}
 use Rattle.worst.proofs.worst_lines.Statement.{statement}
 use Rattle.worst.proofs.worst_lines.Tie as tie
 
 module _ (combination : Combination) (base : Base) (loads : Loads) where
-  -- a combination that no row opens has no line
-  all-missing : (Opens combination loads → ⊥) → (check : Check) → Says combination check base loads (line check no-lines)
-  unfolding Says line
-  all-missing n OP = λ h set p. n (permitted-opens loads combination set p)
-  all-missing n OM = λ h set p. n (permitted-opens loads combination set p)
-  all-missing n SL = λ h set p. n (permitted-opens loads combination set p)
-  all-missing n PR = λ h set p. n (permitted-opens loads combination set p)
-  all-missing n RK = λ h set p. n (permitted-opens loads combination set p)
+  -- a combination that no row raises has no line
+  all-missing : (Arises combination loads → ⊥) → (check : Check) → LineSays combination check base loads (line check no-lines)
+  unfolding LineSays line
+  all-missing n OP = λ h set p. n (permitted-arises loads combination set p)
+  all-missing n OM = λ h set p. n (permitted-arises loads combination set p)
+  all-missing n SL = λ h set p. n (permitted-arises loads combination set p)
+  all-missing n PR = λ h set p. n (permitted-arises loads combination set p)
+  all-missing n RK = λ h set p. n (permitted-arises loads combination set p)
 
   -- the lines, check by check
-  each : (r : Lines) → Says combination OP base loads (r .op) → Says combination OM base loads (r .om) → Says combination SL base loads (r .sl)
-      → Says combination PR base loads (r .pr) → Says combination RK base loads (r .rk) → (check : Check) → Says combination check base loads (line check r)
+  each : (r : Lines) → LineSays combination OP base loads (r .op) → LineSays combination OM base loads (r .om) → LineSays combination SL base loads (r .sl)
+      → LineSays combination PR base loads (r .pr) → LineSays combination RK base loads (r .rk) → (check : Check) → LineSays combination check base loads (line check r)
   unfolding line
   each r op om sl pr rk OP = op
   each r op om sl pr rk OM = om
@@ -39,22 +39,22 @@ module _ (combination : Combination) (base : Base) (loads : Loads) where
   each r op om sl pr rk PR = pr
   each r op om sl pr rk RK = rk
 
-opens-requires : tie.Need-opens-requires
-opens-requires c κs = search needs
+arises-requires : tie.Need-arises-requires
+arises-requires c κs = search needs
 
 no-lines-requires : tie.Need-no-lines-requires
 no-lines-requires c κs = search needs
 
 returns : tie.Need-returns
 returns c =
-    let opens = c .before .before in
-    let a = opens .before .args in
-    subst⁻¹ (λ (r : Lines). (check : Check) → Says (a .combination) check (a .base) (a .loads) (line check r)) (c .no-lines .ensures)
-    (all-missing (a .combination) (a .base) (a .loads) (refuted (opens .opens .result) (not-true (opens .opens .result) (c .before .if1 .taken)) (opens .opens .ensures)))
+    let arises = c .before .before in
+    let a = arises .before .args in
+    subst⁻¹ (λ (r : Lines). (check : Check) → LineSays (a .combination) check (a .base) (a .loads) (line check r)) (c .no-lines .ensures)
+    (all-missing (a .combination) (a .base) (a .loads) (refuted (arises .arises .result) (not-true (arises .arises .result) (c .before .if1 .taken)) (arises .arises .ensures)))
 
 walk-requires : tie.Need-walk-requires
 walk-requires c κs =
-    (c .before .before .pre .0, (c .before .before .pre .1, decided (c .before .opens .result) (not-false (c .before .opens .result) (c .if1 .left)) (c .before .opens .ensures)))
+    (c .before .before .pre .0, (c .before .before .pre .1, decided (c .before .arises .result) (not-false (c .before .arises .result) (c .if1 .left)) (c .before .arises .ensures)))
 
 line-at-requires : tie.Need-line-at-requires
 line-at-requires c κs = c .before .before .before .pre .0 .allowable
@@ -72,7 +72,7 @@ line-at-requires-5 : tie.Need-line-at-requires-5
 line-at-requires-5 c κs = c .before .before .before .before .before .before .before .pre .0 .allowable
 
 returns-2 : tie.Need-returns-2
-unfolding line Walked markOf
+unfolding line Walked ranked-of
 returns-2 c =
     let found = c .before .before .before .before .before in
     let a = found .before .before .before .args in
@@ -84,7 +84,7 @@ pub worst-lines-spec : {M : Type 1} → statement M
 worst-lines-spec =
     tie.close
     (tie.spec
-    opens-requires
+    arises-requires
     no-lines-requires
     returns
     walk-requires

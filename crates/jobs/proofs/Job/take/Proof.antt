@@ -1,6 +1,5 @@
 -- A row out of place leaves the job as it stood; one in place gives the job with exactly that row more.
 -- A load row in place has fewer than 16 before it, which is the room that `joined` asks.
-use Prim.Native.Nat.{ℕ}
 use native.Mathlib.Omega.{arith}
 use mathlib.Core.Path.{_≡_, refl, sym, ap, _∙_}
 use mathlib.Core.Bool.{true}
@@ -9,13 +8,14 @@ use mathlib.Core.List.{[], _∷_}
 use types.Run.{OneOf}
 use denote.Enum.Declared.{tagOf}
 use borrow.Author.Needs.{needs}
-use Rattle.decides.specs.Decides.{decided, refuted}
+use Rattle.arithmetic.proofs.Cases.{impossible}
+use Rattle.arithmetic.specs.decides.Decides.{decided, refuted}
 use Rattle.kinds.specs.declared.Role.{Role}
 use Rattle.kinds.specs.declared.Role.the-variants.{Base, Scour, Clearance, Load}
 use Rattle.kinds.proofs.Role.{the-type}
-use Rattle.keys.specs.declared.Keyed.{Keyed}
+use Rattle.rows.specs.declared.keys.Keyed.{Keyed}
 use Rattle.jobs.specs.Place.{with-row}
-use Rattle.jobs.specs.Taking.{told, Says}
+use Rattle.jobs.specs.Taking.{take-told, TakeSays}
 use Rattle.jobs.specs.declared.Job.{Job}
 use Rattle.jobs.specs.declared.Took.{Took}
 use Rattle.jobs.specs.declared.Took.the-variants.{Started, Joined}
@@ -26,9 +26,9 @@ use Rattle.jobs.proofs.Job.take.Tie as tie
 -- the three roles of one arm all join, and none is a B row's
 joins : (x : Role) → OneOf (1 ∷ 2 ∷ 3 ∷ []) (tagOf the-type x) → (x ≡ Base → ⊥) × (Joined ≡ answer-to x)
 joins Base h = absurd (⊎-elim (λ e. omega arith) (⊎-elim (λ e. omega arith) (λ e. omega arith)) h)
-joins Scour h = (λ e. let z : _≡_ {A = ℕ} 0 1 = cc in omega arith, refl)
-joins Clearance h = (λ e. let z : _≡_ {A = ℕ} 0 1 = cc in omega arith, refl)
-joins Load h = (λ e. let z : _≡_ {A = ℕ} 0 1 = cc in omega arith, refl)
+joins Scour h = (λ e. impossible cc, refl)
+joins Clearance h = (λ e. impossible cc, refl)
+joins Load h = (λ e. impossible cc, refl)
 
 role-of-requires : tie.Need-role-of-requires
 role-of-requires c κs = search needs
@@ -51,12 +51,12 @@ module _ (c : tie.Then1) where
   own = c .before .before .before .before .before .role-of .result
 
   abbrev self : Job
-  self = c .before .before .before .before .before .before .args .self
+  self = c .before .before .before .before .before .before .before .args .self
 
   abbrev row : Keyed
-  row = c .before .before .before .before .before .before .args .row
+  row = c .before .before .before .before .before .before .before .args .row
 
-  in-place : (a : Took) (next : Job) → a ≡ answer-to own → next ≡ with-row own self row → Says self row (told a) next
+  in-place : (a : Took) (next : Job) → a ≡ answer-to own → next ≡ with-row own self row → TakeSays self row (take-told a) next
   in-place =
       let at-fits = c .before in
       let at-same = at-fits .before in
@@ -88,7 +88,7 @@ returns-3 c =
     let at-fits = c .before in
     let at-same = at-fits .before in
     let at-role = at-same .before .before .before in
-    let args = at-role .before .args in
+    let args = at-role .before .before .args in
     (refl, out-of-place (args .self) (args .row) (at-role .role-of .result) (at-role .role-of .ensures) (at-same .same-key .result) (at-same .same-key .ensures) (refuted (at-fits .fits2 .result) (c .if1 .left) (at-fits .fits2 .ensures)), refl)
 
 pub take-spec : {M : Type 1} → statement M

@@ -1,0 +1,147 @@
+-- What `scour` and `clearance` tell of a row, told of its job: a refusal of a row is one of the job, the lower of two comes first, and no
+-- other holds beside what is told.
+use Prim.Native.Nat.{ℕ, _≤_, _<_}
+use native.Mathlib.Omega.{arith}
+use mathlib.Core.Path.{_≡_, refl, sym, subst, subst⁻¹}
+use mathlib.Core.Bool.{Bool, true, false}
+use Rattle.arithmetic.proofs.Cases.{impossible}
+use Rattle.arithmetic.specs.decides.Decides.{Decides, decided, refuted}
+use Rattle.kinds.specs.ranges.Range.{value, Ranged}
+use Rattle.kinds.specs.declared.Kind.the-variants.{S, C}
+use Rattle.jobs.specs.declared.Job.{Job}
+use Rattle.jobs.specs.stages.Rows.{HasScour, HasClearance}
+use Rattle.scour.specs.Scour as scour
+use Rattle.scour.specs.River as river
+use Rattle.arithmetic.specs.signed.Whole.{signed}
+use Rattle.clearance.specs.Told as told
+use Rattle.clearance.specs.Clear as clearing
+use Rattle.clearance.specs.declared.ClearanceAnswer.{ClearanceAnswer}
+use Rattle.clearance.specs.declared.ClearanceAnswer.the-variants as clearance
+use Rattle.scour.proofs.River.{scour-says-one}
+use Rattle.clearance.proofs.Clearances as clearances
+use Rattle.lines.specs.declared.RiverLine.{RiverLine}
+use Rattle.lines.specs.declared.RiverLine.the-variants as lines
+use Rattle.answer.specs.river.River.{LargeCatchment, TooIntense, OverObstructed, OnRock, DepthShown, DepthIs, ClearShown, ClearIs, RiverRanged, Passed, RiverSays}
+use Rattle.answer.specs.river.River as says
+use Rattle.answer.specs.river.Rows.{DepthLineIs, DepthGiven, ClearLineIs, ClearGiven, both}
+use Rattle.answer.specs.declared.river.RowGives.{RowGives}
+use Rattle.answer.specs.declared.river.RowGives.the-variants.{Refused, Line}
+
+-- ---- what each row gives its job
+
+abbrev Depth-ranged : Job → Type 0
+Depth-ranged job = HasScour (job .stage) → Ranged S (job .scour)
+
+abbrev Clear-ranged : Job → Type 0
+Clear-ranged job = HasClearance (job .stage) → Ranged C (job .clearance)
+
+pub data DepthGives (job : Job) : RowGives → Type 0 where
+  out-of-range : (Depth-ranged job → ⊥) → DepthGives job (Refused 11)
+  large : Depth-ranged job → LargeCatchment job → DepthGives job (Refused 12)
+  intense : Depth-ranged job → (LargeCatchment job → ⊥) → TooIntense job → DepthGives job (Refused 13)
+  line : {l : RiverLine} → Depth-ranged job → Passed job → DepthIs job l → DepthGives job (Line l)
+
+pub data ClearGives (job : Job) : RowGives → Type 0 where
+  unranged : (Clear-ranged job → ⊥) → ClearGives job (Refused 11)
+  obstructed : Clear-ranged job → OverObstructed job → ClearGives job (Refused 14)
+  clear : {l : RiverLine} → Clear-ranged job → (OverObstructed job → ⊥) → ClearIs job l → ClearGives job (Line l)
+
+module _ (job : Job) where
+  -- a row that is not there
+  pub no-depth : (HasScour (job .stage) → ⊥) → DepthGives job (Line lines.Missing)
+  no-depth n = line {l = lines.Missing} (λ h. absurd (n h)) (record { catchment = λ l. n (l .has); intensity = λ t. n (t .has) }) (λ f. n (f .has))
+
+  pub no-clear : (HasClearance (job .stage) → ⊥) → ClearGives job (Line lines.Missing)
+  no-clear n = clear {l = lines.Missing} (λ h. absurd (n h)) (λ o. n (o .has)) n
+
+  -- the S row
+  module _ (has : HasScour (job .stage)) (rock : Bool) (strata : Decides rock (OnRock job)) where
+    depth-line : (needed : ℕ) (l : RiverLine) → scour.Scoured (job .scour .n1 .size) (job .scour .n2 .size) (job .scour .n3 .size) (job .scour .n4 .size) (job .scour .n5 .size) (scour.needs needed)
+        → DepthLineIs rock needed (job .scour .n6 .size) l → DepthIs job l
+    depth-line needed lines.Missing v w = λ f. f .soil (decided rock w strata)
+    depth-line needed (lines.Shown minus n f passes) v w =
+        record {
+          founded = record { soil = refuted rock (w .0) strata; has = has };
+          plain = w .1;
+          value = subst (λ (x : ℕ). scour.Scoured (job .scour .n1 .size) (job .scour .n2 .size) (job .scour .n3 .size) (job .scour .n4 .size) (job .scour .n5 .size) (scour.needs x)) (sym (w .2)) v;
+          limit = w .3;
+          mark = w .4;
+        }
+
+    depth-number : {m n : ℕ} → scour.refused m ≡ scour.refused n → DepthGives job (Refused m) → DepthGives job (Refused n)
+    depth-number {m} {n} e = subst (λ (k : ℕ). DepthGives job (Refused k)) (cc)
+
+    pub depth-gives : {t : scour.ScourTold} → river.ScourSays (job .scour) t → (r : RowGives) → DepthGiven rock (job .scour .n6 .size) t r → DepthGives job r
+    depth-gives (river.out-of-range h) (Refused n) e = depth-number e (out-of-range (λ r. h (r has)))
+    depth-gives (river.out-of-range h) (Line l) w = let e = w .1 in impossible cc
+    depth-gives (river.in-range k (scour.large-catchment h)) (Refused n) e = depth-number e (large (λ _. k) (record { has = has; above = h }))
+    depth-gives (river.in-range k (scour.large-catchment h)) (Line l) w = let e = w .1 in impossible cc
+    depth-gives (river.in-range k (scour.too-intense {q} c h)) (Refused n) e =
+        depth-number e (intense (λ _. k)
+        (λ l. let d = scour-says-one (river.in-range k (scour.large-catchment (l .above))) (river.in-range k (scour.too-intense c h)) in let z : _≡_ {A = ℕ} 12 13 = cc in omega arith)
+        (record { has = has; q = q; constricted = c; above = h }))
+    depth-gives (river.in-range k (scour.too-intense c h)) (Line l) w = let e = w .1 in impossible cc
+    depth-gives (river.in-range k (scour.needed d n)) (Refused m) e = impossible cc
+    depth-gives (river.in-range k (scour.needed {depth = depth} d n)) (Line l) w =
+        let says = river.in-range k (scour.needed d n) in
+        let e : depth ≡ w .0 = let f = w .1 in cc in
+        line {l = l} (λ _. k)
+        (record {
+          catchment = λ x. let f = scour-says-one (river.in-range k (scour.large-catchment (x .above))) says in impossible cc;
+          intensity = λ x. let f = scour-says-one (river.in-range k (scour.too-intense (x .constricted) (x .above))) says in impossible cc;
+        })
+        (depth-line depth l (scour.needed d n) (subst (λ (x : ℕ). DepthLineIs rock x (job .scour .n6 .size) l) (sym e) (w .2)))
+
+  -- the C row
+  module _ (has : HasClearance (job .stage)) where
+    abbrev Says : told.ClearanceTold → Type 0
+    Says t = clearing.ClearanceSays (job .clearance) (job .scour .n1 .size) t
+
+    module _ (minus : Bool) (size needed : ℕ) (says : Says (told.given (signed minus size) needed)) (plain : minus ≡ true → 0 < size) where
+      in-range : {t : told.ClearanceTold} → Says t → t ≡ told.given (signed minus size) needed → Ranged C (job .clearance)
+      in-range (clearing.out-of-range h) e = impossible cc
+      in-range (clearing.in-range k v) e = k
+
+      not-obstructed : OverObstructed job → ⊥
+      not-obstructed o =
+          let e = clearances.clearance-says-one (clearing.in-range (in-range says refl) (clearing.over-obstructed (o .above))) says in
+          impossible cc
+
+      value-of : {t : told.ClearanceTold} → Says t → t ≡ told.given (signed minus size) needed
+          → clearing.Cleared (job .clearance .n1 .size) (job .clearance .n2 .size) (job .clearance .n3 .size) (value (job .clearance .n4)) (value (job .clearance .n5)) (job .scour .n1 .size) t
+      value-of (clearing.out-of-range h) e = impossible cc
+      value-of (clearing.in-range k v) e = v
+
+      clear-line : (l : RiverLine) → ClearLineIs minus size needed l → ClearGives job (Line l)
+      clear-line lines.Missing w = absurd w
+      clear-line (lines.Shown m n k passes) w =
+          let here : ClearIs job (lines.Shown minus size needed passes) = record { has = has; value = value-of says refl; plain = plain; mark = w .3 } in
+          let same : lines.Shown m n k passes ≡ lines.Shown minus size needed passes = let p = w .0 in let q = w .1 in let r = w .2 in cc in
+          subst⁻¹ (λ (l : RiverLine). ClearGives job (Line l)) same (clear {l = lines.Shown minus size needed passes} (λ _. in-range says refl) not-obstructed here)
+
+    pub clear-gives : (a : ClearanceAnswer) → told.ClearanceAnswered (λ t. Says t) a → (r : RowGives) → ClearGiven a r → ClearGives job r
+    clear-gives clearance.OutOfRange s r e = subst (ClearGives job) (sym e) (out (s .says))
+      where
+        out : Says (told.refused 11) → ClearGives job (Refused 11)
+        out (clearing.out-of-range h) = unranged (λ r. h (r has))
+    clear-gives clearance.OverObstructed s r e = subst (ClearGives job) (sym e) (over (s .says))
+      where
+        over : Says (told.refused 14) → ClearGives job (Refused 14)
+        over (clearing.in-range k (clearing.over-obstructed h)) = obstructed (λ _. k) (record { has = has; above = h })
+    clear-gives (clearance.Given minus size needed) s (Refused n) w = absurd w
+    clear-gives (clearance.Given minus size needed) s (Line l) w = clear-line minus size needed (s .says) (s .plain) l w
+
+  -- ---- both rows: 11 before 12 and 13, and those before 14
+  pub both-give : {d c : RowGives} → DepthGives job d → ClearGives job c → RiverSays job (both d c)
+  both-give (out-of-range h) (unranged k) = says.out-of-range (λ r. h (r .scour))
+  both-give (out-of-range h) (obstructed r o) = says.out-of-range (λ r. h (r .scour))
+  both-give (out-of-range h) (clear r n l) = says.out-of-range (λ r. h (r .scour))
+  both-give (large r l) (unranged k) = says.out-of-range (λ r. k (r .clearance))
+  both-give (large r l) (obstructed q o) = says.large (record { scour = r; clearance = q }) l
+  both-give (large r l) (clear q n m) = says.large (record { scour = r; clearance = q }) l
+  both-give (intense r n i) (unranged k) = says.out-of-range (λ r. k (r .clearance))
+  both-give (intense r n i) (obstructed q o) = says.intense (record { scour = r; clearance = q }) n i
+  both-give (intense r n i) (clear q m l) = says.intense (record { scour = r; clearance = q }) n i
+  both-give (line r p d) (unranged k) = says.out-of-range (λ r. k (r .clearance))
+  both-give (line r p d) (obstructed q o) = says.obstructed (record { scour = r; clearance = q }) p o
+  both-give (line {l} r p d) (clear {l = m} q n c) = says.shown {d = l} {c = m} (record { scour = r; clearance = q }) p n d c

@@ -1,0 +1,40 @@
+-- What a C row is told says which arm comes: each refusal by its number, and a clearance as CL.
+use borrow.Author.Needs.{needs}
+use mathlib.Core.Path.{_≡_, refl, subst⁻¹}
+use mathlib.Core.Bool.{Bool, not, _&&_}
+use Prim.Native.Nat.{ℕ}
+use lib.Dec.{leb}
+use Rattle.clearance.specs.declared.ClearanceAnswer.{ClearanceAnswer}
+use Rattle.clearance.specs.declared.ClearanceAnswer.the-variants.{Given}
+use Rattle.clearance.proofs.Clearances.{at-least-decides}
+use Rattle.lines.specs.declared.RiverLine.the-variants.{Shown}
+use Rattle.answer.specs.declared.river.RowGives.the-variants.{Line}
+use Rattle.answer.specs.river.Rows.{ClearGiven}
+use Rattle.answer.proofs.river.clear_of.Statement.{statement}
+use Rattle.answer.proofs.river.clear_of.Tie as tie
+
+given : {a : ClearanceAnswer} (minus : Bool) (size needed : ℕ) → a ≡ Given minus size needed → ClearGiven a (Line (Shown minus size needed (not minus && leb needed size)))
+given minus size needed e =
+    subst⁻¹ (λ (a : ClearanceAnswer). ClearGiven a (Line (Shown minus size needed (not minus && leb needed size)))) e (refl, refl, refl, at-least-decides minus size needed)
+
+enum-told : tie.Need-enum-told
+enum-told c = search needs
+
+enum-told-2 : tie.Need-enum-told-2
+enum-told-2 c = search needs
+
+enum-known-answer : tie.Need-enum-known-answer
+enum-known-answer c = search needs
+
+returns : tie.Need-returns
+returns c = subst⁻¹ (λ (a : ClearanceAnswer). ClearGiven a _) (c .enum-told .given .1) refl
+
+returns-2 : tie.Need-returns-2
+returns-2 c = subst⁻¹ (λ (a : ClearanceAnswer). ClearGiven a _) (c .enum-told2 .given .1) refl
+
+returns-3 : tie.Need-returns-3
+returns-3 c = let p = c .before .answer .given .0 in given (p .0) (p .1 .0) (p .1 .1 .0) (c .before .answer .given .1)
+
+pub clear-of-spec : {M : Type 1} → statement M
+clear-of-spec =
+    tie.close (tie.spec enum-told enum-told-2 enum-known-answer returns returns-2 returns-3)

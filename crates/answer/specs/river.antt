@@ -1,0 +1,2 @@
+pub mod River
+pub mod Rows

@@ -1,0 +1,46 @@
+-- What the functions for one river row and for both answer, whatever job the rows stand in.
+use Prim.Native.Nat.{ℕ, _≤_}
+use mathlib.Core.Path.{_≡_}
+use mathlib.Core.Bool.{Bool, true, false, cond}
+use lib.Dec.{ltb}
+use Rattle.arithmetic.specs.decides.Decides.{Decides}
+use Rattle.scour.specs.Scour.{ScourTold, refused, needs}
+use Rattle.clearance.specs.Clear.{AtLeast}
+use Rattle.clearance.specs.declared.ClearanceAnswer.{ClearanceAnswer}
+use Rattle.clearance.specs.declared.ClearanceAnswer.the-variants as clearance
+use Rattle.lines.specs.declared.RiverLine.{RiverLine}
+use Rattle.lines.specs.declared.RiverLine.the-variants as line
+use Rattle.answer.specs.declared.river.RiverRead.{RiverRead}
+use Rattle.answer.specs.declared.river.RiverRead.the-variants as river
+use Rattle.answer.specs.declared.river.RowGives.{RowGives}
+use Rattle.answer.specs.declared.river.RowGives.the-variants.{Refused, Line}
+
+-- SC: on rock none; else the depth needed beside the depth found
+abbrev pub DepthLineIs : Bool → ℕ → ℕ → RiverLine → Type 0
+DepthLineIs rock needed found line.Missing = rock ≡ true
+DepthLineIs rock needed found (line.Shown minus n f passes) = (rock ≡ false) × (minus ≡ false) × (n ≡ needed) × (f ≡ found) × Decides passes (n ≤ f)
+
+abbrev pub DepthGiven : Bool → ℕ → ScourTold → RowGives → Type 0
+DepthGiven rock found told (Refused n) = told ≡ refused n
+DepthGiven rock found told (Line l) = (needed : ℕ) × (told ≡ needs needed) × DepthLineIs rock needed found l
+
+-- CL: the clearance there is beside the clearance needed
+abbrev pub ClearLineIs : Bool → ℕ → ℕ → RiverLine → Type 0
+ClearLineIs minus size needed line.Missing = ⊥
+ClearLineIs minus size needed (line.Shown m s n passes) = (m ≡ minus) × (s ≡ size) × (n ≡ needed) × Decides passes (AtLeast minus size needed)
+
+abbrev pub ClearGiven : ClearanceAnswer → RowGives → Type 0
+ClearGiven clearance.OutOfRange r = r ≡ Refused 11
+ClearGiven clearance.OverObstructed r = r ≡ Refused 14
+ClearGiven (clearance.Given minus size needed) (Refused n) = ⊥
+ClearGiven (clearance.Given minus size needed) (Line l) = ClearLineIs minus size needed l
+
+-- the lower of two refusals, or the lines
+abbrev pub both : RowGives → RowGives → RiverRead
+both (Refused n) (Refused m) = river.Refused (cond (ltb m n) m n)
+both (Refused n) (Line c) = river.Refused n
+both (Line d) (Refused m) = river.Refused m
+both (Line d) (Line c) = river.Shown d c
+
+abbrev pub BothGive : RowGives → RowGives → RiverRead → Type 0
+BothGive depth clear r = r ≡ both depth clear

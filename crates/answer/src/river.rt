@@ -1,0 +1,99 @@
+// The river rows of a job (document 01, Refusals of a job and The printed answer): refusals 11 to 14 of its S and C rows, in their
+// order, and the lines SC and CL.
+//
+// Each row gives its own refusal or its line, and of two refusals the lower is told. What is hard is what must not be left out: on rock
+// no depth is needed, and still 12 and 13 apply; a C row stands only behind an S row, whose Q it takes.
+use clearance::ClearanceAnswer;
+use jobs::Job;
+use lines::RiverLine;
+use scour::ScourAnswer;
+ghost use Rattle.scour.specs.Scour.{scour-told};
+ghost use Rattle.answer.specs.river.River.{RiverSays};
+ghost use Rattle.answer.specs.river.Rows.{DepthGiven, ClearGiven, BothGive};
+
+// What the river rows of a job give: their refusal, 11 to 14, or their lines.
+pub enum RiverRead {
+    Refused(u8),
+    Shown(RiverLine, RiverLine),
+}
+
+// What one of them gives.
+enum RowGives {
+    Refused(u8),
+    Line(RiverLine),
+}
+
+// The S row: it is refused on rock too, where no depth is needed. SC needs value <= limit.
+fn depth_of(rock: bool, found: u64, answer: ScourAnswer) -> RowGives
+    ensures { λ r. ⌜ DepthGiven rock found (scour-told answer) r ⌝ }
+{
+    match answer {
+        ScourAnswer::OutOfRange => RowGives::Refused(11),
+        ScourAnswer::LargeCatchment => RowGives::Refused(12),
+        ScourAnswer::TooIntense => RowGives::Refused(13),
+        ScourAnswer::Needed(needed) => {
+            if rock {
+                return RowGives::Line(RiverLine::Missing);
+            }
+            RowGives::Line(RiverLine::Shown {
+                minus: false,
+                size: needed,
+                limit: found,
+                passes: needed <= found,
+            })
+        }
+    }
+}
+
+// The C row. CL needs value >= limit, and a value below zero is never enough.
+fn clear_of(answer: ClearanceAnswer) -> RowGives
+    ensures { λ r. ⌜ ClearGiven answer r ⌝ }
+{
+    match answer {
+        ClearanceAnswer::OutOfRange => RowGives::Refused(11),
+        ClearanceAnswer::OverObstructed => RowGives::Refused(14),
+        ClearanceAnswer::Given {
+            minus,
+            size,
+            needed,
+        } => RowGives::Line(RiverLine::Shown {
+            minus,
+            size,
+            limit: needed,
+            passes: !minus & (needed <= size),
+        }),
+    }
+}
+
+// Both rows: the lower of their refusals, or their lines.
+fn both(depth: RowGives, clear: RowGives) -> RiverRead
+    ensures { λ r. ⌜ BothGive depth clear r ⌝ }
+{
+    match depth {
+        RowGives::Refused(n) => match clear {
+            RowGives::Refused(m) => RiverRead::Refused(if m < n { m } else { n }),
+            RowGives::Line(_) => RiverRead::Refused(n),
+        },
+        RowGives::Line(sc) => match clear {
+            RowGives::Refused(m) => RiverRead::Refused(m),
+            RowGives::Line(cl) => RiverRead::Shown(sc, cl),
+        },
+    }
+}
+
+// The lines of the river rows that a job has.
+pub(crate) fn river_of(job: Job) -> RiverRead
+    ensures { λ r. ⌜ RiverSays job r ⌝ }
+{
+    let stage = job.stage;
+    let mut depth = RowGives::Line(RiverLine::Missing);
+    let mut clear = RowGives::Line(RiverLine::Missing);
+    if jobs::stages::has_scour(stage) {
+        let rock = job.base.n5.size == 1;
+        depth = depth_of(rock, job.scour.n6.size as u64, scour::scour(job.scour));
+    }
+    if jobs::stages::has_clearance(stage) {
+        clear = clear_of(clearance::clearance(job.clearance, job.scour.n1.size as u64));
+    }
+    both(depth, clear)
+}

@@ -1,0 +1,3 @@
+pub mod decides
+pub mod rounding
+pub mod signed

@@ -1,3 +1,0 @@
--- Laws of the cells of a row. Other crates' proofs cite them.
-pub mod Fields
-pub mod Answers

@@ -1,0 +1,3 @@
+-- The laws of OP, OM, SL, PR and RK. Other crates' proofs cite them.
+pub mod Ranks
+pub mod Pressing

@@ -1,0 +1,4 @@
+-- Laws of the cells of a row. Other crates' proofs cite them.
+pub mod Fields
+pub mod Answers
+mod Noted

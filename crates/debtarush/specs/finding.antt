@@ -1,0 +1,2 @@
+pub mod JobAt
+pub mod FoundAt

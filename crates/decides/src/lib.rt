@@ -1,1 +1,0 @@
-// What a yes-or-no answer says: the definition `Decides` and its laws, for every room. There is no code here.

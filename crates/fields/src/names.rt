@@ -1,0 +1,52 @@
+// The names of a job book, its members and jobs (document 01, the job book: "1 to 12 of A-Z, 0-9, hyphen").
+//
+// The answer for a stretch is exact whether or not it is a field of RFC 4180. What is hard is that a name is a value of
+// its own: its bytes with zeros behind them, so that one content gives one name, and two contents two.
+ghost use mathlib.Core.Path.{_≡_};
+ghost use Rattle.fields.specs.names.Names.{NameAt, no-name};
+
+// A member or a job: its bytes, with zeros behind them.
+pub struct Name {
+    pub len: usize,
+    pub bytes: [u8; 12],
+}
+
+// A name; or none, where a stretch has none. (A name holds an array, so no enum can hold it.)
+pub struct NameRead {
+    pub good: bool,
+    pub name: Name,
+}
+
+// No name: what stands where there is none.
+pub fn blank_name() -> Name
+    ensures { λ r. ⌜ r ≡ no-name ⌝ }
+{
+    Name {
+        len: 0,
+        bytes: [0u8; 12],
+    }
+}
+
+// The name that a field is.
+pub fn name_at(raw: &[u8]) -> NameRead
+    ensures { λ r. ⌜ NameAt (now (raw .entry)) r ⌝ }
+{
+    let content = crate::content::bare(raw);
+    let n = content.len();
+    let mut good = (1 <= n) & (n <= 12);
+    let mut bytes = [0u8; 12];
+    let mut i: usize = 0;
+    while good & (i < n) {
+        let b = content[i];
+        bytes[i] = b;
+        // hyphen, 0-9, A-Z
+        good = (b == 0x2D) | ((0x30 <= b) & (b <= 0x39)) | ((0x41 <= b) & (b <= 0x5A));
+        i += 1;
+    }
+    let name = if good {
+        Name { len: n, bytes }
+    } else {
+        blank_name()
+    };
+    NameRead { good, name }
+}

@@ -1,0 +1,32 @@
+// Lines of the programs that run document 01's figures: what was asked, what came and what 01 says.
+//
+// What is written no contract can say; how many figures agree is said.
+use libc::STDOUT_FILENO;
+ghost use mathlib.Core.Path.{_≡_};
+ghost use Rattle.figures_run.specs.asked.Asked.{agreeing};
+
+// Words, and the number that they end with.
+fn write(words: &[u8], number: u64) {
+    io::write_all(STDOUT_FILENO, words);
+    io::print_decimal(STDOUT_FILENO, number);
+}
+
+fn counted(agree: u64, came: u64, says: u64) -> u64
+    ensures { λ r. ⌜ r ≡ agreeing agree came says ⌝ }
+{
+    if came == says {
+        return std::num::wrapping_add_u64(agree, 1);
+    }
+    agree
+}
+
+// The line of a figure, by the words and the number that ask for it: one more that agrees, where what came is what 01 says.
+pub(crate) fn figure(agree: u64, words: &[u8], number: u64, came: u64, says: u64) -> u64
+    ensures { λ r. ⌜ r ≡ agreeing agree came says ⌝ }
+{
+    write(words, number);
+    write(b" came ", came);
+    write(b", 01 says ", says);
+    io::write_all(STDOUT_FILENO, b"\n");
+    counted(agree, came, says)
+}

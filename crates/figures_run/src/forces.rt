@@ -1,0 +1,129 @@
+// The figures of earth, OP and PR.
+//
+// "By either rule" is one line: the program takes one of PR's two rules there, and that both give 57 is a starred figure.
+use checks::Base;
+use checks::Check;
+use checks::Figure;
+use earth::EarthAnswer;
+use fields::Entry;
+use kinds::Kind;
+use kinds::Numbers;
+use kinds::Row;
+use loads::LoadsAnswer;
+ghost use Prim.Native.Nat.{_≤_};
+ghost use Rattle.checks.specs.Sized.{Sized};
+
+pub(crate) fn filled(size: u32) -> Entry {
+    Entry {
+        filled: true,
+        minus: false,
+        size,
+    }
+}
+
+// A row of four numbers, in service.
+fn row(a: u32, b: u32, c: u32, d: u32) -> Numbers {
+    Numbers {
+        n1: filled(a),
+        n2: filled(b),
+        n3: filled(c),
+        n4: filled(d),
+        n5: filled(0),
+        n6: fields::blank_entry(),
+    }
+}
+
+// The thrust of an E row, or its height; 0 where it is refused.
+fn push_of(answer: EarthAnswer, high: bool) -> u64 {
+    match answer {
+        EarthAnswer::OutOfRange => 0,
+        EarthAnswer::NoCoefficient => 0,
+        EarthAnswer::Push { thrust, arm } => { if high { arm } else { thrust } }
+    }
+}
+
+// The thrust and the height of a fill of soil a, level.
+fn pushed(agree: u64) -> u64 {
+    let answer = earth::pressure(row(1, 1, 6000, 8000));
+    let thrust = push_of(answer, false);
+    let arm = push_of(answer, true);
+    let next = crate::asked::figure(agree, b"H of soil a, level, 6000 by ", 8000, thrust, 664);
+    crate::asked::figure(next, b"y of the same, 6000 by ", 8000, arm, 2000)
+}
+
+// A figure that is a number, and 0 for "none" and "off".
+fn figure_number(figure: Figure) -> u64 {
+    match figure {
+        Figure::Nothing => 0,
+        Figure::Number(n) => n,
+        Figure::Off => 0,
+    }
+}
+
+// A base of B 4,000 and L 8,000.
+fn example_base() -> Base
+    ensures { λ r. ⌜ Sized r ⌝ }
+{
+    Base {
+        width: 4000,
+        length: 8000,
+        allowable: 300,
+        friction: 600,
+        rock: false,
+    }
+}
+
+// A figure of the set of one DL row on that base; 0 where the row is refused.
+fn figure_of_row(check: Check, numbers: Numbers) -> u64 {
+    let row = Row {
+        kind: Kind::DL,
+        numbers,
+    };
+    let rows = [row; 16];
+    let taken = loads::loads_of(rows, 1);
+    let told = taken.answer;
+    let loads = taken.loads;
+    match told {
+        LoadsAnswer::OutOfRange | LoadsAnswer::NoCoefficient | LoadsAnswer::TooMany => 0,
+        LoadsAnswer::Given => figure_number(checks::set_figures::figure_of(
+            check,
+            example_base(),
+            loads,
+            1,
+        )),
+    }
+}
+
+fn overturning(agree: u64, y: u32, says: u64) -> u64 {
+    let came = figure_of_row(Check::OP, row(1000, 0, 100, y));
+    crate::asked::figure(
+        agree,
+        b"OP on B 4000 of V 1000, x 0, H 100, y ",
+        y as u64,
+        came,
+        says,
+    )
+}
+
+// PR on that base.
+fn pressed(n: u64, m: u64) -> u64
+    requires { ⌜ (n ≤ 1000) × (m ≤ 2000000) ⌝ }
+{
+    let rank = checks::ranks::press_rank(4000, 8000, n, m);
+    figure_number(checks::figure_at(Check::PR, rank))
+}
+
+// All of them.
+pub(crate) fn borne(agree: u64) -> u64 {
+    let a = overturning(overturning(pushed(agree), 10_000, 200), 10_001, 199);
+    let past = pressed(1000, 2_000_000);
+    let b = crate::asked::figure(
+        a,
+        b"PR on B 4000, L 8000 of N 1000, M ",
+        2_000_000,
+        past,
+        84,
+    );
+    let either = pressed(900, 1_200_000);
+    crate::asked::figure(b, b"PR on the same of N 900, M ", 1_200_000, either, 57)
+}

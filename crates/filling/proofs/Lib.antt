@@ -1,2 +1,0 @@
--- The laws of the table. Other crates' proofs cite them.
-pub mod Filling

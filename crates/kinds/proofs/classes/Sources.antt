@@ -1,0 +1,17 @@
+-- One source is no other.
+use mathlib.Core.Path.{_≡_}
+use Rattle.arithmetic.proofs.Cases.{impossible}
+use Rattle.kinds.specs.declared.classes.Source.{Source}
+use Rattle.kinds.specs.declared.classes.Source.the-variants.{Absent, Earth, Written}
+
+pub absent-not : _≡_ {A = Source} Absent Written → ⊥
+absent-not q = impossible cc
+
+pub earth-not : _≡_ {A = Source} Earth Written → ⊥
+earth-not q = impossible cc
+
+pub absent-earth : _≡_ {A = Source} Absent Earth → ⊥
+absent-earth q = impossible cc
+
+pub written-earth : _≡_ {A = Source} Written Earth → ⊥
+written-earth q = impossible cc

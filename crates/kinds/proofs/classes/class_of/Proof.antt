@@ -1,0 +1,35 @@
+-- The six kinds of the first arm are all permanent and the seven of the second all free, whichever of them it is; WL and SF have their own arms.
+use borrow.Author.Needs.{needs}
+use mathlib.Core.Path.{refl}
+use mathlib.Core.List.{[], _∷_}
+use Rattle.kinds.specs.declared.Kind.the-variants.{B, S, C, E, DL, EP, LL, LF, CF, WC, BU, TM, EX}
+use Rattle.sets.specs.declared.Class.the-variants.{Permanent, Free}
+use Rattle.kinds.specs.classes.Classes.{class-of}
+use Rattle.kinds.proofs.Arms.{arm}
+use Rattle.kinds.proofs.classes.class_of.Statement.{statement}
+use Rattle.kinds.proofs.classes.class_of.Tie as tie
+
+enum-told : tie.Need-enum-told
+enum-told c = search needs
+
+enum-told-2 : tie.Need-enum-told-2
+enum-told-2 c = search needs
+
+returns : tie.Need-returns
+unfolding class-of
+returns c = arm class-of Permanent (B ∷ S ∷ C ∷ E ∷ DL ∷ EP ∷ []) (c .before .args .kind) refl (c .match .keys1)
+
+returns-2 : tie.Need-returns-2
+unfolding class-of
+returns-2 c = arm class-of Free (LL ∷ LF ∷ CF ∷ WC ∷ BU ∷ TM ∷ EX ∷ []) (c .before .args .kind) refl (c .match .keys2)
+
+returns-3 : tie.Need-returns-3
+unfolding class-of
+returns-3 c = search needs
+
+returns-4 : tie.Need-returns-4
+unfolding class-of
+returns-4 c = search needs
+
+pub class-of-spec : {M : Type 1} → statement M
+class-of-spec = tie.close (tie.spec enum-told enum-told-2 returns returns-2 returns-3 returns-4)

@@ -1,0 +1,28 @@
+-- An arm of several kinds has one source for all: none for B, S and C, the row's own numbers for the eleven of the table's last line.
+use borrow.Author.Needs.{needs}
+use mathlib.Core.Path.{refl}
+use mathlib.Core.List.{[], _∷_}
+use Rattle.kinds.specs.declared.Kind.the-variants.{B, S, C, DL, EP, LL, LF, CF, WC, BU, TM, EX, WL, SF}
+use Rattle.kinds.specs.declared.classes.Source.the-variants.{Absent, Written}
+use Rattle.kinds.specs.classes.Classes.{source}
+use Rattle.kinds.proofs.Arms.{arm}
+use Rattle.kinds.proofs.classes.source_of.Statement.{statement}
+use Rattle.kinds.proofs.classes.source_of.Tie as tie
+
+enum-told : tie.Need-enum-told
+enum-told c = search needs
+
+returns : tie.Need-returns
+unfolding source
+returns c = arm source Absent (B ∷ S ∷ C ∷ []) (c .before .args .kind) refl (c .match .keys1)
+
+returns-2 : tie.Need-returns-2
+unfolding source
+returns-2 c = search needs
+
+returns-3 : tie.Need-returns-3
+unfolding source
+returns-3 c = arm source Written (DL ∷ EP ∷ LL ∷ LF ∷ CF ∷ WC ∷ BU ∷ TM ∷ EX ∷ WL ∷ SF ∷ []) (c .before .args .kind) refl (c .match .keys3)
+
+pub source-of-spec : {M : Type 1} → statement M
+source-of-spec = tie.close (tie.spec enum-told returns returns-2 returns-3)

@@ -1,0 +1,15 @@
+-- A field has one answer.
+use Prim.Native.Nat.{ℕ}
+use mathlib.Core.Path.{_≡_, refl, ap}
+use mathlib.Core.List.{List}
+use Rattle.csv.proofs.rfc4180.Unique.{content-unique}
+use Rattle.kinds.specs.letters.Form.{KindAt}
+use Rattle.kinds.specs.declared.letters.KindRead.{KindRead}
+use Rattle.kinds.specs.declared.letters.KindRead.the-variants.{Known, Unknown}
+use Rattle.kinds.proofs.letters.Letters.{letters-one}
+
+pub kind-one : (raw : List ℕ) (a b : KindRead) → KindAt raw a → KindAt raw b → a ≡ b
+kind-one raw (Known j) (Known k) p q = ap Known (letters-one j k (content-unique p q))
+kind-one raw (Known j) Unknown p q = absurd (q j p)
+kind-one raw Unknown (Known k) p q = absurd (p k q)
+kind-one raw Unknown Unknown p q = refl

@@ -1,0 +1,91 @@
+// The verdict of a job that is not refused (document 01, The printed answer): A exactly if every line after it says Y.
+//
+// A line that is missing says nothing, and none of the lines may be left out. The verdict stands in the answer that it is about: what it
+// says is said of the lines beside it.
+use crate::Answer;
+use crate::Line;
+use crate::Lines;
+use crate::RiverLine;
+use crate::Verdict;
+ghost use Rattle.arithmetic.specs.decides.Decides.{Decides};
+ghost use Rattle.lines.specs.verdicts.Verdict.{LineYes, LinesYes, RiverYes, Judged};
+
+// Whether a line says Y, where there is one.
+fn line_yes(line: Line) -> bool
+    ensures { λ r. ⌜ Decides r (LineYes line) ⌝ }
+{
+    match line {
+        Line::Missing => true,
+        Line::Shown {
+            figure: _,
+            limit: _,
+            set: _,
+            passes,
+        } => passes,
+    }
+}
+
+// Whether SC or CL says Y, where there is one.
+fn river_yes(line: RiverLine) -> bool
+    ensures { λ r. ⌜ Decides r (RiverYes line) ⌝ }
+{
+    match line {
+        RiverLine::Missing => true,
+        RiverLine::Shown {
+            minus: _,
+            size: _,
+            limit: _,
+            passes,
+        } => passes,
+    }
+}
+
+// Whether every line of a combination says Y.
+fn lines_yes(lines: Lines) -> bool
+    ensures { λ r. ⌜ Decides r (LinesYes lines) ⌝ }
+{
+    let op = lines.op;
+    let om = lines.om;
+    let sl = lines.sl;
+    let pr = lines.pr;
+    let rk = lines.rk;
+    let a = line_yes(op);
+    let b = line_yes(om);
+    let c = line_yes(sl);
+    let d = line_yes(pr);
+    let e = line_yes(rk);
+    a & b & c & d & e
+}
+
+// The answer of these lines: the lines as they are, and their verdict.
+pub fn judged(
+    one: Lines,
+    two: Lines,
+    three: Lines,
+    four: Lines,
+    depth: RiverLine,
+    clear: RiverLine,
+) -> Answer
+    ensures { λ r. ⌜ Judged one two three four depth clear r ⌝ }
+{
+    let a = lines_yes(one);
+    let b = lines_yes(two);
+    let c = lines_yes(three);
+    let d = lines_yes(four);
+    let e = river_yes(depth);
+    let f = river_yes(clear);
+    let verdict = if a & b & c & d & e & f {
+        Verdict::Accepted
+    } else {
+        Verdict::NotAccepted
+    };
+    Answer {
+        verdict,
+        one,
+        two,
+        three,
+        four,
+        depth,
+        clear,
+    }
+}

@@ -1,0 +1,17 @@
+-- What the loop over a job's load rows answers: what 11, 15 and 16 ask of the rows, and the loads of the rows.
+use mathlib.Core.Path.{_≡_}
+use mathlib.Core.Bool.{true}
+use mathlib.Core.List.{List}
+use Prim.Native.Nat.{ℕ}
+use Rattle.arithmetic.specs.decides.Decides.{Decides}
+use Rattle.kinds.specs.declared.Row.{Row}
+use Rattle.earth.specs.declared.table2.Coefficient.{Coefficient}
+use Rattle.loads.specs.LoadRows.{AllRanged, NoneBlank, optionals, AreLoads}
+use Rattle.loads.specs.declared.Asked.{Asked}
+
+pub record AskedIs (fill : ℕ → ℕ → Coefficient) (rows : List Row) (n : ℕ) (asked : Asked) : Type 0 where
+  pub ranged : Decides (asked .ranged) (AllRanged rows n)
+  pub filled : Decides (asked .filled) (NoneBlank fill rows n)
+  -- rows that are in range, with no blank place among them, are counted and exert their loads
+  pub optional : asked .ranged ≡ true → asked .filled ≡ true → asked .optional ≡ optionals rows n
+  pub loads : asked .ranged ≡ true → asked .filled ≡ true → AreLoads fill rows n (asked .loads)

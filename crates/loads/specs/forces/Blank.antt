@@ -1,0 +1,12 @@
+-- Document 01, Earth pressure: Table 2 is blank for an E row. `fill` is what is held for a soil and a slope: today Table 2.
+use mathlib.Core.Path.{_≡_}
+use Prim.Native.Nat.{ℕ}
+use Rattle.kinds.specs.declared.Row.{Row}
+use Rattle.earth.specs.declared.table2.Coefficient.{Coefficient}
+use Rattle.earth.specs.Earth.{refused, Pressed}
+use Rattle.kinds.specs.declared.classes.Source.the-variants.{Earth}
+use Rattle.kinds.specs.classes.Classes.{source}
+
+-- "15, Table 2 is blank there", of an E row
+unfoldable pub BlankThere : (ℕ → ℕ → Coefficient) → Row → Type 0
+BlankThere fill r = (source (r .kind) ≡ Earth) × Pressed fill (r .numbers) (refused 15)

@@ -1,0 +1,50 @@
+-- What a load row exerts (document 01, the job book, Earth pressure and Load sets). `fill` is what is held for a soil and a slope: today Table 2.
+use mathlib.Core.Path.{_≡_}
+use Prim.Native.Nat.{ℕ, _*_}
+use lib.IntN.{pos, _*ℤ_}
+use Rattle.kinds.specs.declared.Numbers.{Numbers}
+use Rattle.kinds.specs.declared.Row.{Row}
+use Rattle.kinds.specs.Table.{phase}
+use Rattle.kinds.specs.ranges.Range.{value}
+use Rattle.earth.specs.declared.table2.Coefficient.{Coefficient}
+use Rattle.earth.specs.Earth.{push, Pressed}
+use Rattle.arithmetic.specs.signed.Whole.{amount}
+use Rattle.sets.specs.declared.Load.{Load}
+use Rattle.kinds.specs.declared.classes.Source.{Source}
+use Rattle.kinds.specs.declared.classes.Source.the-variants.{Absent, Earth, Written}
+use Rattle.kinds.specs.classes.Classes.{class-of, source}
+
+-- a load as written: V, x, H, y
+pub record OwnForces (numbers : Numbers) (load : Load) : Type 0 where
+  pub v : load .v ≡ amount (value (numbers .n1))
+  pub x : load .x ≡ amount (value (numbers .n2))
+  pub h : load .h ≡ amount (value (numbers .n3))
+  pub twist : load .twist ≡ amount (value (numbers .n3) *ℤ value (numbers .n4))
+
+-- a thrust H at the height y, and no V
+pub record EarthLoad (H y : ℕ) (load : Load) : Type 0 where
+  pub v : load .v ≡ amount (pos 0)
+  pub x : load .x ≡ amount (pos 0)
+  pub h : load .h ≡ amount (pos H)
+  pub twist : load .twist ≡ amount (pos (H * y))
+
+-- an earth pressure: H toward +x at y; V = 0
+pub record EarthForces (fill : ℕ → ℕ → Coefficient) (numbers : Numbers) (load : Load) : Type 0 where
+  pub H : ℕ
+  pub y : ℕ
+  pub pressed : Pressed fill numbers (push H y)
+  pub exerts : EarthLoad H y load
+
+-- a row that is no load row exerts nothing; no job has one among its load rows
+abbrev pub NoForces : Load → Type 0
+NoForces load = EarthLoad 0 0 load
+
+unfoldable pub Forces : (ℕ → ℕ → Coefficient) → Source → Numbers → Load → Type 0
+Forces fill Absent numbers load = NoForces load
+Forces fill Earth numbers load = EarthForces fill numbers load
+Forces fill Written numbers load = OwnForces numbers load
+
+pub record Exerts (fill : ℕ → ℕ → Coefficient) (row : Row) (load : Load) : Type 0 where
+  pub class : load .class ≡ class-of (row .kind)
+  pub phase : load .phase ≡ phase (row .kind) (row .numbers)
+  pub forces : Forces fill (source (row .kind)) (row .numbers) load

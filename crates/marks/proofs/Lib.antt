@@ -1,2 +1,0 @@
--- The laws of marks. Other crates' proofs cite them.
-pub mod Weights

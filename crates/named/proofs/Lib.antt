@@ -1,5 +1,0 @@
--- The laws of what a line names, and of the search for it. Other crates' proofs cite them.
-pub mod Unique
-pub mod Weights
-pub mod Weighing
-mod Factors

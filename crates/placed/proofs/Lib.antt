@@ -1,4 +1,0 @@
--- Laws of the job at a place. Other crates' proofs cite them.
-pub mod Finding
-mod Placing
-pub mod Answers

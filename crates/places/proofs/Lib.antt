@@ -1,2 +1,0 @@
--- The fields passed on the way through a row.
-mod Notes

@@ -1,2 +1,0 @@
--- Laws of placing. Other crates' proofs cite them.
-pub mod Placing

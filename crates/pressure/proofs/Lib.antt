@@ -1,2 +1,0 @@
--- The laws of PR. Other crates' proofs cite them.
-pub mod Pressing

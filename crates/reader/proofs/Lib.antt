@@ -1,2 +1,0 @@
--- The notes of a book by those of its text.
-mod Noted

@@ -1,0 +1,33 @@
+-- A book's refusals have the numbers 1 to 6, each its own.
+use Prim.Native.Nat.{ℕ, _≤_}
+use mathlib.Core.Path.{_≡_, refl, sym, ap, _∙_}
+use mathlib.Core.List.{[], _∷_}
+use lib.Dec.{lit≤}
+use lib.ListN.{getD}
+use Rattle.rows.specs.refusals.Numbers.{refusal-number}
+use Rattle.rows.specs.declared.refusals.Refusal.{Refusal}
+use Rattle.rows.specs.declared.refusals.Refusal.the-variants.{TooLong, NotCsv, NoForm, NoPlace, TooMany, UsedKey}
+
+pub number-low : (why : Refusal) → refusal-number why ≤ 6
+number-low TooLong = lit≤ tt
+number-low NotCsv = lit≤ tt
+number-low NoForm = lit≤ tt
+number-low NoPlace = lit≤ tt
+number-low TooMany = lit≤ tt
+number-low UsedKey = lit≤ tt
+
+-- the refusal of a number
+numbered : ℕ → Refusal
+numbered n = getD (TooLong ∷ TooLong ∷ NotCsv ∷ NoForm ∷ NoPlace ∷ TooMany ∷ []) n UsedKey
+
+own-number : (why : Refusal) → numbered (refusal-number why) ≡ why
+unfolding numbered
+own-number TooLong = refl
+own-number NotCsv = refl
+own-number NoForm = refl
+own-number NoPlace = refl
+own-number TooMany = refl
+own-number UsedKey = refl
+
+pub number-one : (a b : Refusal) → refusal-number a ≡ refusal-number b → a ≡ b
+number-one a b e = sym (own-number a) ∙ ap numbered e ∙ own-number b

@@ -1,0 +1,56 @@
+-- The search for the least cube: its bracket, kept by both halves of a turn, and what it says once it has closed.
+use mathlib.Core.Path.{sym, subst}
+use Prim.Native.Nat.{ℕ, _+_, _*_, _^_, _≤_, _<_, zero-le}
+use native.Mathlib.Nat.{le-refl, le-trans, lt-of-not-le, not-le-of-lt, mul-le-mul, mul-le-mul-right, pow-le-pow-left}
+use native.Mathlib.Numerals.{add-one-le}
+use native.Mathlib.Decide.{decLe}
+use native.Mathlib.Omega.{arith}
+use Rattle.arithmetic.proofs.rounding.Powers.{cube}
+use Rattle.arithmetic.specs.rounding.Least.{Least, RoundedUp}
+
+-- high reaches t, and whatever reaches t is low or more
+pub record Bracket (t low high : ℕ) : Type 0 where
+  pub order : low ≤ high
+  pub top : high ≤ 41000
+  pub reaches : t ≤ high ^ 3
+  pub least : (d : ℕ) → t ≤ d ^ 3 → low ≤ d
+
+pub started : {t : ℕ} → t ≤ 41000 ^ 3 → Bracket t 0 41000
+started h = record { order = zero-le; top = le-refl 41000; reaches = h; least = λ d p. zero-le }
+
+pub raised : {t low high : ℕ} (middle : ℕ) → Bracket t low high → middle < high → middle * middle * middle < t → Bracket t (middle + 1) high
+raised {t} middle b l h = record {
+  order = add-one-le l;
+  top = b .top;
+  reaches = b .reaches;
+  least = λ d p. either d p (decLe d middle);
+}
+  where
+    either : (d : ℕ) → t ≤ d ^ 3 → Dec (d ≤ middle) → middle + 1 ≤ d
+    either d p (yes k) = absurd (not-le-of-lt (subst (λ (x : ℕ). x < t) (sym (cube middle)) h) (le-trans p (pow-le-pow-left k 3)))
+    either d p (no k) = add-one-le (lt-of-not-le k)
+
+pub lowered : {t low high : ℕ} (middle : ℕ) → Bracket t low high → low ≤ middle → middle < high → t ≤ middle * middle * middle → Bracket t low middle
+lowered {t} middle b k l h = record {
+  order = k;
+  top = omega (arith, b .top);
+  reaches = subst (λ (x : ℕ). t ≤ x) (sym (cube middle)) h;
+  least = b .least;
+}
+
+pub closed : {t low high : ℕ} → Bracket t low high → high ≤ low → Least (λ d. t ≤ d ^ 3) high
+closed b l = record { holds = b .reaches; least = λ d p. le-trans l (b .least d p) }
+
+-- the cube of a number that the search tries fits a word
+pub square-small : {d : ℕ} → d ≤ 41000 → d * d ≤ 41000 * 41000
+square-small h = mul-le-mul h h
+
+pub cube-small : {d : ℕ} → d ≤ 41000 → d * d * d ≤ 41000 * 41000 * 41000
+cube-small h = mul-le-mul (square-small h) h
+
+-- the least cube at or above a / b rounded up is the least cube whose multiple by b reaches a
+pub scaled : (a b t r : ℕ) → RoundedUp a b t → Least (λ d. t ≤ d ^ 3) r → Least (λ d. a ≤ d ^ 3 * b) r
+scaled a b t r u l = record {
+  holds = le-trans (u .holds) (mul-le-mul-right b (l .holds));
+  least = λ d p. l .least d (u .least (d ^ 3) p);
+}

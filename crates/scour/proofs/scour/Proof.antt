@@ -1,0 +1,44 @@
+-- `scour::of_row::scour` meets its contract: the ranges are what `scour::scour_of` asks.
+use native.Mathlib.Omega.{arith}
+use borrow.Author.Needs.{needs}
+use Rattle.arithmetic.specs.decides.Decides.{decided, refuted}
+use Rattle.kinds.specs.ranges.Range.{Ranged}
+use Rattle.kinds.specs.declared.Kind.the-variants.{S}
+use Rattle.scour.specs.River.{out-of-range, in-range}
+use Rattle.scour.proofs.scour.Statement.{statement}
+use Rattle.scour.proofs.scour.Tie as tie
+
+ranged : (c : tie.Then1) → Ranged S (c .before .before .args .row)
+ranged c = decided (c .before .is-ranged .result) (c .if1 .taken) (c .before .is-ranged .ensures)
+
+is-ranged-requires : tie.Need-is-ranged-requires
+is-ranged-requires c κs = search needs
+
+cast-scour-of : tie.Need-cast-scour-of
+cast-scour-of c = search needs
+
+cast-scour-of-2 : tie.Need-cast-scour-of-2
+cast-scour-of-2 c = search needs
+
+cast-scour-of-3 : tie.Need-cast-scour-of-3
+cast-scour-of-3 c = search needs
+
+cast-scour-of-4 : tie.Need-cast-scour-of-4
+cast-scour-of-4 c = search needs
+
+cast-scour-of-5 : tie.Need-cast-scour-of-5
+cast-scour-of-5 c = let to = ranged (c .before .before .before .before .before) .n5 .to in record { fits = omega arith }
+
+scour-of-requires : tie.Need-scour-of-requires
+scour-of-requires c κs =
+    let r = ranged (c .before .before .before .before .before) in
+    (r .n1 .to, r .n3 .from, r .n3 .to, r .n4 .from, r .n4 .to, r .n5 .from, r .n5 .to)
+
+returns : tie.Need-returns
+returns c = in-range (ranged (c .before .before .before .before .before .before)) (c .scour-of .ensures)
+
+returns-2 : tie.Need-returns-2
+returns-2 c = out-of-range (refuted (c .before .is-ranged .result) (c .if1 .left) (c .before .is-ranged .ensures))
+
+pub scour-spec : {M : Type 1} → statement M
+scour-spec = tie.close (tie.spec is-ranged-requires cast-scour-of cast-scour-of-2 cast-scour-of-3 cast-scour-of-4 cast-scour-of-5 scour-of-requires returns returns-2)

@@ -1,2 +1,0 @@
--- The laws of a table's rows. Other crates' proofs cite them.
-pub mod Rows

@@ -1,2 +1,0 @@
--- The laws of a visit. Other crates' proofs cite them.
-pub mod Visiting

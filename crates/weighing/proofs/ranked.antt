@@ -1,0 +1,2 @@
+-- The laws of ranked sets. Other crates' proofs cite them.
+pub mod Weights

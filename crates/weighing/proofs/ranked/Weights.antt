@@ -1,0 +1,136 @@
+-- A rank and a set as one weight: which of two comes first, that the worse of a ranked set and of a set more is one, and how it is offered.
+use mathlib.Core.Path.{_≡_, refl, sym, ap₂, subst}
+use mathlib.Core.Logic.{_⊎_, inl, inr, ⊎-elim}
+use mathlib.Core.Bool.{_&&_, _||_}
+use Prim.Native.Nat.{ℕ, zero, suc, _+_, _*_, _≤_, _<_}
+use native.Mathlib.Omega.{arith}
+use native.Mathlib.Nat.{le-antisymm, le-refl, le-of-lt}
+use native.Mathlib.Decide.{decLe}
+use lib.Dec.{eqb, ltb}
+use lib.Count.{ones, ones-le}
+use Rattle.arithmetic.proofs.Cases.{by-cases}
+use Rattle.arithmetic.specs.decides.Decides.{Decides, decides-same, decides-both, decides-either, decides-below, decides-equal}
+use Rattle.checks.specs.declared.Figure.{Figure}
+use Rattle.checks.specs.Order.{Side}
+use Rattle.checks.specs.steps.Ranks.{Ranks}
+use Rattle.checks.proofs.Ranking.{ranks-one}
+use Rattle.weighing.specs.declared.ranked.RankedSet.{RankedSet}
+use Rattle.weighing.specs.steps.Ranked.{place, weight, weight-of, WorseOf, Offered}
+
+-- ---- the place of a set
+pub place-none : place 0 ≡ 17 * 65536
+unfolding place
+place-none = refl
+
+pub place-some : (s : ℕ) → 0 < s → place s ≡ ones s * 65536 + s
+unfolding place
+place-some zero h = absurd (omega arith)
+place-some (suc s) h = refl
+
+pub place-low : (s : ℕ) → s < 65536 → place s ≤ 17 * 65536
+unfolding place
+place-low zero h = le-refl _
+place-low (suc s) h = omega (arith, ones-le 16 (suc s) h)
+
+pub some-low : (s : ℕ) → 0 < s → s < 65536 → place s < 17 * 65536
+some-low s p h = omega (arith, place-some s p, ones-le 16 s h)
+
+-- ---- a rank that is less weighs less
+pub weight-rank : (m n s t : ℕ) → m < n → s < 65536 → t < 65536 → weight m s ≤ weight n t
+unfolding weight
+weight-rank m n s t h p q = omega (arith, place-low s p, place-low t q)
+
+pub weight-place : (m n s t : ℕ) → m ≡ n → place s ≤ place t → weight m s ≤ weight n t
+unfolding weight
+weight-place m n s t e h = omega arith
+
+-- The set s comes before t: t is none, or s has fewer rows, or as many and the smaller number.
+abbrev Before : ℕ → ℕ → Type 0
+Before s t = ((t ≡ 0) ⊎ (ones s < ones t)) ⊎ ((ones s ≡ ones t) × (s < t))
+
+module _ (s : ℕ) (p : 0 < s) (h : s < 65536) where
+  earlier : (t : ℕ) → t < 65536 → Before s t → place s < place t
+  earlier zero k w = omega (arith, place-none, some-low s p h)
+  earlier (suc t) k (inl (inl e)) = absurd (omega arith)
+  earlier (suc t) k (inl (inr e)) = omega (arith, place-some s p, place-some (suc t) (omega arith))
+  earlier (suc t) k (inr e) = omega (arith, place-some s p, place-some (suc t) (omega arith), e .0, e .1)
+
+  before : (t : ℕ) → t < 65536 → place s < place t → Before s t
+  before zero k l = inl (inl refl)
+  before (suc t) k l =
+      let here = place-some s p in
+      let there = place-some (suc t) (omega arith) in
+      by-cases (decLe (suc (ones s)) (ones (suc t))) (λ f. inl (inr f)) (λ f. inr (omega (arith, here, there), omega (arith, here, there)))
+
+  pub before-decides : (t : ℕ) → t < 65536 → Decides ((eqb t 0 || ltb (ones s) (ones t)) || (eqb (ones s) (ones t) && ltb s t)) (place s < place t)
+  before-decides t k =
+      let fewer = decides-either (t ≡ 0) (ones s < ones t) (eqb t 0) (ltb (ones s) (ones t)) (decides-equal t 0) (decides-below (ones s) (ones t)) in
+      let tied = decides-both (ones s ≡ ones t) (s < t) (eqb (ones s) (ones t)) (ltb s t) (decides-equal (ones s) (ones t)) (decides-below s t) in
+      decides-same ((eqb t 0 || ltb (ones s) (ones t)) || (eqb (ones s) (ones t) && ltb s t)) (earlier t k) (before t k)
+      (decides-either ((t ≡ 0) ⊎ (ones s < ones t)) ((ones s ≡ ones t) × (s < t)) (eqb t 0 || ltb (ones s) (ones t)) (eqb (ones s) (ones t) && ltb s t) fewer tied)
+
+-- The rank n with the set s comes before the rank m with the set t: by the place where the ranks are one, or by a lower rank.
+abbrev pub First : ℕ → ℕ → ℕ → ℕ → Type 0
+First n m s t = ((n ≡ m) × (place s < place t)) ⊎ (n < m)
+
+module _ (n m s t : ℕ) (p : s < 65536) (q : t < 65536) where
+  pub first-weighs : First n m s t → weight n s ≤ weight m t
+  first-weighs w = ⊎-elim (λ e. weight-place n m s t (e .0) (le-of-lt (e .1))) (λ h. weight-rank n m s t h p q) w
+
+  pub last-weighs : (First n m s t → ⊥) → weight m t ≤ weight n s
+  last-weighs f =
+      by-cases (decLe (suc m) n) (λ h. weight-rank m n t s h q p)
+      (λ h.
+      let over : n < m → ⊥ = λ k. f (inr k) in
+      let e : n ≡ m = omega (arith, over) in
+      let later : place s < place t → ⊥ = λ k. f (inl (e, k)) in
+      weight-place m n t s (sym e) (omega (arith, later)))
+
+-- ---- the worse of two
+pub worse-of-new : (b : RankedSet) (n s : ℕ) → weight n s ≤ weight-of b → WorseOf b n s (record { rank = n; set = s })
+unfolding weight-of
+worse-of-new b n s h = record { from = inr (refl, refl); kept = h; first = le-refl _ }
+
+pub worse-of-old : (b : RankedSet) (n s : ℕ) → weight-of b ≤ weight n s → WorseOf b n s b
+worse-of-old b n s h = record { from = inl refl; kept = le-refl _; first = h }
+
+-- a set whose figure is plainly no worse
+pub offered-old : (s : Side) (P : Figure → Type 0) (b : RankedSet) (set n : ℕ) → Ranks s P n → b .rank < n → b .set < 65536 → set < 65536 → Offered s P b set b
+unfolding weight-of
+offered-old s P b set n r h p q = record { rank = n; ranks = r; worse = worse-of-old b n set (weight-rank (b .rank) n (b .set) set h p q) }
+
+pub worse-of-low : {b r : RankedSet} {n s : ℕ} → b .set < 65536 → s < 65536 → WorseOf b n s r → r .set < 65536
+worse-of-low {b} {r} {n} {s} p q w =
+    ⊎-elim (λ e. subst (λ (m : RankedSet). m .set < 65536) (sym e) p) (λ e. subst (λ (k : ℕ). k < 65536) (sym (e .1)) q) (w .from)
+
+pub offered-low : {from : Side} {P : Figure → Type 0} {b r : RankedSet} {s : ℕ} → b .set < 65536 → s < 65536 → Offered from P b s r → r .set < 65536
+offered-low p q o = worse-of-low p q (o .worse)
+
+-- ---- a weight tells its rank and its set
+place-one : (s t : ℕ) → s < 65536 → t < 65536 → place s ≡ place t → s ≡ t
+place-one zero zero p q e = refl
+place-one zero (suc t) p q e = absurd (omega (arith, place-none, some-low (suc t) (omega arith) q, e))
+place-one (suc s) zero p q e = absurd (omega (arith, place-none, some-low (suc s) (omega arith) p, e))
+place-one (suc s) (suc t) p q e = omega (arith, place-some (suc s) (omega arith), place-some (suc t) (omega arith), p, q, e)
+
+weight-one : (a b : RankedSet) → a .set < 65536 → b .set < 65536 → weight-of a ≡ weight-of b → a ≡ b
+unfolding weight-of weight
+weight-one a b p q e = λ i. record { rank = ranks i; set = place-one (a .set) (b .set) p q (omega (arith, e, ranks)) i }
+  where
+    ranks : a .rank ≡ b .rank
+    ranks = omega (arith, e, place-low (a .set) p, place-low (b .set) q)
+
+module _ {b : RankedSet} {n s : ℕ} (p : b .set < 65536) (q : s < 65536) where
+  lightest : {r t : RankedSet} → WorseOf b n s r → WorseOf b n s t → weight-of r ≤ weight-of t
+  unfolding weight-of
+  lightest {r} {t} x y =
+      ⊎-elim (λ e. subst (λ (m : RankedSet). weight-of r ≤ weight-of m) (sym e) (x .kept)) (λ e. subst (λ (m : ℕ). weight-of r ≤ m) (sym (ap₂ weight (e .0) (e .1))) (x .first)) (y .from)
+
+  pub worse-of-one : {r t : RankedSet} → WorseOf b n s r → WorseOf b n s t → r ≡ t
+  worse-of-one {r} {t} x y = weight-one r t (worse-of-low p q x) (worse-of-low p q y) (le-antisymm (lightest x y) (lightest y x))
+
+-- The worse of a ranked set and of a set more is one where the set more has one figure.
+pub offered-one : {from : Side} {P : Figure → Type 0} {b : RankedSet} {s : ℕ} {r t : RankedSet} → ((v w : Figure) → P v → P w → v ≡ w) → b .set < 65536 → s < 65536
+    → Offered from P b s r → Offered from P b s t → r ≡ t
+offered-one {from} {P} {b} {s} {r} {t} one p q x y =
+    worse-of-one p q (subst (λ (n : ℕ). WorseOf b n s r) (ranks-one one (x .ranks) (y .ranks)) (x .worse)) (y .worse)

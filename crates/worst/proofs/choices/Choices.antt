@@ -1,0 +1,272 @@
+-- The choices of the free rows are the sets whose rows may stand in them: choice k makes the set `pick`, every such set is made by a choice, and the sums of the
+-- choice are those of the set.
+use mathlib.Core.Path.{_≡_, refl, sym, _∙_, ap, ap₂, subst}
+use Prim.Native.Nat.{ℕ, zero, suc, _+_, _*_, _-_, _/_, _%_, _^_, _≤_, _<_}
+use native.Mathlib.Omega.{arith}
+use native.Mathlib.Nat.{pow-suc, lt-of-lt-of-le, suc-mul, le-refl, add-zero, add-suc}
+use native.Mathlib.Numerals.{add-one}
+use lib.Pow.{shr-shr, split as parts-of}
+use native.Mathlib.Decide.{decLt}
+use lib.Dec.{lit<}
+use Rattle.arithmetic.proofs.Cases.{by-cases}
+use Rattle.sets.specs.declared.Loads.{Loads}
+use Rattle.sets.specs.declared.Sums.{Sums}
+use Rattle.sets.specs.Sets.{bit, row}
+use Rattle.sets.specs.steps.Sums.{no-sums, add, add-if, terms-of, sums-to, Room}
+use Rattle.sets.proofs.Bits.{bit-two, bit-above, bit-own, bit-kept}
+use Rattle.sets.proofs.Adding.{add-swap, add-if-in, add-if-out, room-more, room-if}
+use Rattle.worst.specs.declared.choices.Stance.{Stance}
+use Rattle.worst.specs.declared.choices.Stance.the-variants.{Never, Always, Either}
+use Rattle.worst.specs.steps.Stance.{held-by, next, free, join, pick, fixed-by, fixed, chosen, row-terms}
+
+-- ---- a set of n + 1 rows has its last row or has it not
+pub data Split (s n : ℕ) : Type 0 where
+  without : s < 2 ^ n → Split s n
+  with : (rest : ℕ) → rest < 2 ^ n → s ≡ rest + 2 ^ n → Split s n
+
+pub split : (s n : ℕ) → s < 2 ^ suc n → Split s n
+split s n h = by-cases (decLt s (2 ^ n)) without (λ k. with (s - 2 ^ n) (omega (arith, rw (pow-suc 2 n) at h)) (omega arith))
+
+-- ---- the free rows passed
+pub next-le : (a : Stance) (m : ℕ) → m ≤ next a m
+unfolding next
+next-le Never m = omega arith
+next-le Always m = omega arith
+next-le Either m = omega arith
+
+next-room : (a : Stance) (m : ℕ) → next a m ≤ suc m
+unfolding next
+next-room Never m = omega arith
+next-room Always m = omega arith
+next-room Either m = omega arith
+
+pub free-room : (stance : ℕ → Stance) (n : ℕ) → free stance n ≤ n
+unfolding free
+free-room stance zero = omega arith
+free-room stance (suc n) = omega (arith, next-room (stance n) (free stance n), free-room stance n)
+
+held-same : (a : Stance) (m : ℕ) {x y : ℕ} → (m < next a m → x ≡ y) → held-by a x ≡ held-by a y
+unfolding held-by next
+held-same Never m h = refl
+held-same Always m h = refl
+held-same Either m h = h (omega arith)
+
+module _ (stance : ℕ → Stance) where
+  -- ---- the set that a choice makes
+  join-low : (b s n : ℕ) → s < 2 ^ n → join b s (2 ^ n) < 2 ^ suc n
+  unfolding join
+  join-low zero s n h = rw (pow-suc 2 n) (omega arith)
+  join-low (suc b) s n h = rw (pow-suc 2 n) (omega arith)
+
+  pub pick-low : (n k : ℕ) → pick stance n k < 2 ^ n
+  unfolding pick
+  pick-low zero k = lit< tt
+  pick-low (suc n) k = join-low (held-by (stance n) (bit k (free stance n))) (pick stance n k) n (pick-low n k)
+
+  held-two : (a : Stance) (b : ℕ) → b < 2 → held-by a b < 2
+  unfolding held-by
+  held-two Never b h = omega arith
+  held-two Always b h = omega arith
+  held-two Either b h = h
+
+  join-own : (b s n : ℕ) → b < 2 → s < 2 ^ n → bit (join b s (2 ^ n)) n ≡ b
+  unfolding join
+  join-own zero s n k h = bit-above s n h
+  join-own (suc b) s n k h = bit-own s n h ∙ omega arith
+
+  join-kept : (b s n i : ℕ) → i < n → bit (join b s (2 ^ n)) i ≡ bit s i
+  unfolding join
+  join-kept zero s n i h = refl
+  join-kept (suc b) s n i h = bit-kept s i n h
+
+  -- its own bit, and the bits below it
+  pub pick-own : (n k : ℕ) → bit (pick stance (suc n) k) n ≡ held-by (stance n) (bit k (free stance n))
+  unfolding pick
+  pick-own n k =
+      join-own (held-by (stance n) (bit k (free stance n))) (pick stance n k) n (held-two (stance n) (bit k (free stance n)) (bit-two k (free stance n))) (pick-low n k)
+
+  pub pick-kept : (n k i : ℕ) → i < n → bit (pick stance (suc n) k) i ≡ bit (pick stance n k) i
+  unfolding pick
+  pick-kept n k i h = join-kept (held-by (stance n) (bit k (free stance n))) (pick stance n k) n i h
+
+  pub pick-bit : (n k i : ℕ) → i < n → bit (pick stance n k) i ≡ held-by (stance i) (bit k (free stance i))
+  pick-bit zero k i h = absurd (omega arith)
+  pick-bit (suc n) k i h =
+      by-cases (decLt i n) (λ l. pick-kept n k i l ∙ pick-bit n k i l)
+      (λ l.
+      let e : i ≡ n = omega arith in
+      subst (λ (j : ℕ). bit (pick stance (suc n) k) j ≡ held-by (stance j) (bit k (free stance j))) (sym e) (pick-own n k))
+
+  -- it goes by the bits of the choice for the free rows passed
+  pub pick-same : (n k l : ℕ) → ((j : ℕ) → j < free stance n → bit k j ≡ bit l j) → pick stance n k ≡ pick stance n l
+  unfolding pick free
+  pick-same zero k l h = refl
+  pick-same (suc n) k l h =
+      ap₂ (λ (b s : ℕ). join b s (2 ^ n)) (held-same (stance n) (free stance n) (λ j. h (free stance n) j))
+      (pick-same n k l (λ j m. h j (lt-of-lt-of-le m (next-le (stance n) (free stance n)))))
+
+  -- ---- every set whose rows stand as their stance says is made by a choice
+  unfoldable pub Stands : ℕ → ℕ → Type 0
+  Stands t n = (i : ℕ) → i < n → ((stance i ≡ Never → bit t i ≡ 0) × (stance i ≡ Always → bit t i ≡ 1))
+
+  unfoldable pub Made : ℕ → ℕ → Type 0
+  Made t n = (k : ℕ) × (k < 2 ^ free stance n) × (pick stance n k ≡ t)
+
+  made-out : (t n : ℕ) → t < 2 ^ n → Made t n → (a : Stance) → stance n ≡ a → (a ≡ Always → bit t n ≡ 1) → Made t (suc n)
+  unfolding Made pick free held-by next join
+  made-out t n h w Never e f = (w .0, rw e (w .1), rw e (w .2))
+  made-out t n h w Always e f = absurd (omega (arith, f refl, bit-above t n h))
+  made-out t n h w Either e f =
+      (w .0, rw (e, pow-suc 2 (free stance n)) (omega (arith, w .1)), rw (e, bit-above (w .0) (free stance n) (w .1)) (w .2))
+
+  made-in : (t r n : ℕ) → r < 2 ^ n → t ≡ r + 2 ^ n → Made r n → (a : Stance) → stance n ≡ a → (a ≡ Never → bit t n ≡ 0) → Made t (suc n)
+  unfolding Made pick free held-by next join
+  made-in t r n h d w Never e f = absurd (omega (arith, f refl, ap (λ (x : ℕ). bit x n) d, bit-own r n h))
+  made-in t r n h d w Always e f = (w .0, rw e (w .1), rw e (ap (λ (x : ℕ). x + 2 ^ n) (w .2) ∙ sym d))
+  made-in t r n h d w Either e f =
+      let k = w .0 + 2 ^ free stance n in (
+        k,
+        rw (e, pow-suc 2 (free stance n)) (omega (arith, w .1)),
+        rw (e, bit-own (w .0) (free stance n) (w .1)) (ap (λ (x : ℕ). x + 2 ^ n) (pick-same n k (w .0) (λ j m. bit-kept (w .0) j (free stance n) m) ∙ w .2) ∙ sym d),
+      )
+
+  pub made : (t n : ℕ) → t < 2 ^ n → Stands t n → Made t n
+  unfolding Made Stands free pick
+  made t zero h s = (0, lit< tt, zero-only t h)
+    where
+      zero-only : (t : ℕ) → t < 1 → 0 ≡ t
+      zero-only t h = omega arith
+  made t (suc n) h s = go (λ r k f. made r n k f) (split t n h)
+    where
+      go : ((r : ℕ) → r < 2 ^ n → Stands r n → Made r n) → Split t n → Made t (suc n)
+      go before (without k) = made-out t n k (before t k (λ i l. s i (omega arith))) (stance n) refl (λ e. s n (omega arith) .1 e)
+      go before (with r k d) =
+          made-in t r n k d
+          (before r k (λ i l. (λ e. lower i l ∙ s i (omega arith) .0 e, λ e. lower i l ∙ s i (omega arith) .1 e))) (stance n) refl (λ e. s n (omega arith) .0 e)
+        where
+          lower : (i : ℕ) → i < n → bit r i ≡ bit t i
+          lower i l = sym (ap (λ (x : ℕ). bit x i) d ∙ bit-kept r i n l)
+
+-- ---- sums of a choice
+pub sums-same : (width : ℕ) (loads : Loads) (s t n : ℕ) → ((i : ℕ) → i < n → bit s i ≡ bit t i) → sums-to width loads s n ≡ sums-to width loads t n
+unfolding sums-to
+sums-same width loads s t zero h = refl
+sums-same width loads s t (suc n) h =
+    ap₂ (λ (b : ℕ) (x : Sums). add-if b x (terms-of width (row loads n) (2 ^ n))) (h n (omega arith)) (sums-same width loads s t n (λ i l. h i (omega arith)))
+
+-- the sums of a set have its number
+pub sums-number : (width : ℕ) (loads : Loads) (s n : ℕ) → s < 2 ^ n → (sums-to width loads s n) .set ≡ s
+unfolding sums-to no-sums add terms-of
+sums-number width loads s zero h = zero-only s h
+  where
+    zero-only : (t : ℕ) → t < 1 → 0 ≡ t
+    zero-only t h = omega arith
+sums-number width loads s (suc n) h = go (λ r k. sums-number width loads r n k) (split s n h)
+  where
+    terms : Sums
+    terms = terms-of width (row loads n) (2 ^ n)
+
+    go : ((r : ℕ) → r < 2 ^ n → (sums-to width loads r n) .set ≡ r) → Split s n → (add-if (bit s n) (sums-to width loads s n) terms) .set ≡ s
+    go before (without k) = ap (λ (x : Sums). x .set) (add-if-out (sums-to width loads s n) terms (bit-above s n k)) ∙ before s k
+    go before (with r k d) =
+        ap (λ (x : Sums). x .set) (add-if-in (sums-to width loads s n) terms (ap (λ (x : ℕ). bit x n) d ∙ bit-own r n k))
+        ∙ own (ap (λ (x : Sums). x .set) (sums-same width loads s r n (λ i l. ap (λ (x : ℕ). bit x i) d ∙ bit-kept r i n l)) ∙ before r k) ∙ sym d
+      where
+        own : {m : ℕ} → (sums-to width loads s n) .set ≡ m → (add (sums-to width loads s n) terms) .set ≡ m + 2 ^ n
+        own e = ap (λ (x : ℕ). x + 2 ^ n) e
+
+-- a row added first or last
+chosen-shift : (first t : Sums) (table : ℕ → Sums) (k m : ℕ) → chosen (add first t) table k m ≡ add (chosen first table k m) t
+unfolding chosen add-if
+chosen-shift first t table k zero = refl
+chosen-shift first t table k (suc m) =
+    ap (λ (x : Sums). add-if (bit k m) x (table m)) (chosen-shift first t table k m) ∙ swap (bit k m) (chosen first table k m) (table m)
+  where
+    swap : (b : ℕ) (x y : Sums) → add-if b (add x t) y ≡ add (add-if b x y) t
+    swap zero x y = refl
+    swap (suc b) x y = add-swap x t y
+
+module _ (stance : ℕ → Stance) (width : ℕ) (loads : Loads) (table : ℕ → Sums) where
+  -- the table holds the terms of the free rows, in order
+  unfoldable pub Tabled : ℕ → Type 0
+  Tabled n = (i : ℕ) → i < n → stance i ≡ Either → table (free stance i) ≡ row-terms width loads i
+
+  step : (n k : ℕ) (a : Stance) → stance n ≡ a → (a ≡ Either → table (free stance n) ≡ row-terms width loads n)
+      → sums-to width loads (pick stance n k) n ≡ chosen (fixed stance (row-terms width loads) n) table k (free stance n)
+      → sums-to width loads (pick stance (suc n) k) (suc n) ≡ chosen (fixed stance (row-terms width loads) (suc n)) table k (free stance (suc n))
+  unfolding sums-to fixed free chosen next add-if held-by fixed-by row-terms
+  step n k a e own before =
+      ap₂ (λ (b : ℕ) (x : Sums). add-if b x (terms-of width (row loads n) (2 ^ n))) (pick-own stance n k ∙ ap (λ (y : Stance). held-by y (bit k (free stance n))) e)
+      (sums-same width loads (pick stance (suc n) k) (pick stance n k) n (pick-kept stance n k) ∙ before)
+      ∙ go a own
+      ∙ ap (λ (y : Stance). chosen (fixed-by y (fixed stance (row-terms width loads) n) (row-terms width loads n)) table k (next y (free stance n))) (sym e)
+    where
+      go : (a : Stance) → (a ≡ Either → table (free stance n) ≡ row-terms width loads n)
+          → add-if (held-by a (bit k (free stance n))) (chosen (fixed stance (row-terms width loads) n) table k (free stance n)) (terms-of width (row loads n) (2 ^ n))
+          ≡ chosen (fixed-by a (fixed stance (row-terms width loads) n) (row-terms width loads n)) table k (next a (free stance n))
+      go Never f = refl
+      go Always f = sym (chosen-shift (fixed stance (row-terms width loads) n) (row-terms width loads n) table k (free stance n))
+      go Either f = ap (λ (x : Sums). add-if (bit k (free stance n)) (chosen (fixed stance (row-terms width loads) n) table k (free stance n)) x) (sym (f refl))
+
+  pub pick-sums : (n k : ℕ) → Tabled n → sums-to width loads (pick stance n k) n ≡ chosen (fixed stance (row-terms width loads) n) table k (free stance n)
+  unfolding Tabled chosen sums-to free fixed
+  pick-sums zero k h = nothing
+    where
+      nothing : sums-to width loads (pick stance 0 k) 0 ≡ chosen (fixed stance (row-terms width loads) 0) table k (free stance 0)
+      nothing = refl
+  pick-sums (suc n) k h = step n k (stance n) refl (λ e. h n (omega arith) e) (pick-sums n k (λ i l. h i (omega arith)))
+
+-- ---- a choice, one row more
+pub chosen-none : (first : Sums) (table : ℕ → Sums) (k : ℕ) → first ≡ chosen first table k 0
+unfolding chosen
+chosen-none first table k = refl
+
+pub chosen-more : (first : Sums) (table : ℕ → Sums) (k m : ℕ) → chosen first table k (m + 1) ≡ add-if (bit k m) (chosen first table k m) (table m)
+unfolding chosen
+chosen-more first table k m = rw add-one
+
+pub chosen-room : (n : ℕ) (first : Sums) (table : ℕ → Sums) (k m : ℕ) → Room n first → ((j : ℕ) → j < m → Room 1 (table j)) → Room (n + m) (chosen first table k m)
+unfolding chosen
+chosen-room n first table k zero r h = room-more (omega arith) r
+chosen-room n first table k (suc m) r h =
+    room-more (omega arith) (room-if (bit k m) (chosen-room n first table k m r (λ j l. h j (omega arith))) (h m (omega arith)))
+
+-- ---- a choice in two parts: the rows from l on first, and then those before
+add-if-swap : (x y : ℕ) (a b c : Sums) → add-if x (add-if y a b) c ≡ add-if y (add-if x a c) b
+unfolding add-if
+add-if-swap zero zero a b c = refl
+add-if-swap zero (suc y) a b c = refl
+add-if-swap (suc x) zero a b c = refl
+add-if-swap (suc x) (suc y) a b c = add-swap a b c
+
+-- a row more before the others
+chosen-late : (held-by : ℕ) (first row : Sums) (table : ℕ → Sums) (k m : ℕ) → chosen (add-if held-by first row) table k m ≡ add-if held-by (chosen first table k m) row
+unfolding chosen
+chosen-late held-by first row table k zero = refl
+chosen-late held-by first row table k (suc m) =
+    ap (λ (s : Sums). add-if (bit k m) s (table m)) (chosen-late held-by first row table k m) ∙ add-if-swap (bit k m) held-by (chosen first table k m) row (table m)
+
+bits-low : (c h l j : ℕ) → j < l → bit (h * 2 ^ l + c) j ≡ bit c j
+bits-low c zero l j k = ap (λ (n : ℕ). bit n j) (omega arith)
+bits-low c (suc h) l j k =
+    let e : suc h * 2 ^ l + c ≡ (h * 2 ^ l + c) + 2 ^ l = omega (arith, suc-mul h (2 ^ l)) in
+    ap (λ (n : ℕ). bit n j) e ∙ bit-kept (h * 2 ^ l + c) j l k ∙ bits-low c h l j k
+
+chosen-low : (first : Sums) (table : ℕ → Sums) (k l m : ℕ) → m ≤ l → chosen first table (k % 2 ^ l) m ≡ chosen first table k m
+unfolding chosen
+chosen-low first table k l zero h = refl
+chosen-low first table k l (suc m) h =
+    let e : bit (k % 2 ^ l) m ≡ bit k m = sym (bits-low (k % 2 ^ l) (k / 2 ^ l) l m h) ∙ ap (λ (n : ℕ). bit n m) (parts-of k l) in
+    ap₂ (λ (x : ℕ) (s : Sums). add-if x s (table m)) e (chosen-low first table k l m (omega arith))
+
+bit-high : (k l j : ℕ) → bit (k / 2 ^ l) j ≡ bit k (l + j)
+unfolding bit
+bit-high k l j = ap (λ (n : ℕ). n % 2) (shr-shr k l j)
+
+pub chosen-parts : (first : Sums) (table : ℕ → Sums) (k l n : ℕ) → chosen (chosen first (λ j. table (l + j)) (k / 2 ^ l) n) table (k % 2 ^ l) l ≡ chosen first table k (l + n)
+unfolding chosen
+chosen-parts first table k l zero = chosen-low first table k l l (le-refl l) ∙ ap (chosen first table k) (sym (add-zero l))
+chosen-parts first table k l (suc n) =
+    chosen-late (bit (k / 2 ^ l) n) (chosen first (λ j. table (l + j)) (k / 2 ^ l) n) (table (l + n)) table (k % 2 ^ l) l
+    ∙ ap₂ (λ (x : ℕ) (s : Sums). add-if x s (table (l + n))) (bit-high k l n) (chosen-parts first table k l n)
+    ∙ ap (chosen first table k) (sym (add-suc l n))

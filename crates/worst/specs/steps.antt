@@ -1,0 +1,4 @@
+pub mod Stance
+pub mod Table
+pub mod Filling
+pub mod Search
