@@ -18,7 +18,7 @@ use Rattle.loads.specs.Taken.{row-count, LoadsTold, refused, given, loads-told,
 use Rattle.loads.specs.declared.LoadsAnswer as answering
 use Rattle.loads.specs.declared.LoadsAnswer.the-variants as taking
 use Rattle.loads.specs.declared.LoadsRead.{LoadsRead}
-use Rattle.answer.specs.river.River.{LargeCatchment, TooIntense, OverObstructed, RiverRanged, Passed, DepthIs, ClearIs, RiverSays, large, intense, obstructed, shown}
+use Rattle.answer.specs.river.River.{LargeCatchment, TooIntense, OverObstructed, RiverRanged, ScourAllowed, DepthIs, ClearIs, RiverSays, large, intense, obstructed, shown}
 use Rattle.answer.specs.river.River as says
 use Rattle.answer.specs.declared.river.RiverRead.{RiverRead}
 use Rattle.answer.specs.declared.river.RiverRead.the-variants as river
@@ -85,7 +85,7 @@ module _ (fill : ℕ → ℕ → Coefficient) (job : Job) where
     refuses-13 : (LargeCatchment job → ⊥) → TooIntense job → Refuses fill job 13
     refuses-13 l h = record { holds = rules.too-intense h; least = least 13 (λ _. a) (λ _. l) (late (lit≤ tt)) (late (lit≤ tt)) (late (lit≤ tt)) (late (lit≤ tt)) }
 
-    module _ (p : Passed job) where
+    module _ (p : ScourAllowed job) where
       refuses-14 : OverObstructed job → Refuses fill job 14
       refuses-14 h = record { holds = rules.over-obstructed h; least = least 14 (λ _. a) (λ _. p .catchment) (λ _. p .intensity) (late (lit≤ tt)) (late (lit≤ tt)) (late (lit≤ tt)) }
 
@@ -111,7 +111,7 @@ module _ (fill : ℕ → ℕ → Coefficient) (job : Job) where
     river-first (intense r k i) = refuses-13 (all-ranged r) k i
     river-first (obstructed r q o) = refuses-14 (all-ranged r) q o
 
-    first : (x : RiverRead) (n : ℕ) → RiverSays job x → (AllInRange job → Passed job → (OverObstructed job → ⊥) → Refuses fill job n) → Refuses fill job (earlier x n)
+    first : (x : RiverRead) (n : ℕ) → RiverSays job x → (AllInRange job → ScourAllowed job → (OverObstructed job → ⊥) → Refuses fill job n) → Refuses fill job (earlier x n)
     first (river.Refused m) n s f = river-first s
     first (river.Shown d c) n (shown r q o x y) f = f (all-ranged r) q o
 

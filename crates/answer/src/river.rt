@@ -1,8 +1,8 @@
 // The river rows of a job (document 01, Refusals of a job and The printed answer): refusals 11 to 14 of its S and C rows, in their
 // order, and the lines SC and CL.
 //
-// Each row gives its own refusal or its line, and of two refusals the lower is told. What is hard is what must not be left out: on rock
-// no depth is needed, and still 12 and 13 apply; a C row stands only behind an S row, whose Q it takes.
+// Each row gives its own refusal or its line, and of two refusals the lower is told. On rock no depth is needed, and still 12 and 13 apply;
+// a C row stands only behind an S row, whose Q it takes.
 use clearance::ClearanceAnswer;
 use jobs::Job;
 use lines::RiverLine;

@@ -132,8 +132,8 @@ beyond (a ∷ os) (c ∷ cs) bs ds x y e h =
     let q = w .are in
     record { mid = w .mid; are = cc }
 
-begun : {css : List (List Cell)} {rs : List BookRow} {js : Jobs} → Begins css rs js → Begun css
-begun {rs = rs} {js = js} b = record { typed = rs; jobs = js; begins = b }
+begun-by : {css : List (List Cell)} {rs : List BookRow} {js : Jobs} → Begins css rs js → Begun css
+begun-by {rs = rs} {js = js} b = record { typed = rs; jobs = js; begins = b }
 
 -- a bad row, and rows that go on beyond it, with which a job book begins
 not-beyond : {why : Fault} {rows css : List (List Cell)} {n : ℕ} (f : FirstBad why rows n) → Beyond (f .before) (f .row) css → Begun css → ⊥
@@ -141,17 +141,17 @@ not-beyond {why} f w b =
     let v = subst Begun (w .are ∙ sym (append-snoc (f .before) (f .row) (w .mid))) b in
     stops (f .begins) (f .row) why (f .bad) (shorter (f .before ++ f .row ∷ []) (w .mid) v)
 
-whole : {why : Fault} {rows : List (List Cell)} {n : ℕ} (f : FirstBad why rows n) → Begun rows → ⊥
-whole f b = not-beyond f (record { mid = f .behind; are = f .split }) b
+none-begun : {why : Fault} {rows : List (List Cell)} {n : ℕ} (f : FirstBad why rows n) → Begun rows → ⊥
+none-begun f b = not-beyond f (record { mid = f .behind; are = f .split }) b
 
 first-one : {why na : Fault} {rows : List (List Cell)} {n m : ℕ} → FirstBad why rows n → FirstBad na rows m → (why ≡ na) × (n ≡ m)
 first-one {why} {na} f g =
     let both : f .before ++ f .row ∷ f .behind ≡ g .before ++ g .row ∷ g .behind = sym (f .split) ∙ g .split in
     by-cases (decLt (length (f .before)) (length (g .before)))
-    (λ a. absurd (not-beyond f (beyond (f .before) (g .before) (f .behind) (g .behind) (f .row) (g .row) both a) (begun (g .begins))))
+    (λ a. absurd (not-beyond f (beyond (f .before) (g .before) (f .behind) (g .behind) (f .row) (g .row) both a) (begun-by (g .begins))))
     (λ a.
     by-cases (decLt (length (g .before)) (length (f .before)))
-    (λ b. absurd (not-beyond g (beyond (g .before) (f .before) (g .behind) (f .behind) (g .row) (f .row) (sym both) b) (begun (f .begins))))
+    (λ b. absurd (not-beyond g (beyond (g .before) (f .before) (g .behind) (f .behind) (g .row) (f .row) (sym both) b) (begun-by (f .begins))))
     (λ b.
     let w = level (f .before) (g .before) (f .behind) (g .behind) (f .row) (g .row) both (omega arith) in
     let x = f .number in
@@ -172,12 +172,12 @@ rows-one (bad f p) (bad g q) =
     let a = w .0 in
     let b = w .1 in
     p ∙ (cc) ∙ sym q
-rows-one (bad f p) (lacking u q) = absurd (whole f (begun (u .begins)))
-rows-one (bad f p) (all b l q) = absurd (whole f (begun b))
-rows-one (lacking u p) (bad f q) = absurd (whole f (begun (u .begins)))
+rows-one (bad f p) (lacking u q) = absurd (none-begun f (begun-by (u .begins)))
+rows-one (bad f p) (all b l q) = absurd (none-begun f (begun-by b))
+rows-one (lacking u p) (bad f q) = absurd (none-begun f (begun-by (u .begins)))
 rows-one (lacking u p) (lacking v q) = p ∙ sym q
 rows-one (lacking u p) (all b l q) = absurd (u .missing (subst Loaded (begins-one b (u .begins)) l))
-rows-one (all b l p) (bad f q) = absurd (whole f (begun b))
+rows-one (all b l p) (bad f q) = absurd (none-begun f (begun-by b))
 rows-one (all b l p) (lacking u q) = absurd (u .missing (subst Loaded (begins-one b (u .begins)) l))
 rows-one (all b l p) (all c k q) = let e = begins-one b c in p ∙ (cc) ∙ sym q
 
@@ -234,20 +234,20 @@ pub reading-one : {s : List ℕ} {js ks : Jobs} (b : JobBook s js) (c : JobBook 
 reading-one b c = b .parts ∙ ap rows-of (book-one b c) ∙ sym (c .parts)
 
 -- a book is accepted with these jobs exactly if they are those of the job book that the bytes are
-pub record Accepted (s : List ℕ) (n : ℕ) (vs : List Job) : Type 0 where
+pub record AcceptedBook (s : List ℕ) (n : ℕ) (vs : List Job) : Type 0 where
   pub jobs : Jobs
   pub book : JobBook s jobs
   pub many : n ≡ count jobs
   pub are : vs ≡ values jobs
 
-accepted : {s : List ℕ} {t : BookTold} {n : ℕ} {vs : List Job} → BookSays s t → t ≡ given n vs → Accepted s n vs
+accepted : {s : List ℕ} {t : BookTold} {n : ℕ} {vs : List Job} → BookSays s t → t ≡ given n vs → AcceptedBook s n vs
 accepted (too-long h p) e = impossible cc
 accepted (not-csv h m p) e = impossible cc
 accepted (bad-row h q f p) e = impossible cc
 accepted (unfinished h q u p) e = impossible cc
 accepted (book {js} b p) e = record { jobs = js; book = b; many = cc; are = cc }
 
-pub read-exactly : {s : List ℕ} {n : ℕ} {vs : List Job} → (BookSays s (given n vs) → Accepted s n vs) × (Accepted s n vs → BookSays s (given n vs))
+pub read-exactly : {s : List ℕ} {n : ℕ} {vs : List Job} → (BookSays s (given n vs) → AcceptedBook s n vs) × (AcceptedBook s n vs → BookSays s (given n vs))
 read-exactly = (λ p. accepted p refl, λ a. let m = a .many in let e = a .are in book (a .book) (cc))
 
 -- and refused exactly if it is none

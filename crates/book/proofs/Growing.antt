@@ -20,18 +20,18 @@ use Rattle.jobs.specs.declared.stages.Stage.the-variants.{Unbegun}
 use Rattle.book.specs.JobBook.{River, dry, scoured, crossed, job, Jobs, none, _and_, Loaded}
 use Rattle.book.specs.Values.{stage-of, scour-of, clearance-of, load-rows}
 use Rattle.book.specs.walk.Kept.{last-value}
-use Rattle.book.proofs.Steps.{Step, starts, scours, crosses, bears}
+use Rattle.book.proofs.Steps.{GrowsBy, starts, scours, crosses, bears}
 
 -- the jobs with one row more, of which the last has the value that the row's taking gives
 pub record Grown (js : Jobs) (r : BookRow) (next : Job) : Type 0 where
   pub jobs : Jobs
-  pub step : Step js r jobs
+  pub step : GrowsBy js r jobs
   pub is : last-value jobs ≡ next
 
-begun : (v : River) → stage-of v ≡ Unbegun → ⊥
-begun dry e = impossible cc
-begun (scoured s) e = impossible cc
-begun (crossed s c) e = impossible cc
+never-unbegun : (v : River) → stage-of v ≡ Unbegun → ⊥
+never-unbegun dry e = impossible cc
+never-unbegun (scoured s) e = impossible cc
+never-unbegun (crossed s c) e = impossible cc
 
 load-rows-more : (ls : List BookRow) (r : BookRow) → load-rows (ls ++ r ∷ []) ≡ load-rows ls ++ r .keyed .row ∷ []
 load-rows-more [] r = refl
@@ -50,29 +50,29 @@ added ls r h =
     sym
     (rw (n, m, set-at (load-rows ls) (no-row .row) (replicate (16 - (length ls + 1)) (no-row .row)) (r .keyed .row) (length ls) (load-rows-many ls), load-rows-more, append-snoc))
 
-abbrev Taken : Role → Jobs → BookRow → Type 0
-Taken x js r = role (r .keyed .row .kind) ≡ x → Fits x (last-value js .stage) (last-value js .count) (last-value js .key ≡ r .keyed .key) → Grown js r (with-row x (last-value js) (r .keyed))
+abbrev TakenAs : Role → Jobs → BookRow → Type 0
+TakenAs x js r = role (r .keyed .row .kind) ≡ x → Fits x (last-value js .stage) (last-value js .count) (last-value js .key ≡ r .keyed .key) → Grown js r (with-row x (last-value js) (r .keyed))
 
-takes-base : (js : Jobs) (r : BookRow) → Taken Base js r
+takes-base : (js : Jobs) (r : BookRow) → TakenAs Base js r
 takes-base none r e w = record { jobs = none and job r dry []; step = starts tt e; is = refl }
-takes-base (js and job b v ls) r e (inl h) = absurd (begun v h)
+takes-base (js and job b v ls) r e (inl h) = absurd (never-unbegun v h)
 takes-base (js and job b v ls) r e (inr h) = record { jobs = js and job b v ls and job r dry []; step = starts h e; is = refl }
 
-takes-scour : (js : Jobs) (r : BookRow) → Taken Scour js r
+takes-scour : (js : Jobs) (r : BookRow) → TakenAs Scour js r
 takes-scour none r e w = let h = w .0 in impossible cc
 takes-scour (js and job b dry []) r e w = record { jobs = js and job b (scoured r) []; step = scours e (record { same = w .2 }); is = refl }
 takes-scour (js and job b dry (x ∷ ls)) r e w = absurd (let h = w .1 in omega arith)
 takes-scour (js and job b (scoured s) ls) r e w = let h = w .0 in impossible cc
 takes-scour (js and job b (crossed s c) ls) r e w = let h = w .0 in impossible cc
 
-takes-clearance : (js : Jobs) (r : BookRow) → Taken Clearance js r
+takes-clearance : (js : Jobs) (r : BookRow) → TakenAs Clearance js r
 takes-clearance none r e w = let h = w .0 in impossible cc
 takes-clearance (js and job b dry ls) r e w = let h = w .0 in impossible cc
 takes-clearance (js and job b (scoured s) []) r e w = record { jobs = js and job b (crossed s r) []; step = crosses e (record { same = w .2 }); is = refl }
 takes-clearance (js and job b (scoured s) (x ∷ ls)) r e w = absurd (let h = w .1 in omega arith)
 takes-clearance (js and job b (crossed s c) ls) r e w = let h = w .0 in impossible cc
 
-takes-load : (js : Jobs) (r : BookRow) → Taken Load js r
+takes-load : (js : Jobs) (r : BookRow) → TakenAs Load js r
 takes-load none r e w = absurd (w .0 refl)
 takes-load (js and job b v ls) r e w =
     let n = length-append ls (r ∷ []) in
@@ -91,7 +91,7 @@ takes-load (js and job b v ls) r e w =
       };
     }
 
-takes : (x : Role) (js : Jobs) (r : BookRow) → Taken x js r
+takes : (x : Role) (js : Jobs) (r : BookRow) → TakenAs x js r
 takes Base = takes-base
 takes Scour = takes-scour
 takes Clearance = takes-clearance
@@ -109,8 +109,8 @@ in-role : (js : Jobs) (r : BookRow) (x : Role) → role (r .keyed .row .kind) �
 in-role js r x e w = subst (λ (y : Role). Fits y (last-value js .stage) (last-value js .count) (last-value js .key ≡ r .keyed .key)) (sym e) w
 
 -- and the other way round
-pub step-place : {js ks : Jobs} {r : BookRow} → Step js r ks → InPlace (last-value js) (r .keyed)
+pub step-place : {js ks : Jobs} {r : BookRow} → GrowsBy js r ks → InPlace (last-value js) (r .keyed)
 step-place (starts {js} {r} l k) = in-role js r Base k (ready js (last-value js .key ≡ r .keyed .key) l)
 step-place (scours {js} {b} {r} k e) = in-role (js and job b dry []) r Scour k (refl, refl, e .same)
 step-place (crosses {js} {b} {s} {r} k e) = in-role (js and job b (scoured s) []) r Clearance k (refl, refl, e .same)
-step-place (bears {js} {b} {r} {v} {ls} k e n) = in-role (js and job b v ls) r Load k (begun v, n, e .same)
+step-place (bears {js} {b} {r} {v} {ls} k e n) = in-role (js and job b v ls) r Load k (never-unbegun v, n, e .same)

@@ -18,7 +18,7 @@ use Rattle.rows.specs.keys.Among.{void-key, Among}
 use Rattle.book.specs.counted.Places.{in-places, places}
 use Rattle.book.specs.Values.{job-value, values}
 use Rattle.book.specs.walk.Kept.{last-value, keys-of, key-places}
-use Rattle.book.proofs.Steps.{Step, starts, scours, crosses, bears, rebased}
+use Rattle.book.proofs.Steps.{GrowsBy, starts, scours, crosses, bears, rebased}
 
 -- a value in the first unused place, and a value in place of the last
 module _ {A : Type 0} (blank : A) (l : List A) (h : length l < 64) where
@@ -98,7 +98,7 @@ pub record Standing (js : Jobs) (n : ℕ) (ks : List Key) (vs : List Job) (last 
   pub job : last ≡ last-value js
 
 -- a row that starts a job
-pub base-jobs : {js ks : Jobs} {r : BookRow} → IsA Base r → Step js r ks → ks ≡ js and job r dry []
+pub base-jobs : {js ks : Jobs} {r : BookRow} → IsA Base r → GrowsBy js r ks → ks ≡ js and job r dry []
 base-jobs k (starts l h) = refl
 base-jobs k (scours h e) = impossible cc
 base-jobs k (crosses h e) = impossible cc
@@ -120,7 +120,7 @@ standing-starts {js} {n} {ks} {vs} {last} {next} r k w h e q =
     }
 
 -- a row that joins the last job: the jobs before it stay, and so do the keys
-pub record Joined (js ks : Jobs) : Type 0 where
+pub record JoinsLast (js ks : Jobs) : Type 0 where
   pub front : List Job
   pub was : values js ≡ front ++ last-value js ∷ []
   pub now : values ks ≡ front ++ last-value ks ∷ []
@@ -129,13 +129,13 @@ pub record Joined (js ks : Jobs) : Type 0 where
   pub keys : keys-of ks ≡ keys-of js
   pub different : Different js → Different ks
 
-pub joins : {js ks : Jobs} {r : BookRow} → (IsA Base r → ⊥) → Step js r ks → Joined js ks
+pub joins : {js ks : Jobs} {r : BookRow} → (IsA Base r → ⊥) → GrowsBy js r ks → JoinsLast js ks
 joins n (starts l h) = absurd (n h)
 joins n (scours {js} {b} {r} h e) = record { front = values js; was = refl; now = refl; many = refl; some = omega arith; keys = refl; different = rebased }
 joins n (crosses {js} h e) = record { front = values js; was = refl; now = refl; many = refl; some = omega arith; keys = refl; different = rebased }
 joins n (bears {js} h e m) = record { front = values js; was = refl; now = refl; many = refl; some = omega arith; keys = refl; different = rebased }
 
-pub standing-joins : {js ks : Jobs} {n : ℕ} {keys : List Key} {vs : List Job} {last next : Job} → Standing js n keys vs last → n ≤ 64 → Joined js ks → last-value ks ≡ next
+pub standing-joins : {js ks : Jobs} {n : ℕ} {keys : List Key} {vs : List Job} {last next : Job} → Standing js n keys vs last → n ≤ 64 → JoinsLast js ks → last-value ks ≡ next
     → Standing ks n keys (set vs (n - 1) next) next
 standing-joins {js} {ks} {n} {keys} {vs} {last} {next} w h j q =
     let m = w .many in

@@ -30,7 +30,7 @@ record Formed (rs : List BookRow) (n : ℕ) (cs : List Cell) : Type 0 where
   at : RowIn rs n row
   is : Form cs row
 
-record Written (css : List (List Cell)) (n : ℕ) : Type 0 where
+record CellsIn (css : List (List Cell)) (n : ℕ) : Type 0 where
   cells : List Cell
   at : RowIn css n cells
 
@@ -41,7 +41,7 @@ form-at (x ∷ before) cs behind (form {r = r} f fs) =
     let k = w .at .number in
     record { row = w .row; at = record { before = r ∷ w .at .before; behind = w .at .behind; are = ap (λ (l : List BookRow). r ∷ l) (w .at .are); number = omega arith }; is = w .is }
 
-cells-at : {css : List (List Cell)} (before : List BookRow) (r : BookRow) (behind : List BookRow) → Forms css (before ++ r ∷ behind) → Written css (length before + 1)
+cells-at : {css : List (List Cell)} (before : List BookRow) (r : BookRow) (behind : List BookRow) → Forms css (before ++ r ∷ behind) → CellsIn css (length before + 1)
 cells-at [] r behind (form {cs = cs} {css = css} f fs) = record { cells = cs; at = record { before = []; behind = css; are = refl; number = refl } }
 cells-at (x ∷ before) r behind (form {cs = cs} f fs) =
     let w = cells-at before r behind fs in

@@ -28,34 +28,34 @@ head-loads r rs (load {r = l} k s ls) e =
     sym (ap (λ (x : Keyed). role (x .row .kind)) (heads e)) ∙ k
 
 -- the same river, by its numbers
-record Alike (v w : River) (ls ms : List BookRow) : Type 0 where
+record SameRiver (v w : River) (ls ms : List BookRow) : Type 0 where
   stage : stage-of v ≡ stage-of w
   scour : scour-of v ≡ scour-of w
   clearance : clearance-of v ≡ clearance-of w
   rest : keyed-rows ls ≡ keyed-rows ms
 
-rivers-alike : {b c : BookRow} {v w : River} {ls ms : List BookRow} → Rivers b v → Rivers c w → LoadRows b ls → LoadRows c ms → keyed-rows (river-rows v ++ ls) ≡ keyed-rows (river-rows w ++ ms) → Alike v w ls ms
-rivers-alike is-dry is-dry l m e = record { stage = refl; scour = refl; clearance = refl; rest = e }
-rivers-alike {ms = ms} is-dry (is-scoured {s} k i) l m e = let z = head-loads s ms l e in impossible cc
-rivers-alike {ms = ms} is-dry (is-crossed {s} {c} k i n j) l m e = let z = head-loads s (c ∷ ms) l e in impossible cc
-rivers-alike {ls = ls} (is-scoured {s} k i) is-dry l m e = let z = head-loads s ls m (sym e) in impossible cc
-rivers-alike {ls = ls} {ms} (is-scoured {s} k i) (is-scoured {s = t} n j) l m e =
+same-river : {b c : BookRow} {v w : River} {ls ms : List BookRow} → Rivers b v → Rivers c w → LoadRows b ls → LoadRows c ms → keyed-rows (river-rows v ++ ls) ≡ keyed-rows (river-rows w ++ ms) → SameRiver v w ls ms
+same-river is-dry is-dry l m e = record { stage = refl; scour = refl; clearance = refl; rest = e }
+same-river {ms = ms} is-dry (is-scoured {s} k i) l m e = let z = head-loads s ms l e in impossible cc
+same-river {ms = ms} is-dry (is-crossed {s} {c} k i n j) l m e = let z = head-loads s (c ∷ ms) l e in impossible cc
+same-river {ls = ls} (is-scoured {s} k i) is-dry l m e = let z = head-loads s ls m (sym e) in impossible cc
+same-river {ls = ls} {ms} (is-scoured {s} k i) (is-scoured {s = t} n j) l m e =
     record { stage = refl; scour = ap (λ (x : Keyed). x .row .numbers) (heads e); clearance = refl; rest = tails e }
-rivers-alike {ls = ls} {ms} (is-scoured {s} k i) (is-crossed {s = t} {c} n j o p) l m e =
+same-river {ls = ls} {ms} (is-scoured {s} k i) (is-crossed {s = t} {c} n j o p) l m e =
     let z = head-loads c ms l (tails e) in
     impossible cc
-rivers-alike {ls = ls} (is-crossed {s} {c} k i n j) is-dry l m e = let z = head-loads s (c ∷ ls) m (sym e) in impossible cc
-rivers-alike {ls = ls} {ms} (is-crossed {s} {c} k i n j) (is-scoured {s = t} o p) l m e =
+same-river {ls = ls} (is-crossed {s} {c} k i n j) is-dry l m e = let z = head-loads s (c ∷ ls) m (sym e) in impossible cc
+same-river {ls = ls} {ms} (is-crossed {s} {c} k i n j) (is-scoured {s = t} o p) l m e =
     let z = head-loads c ls m (sym (tails e)) in
     impossible cc
-rivers-alike {ls = ls} {ms} (is-crossed {s} {c} k i n j) (is-crossed {s = t} {c = d} o p q u) l m e =
+same-river {ls = ls} {ms} (is-crossed {s} {c} k i n j) (is-crossed {s = t} {c = d} o p q u) l m e =
     let behind = tails e in
     record { stage = refl; scour = ap (λ (x : Keyed). x .row .numbers) (heads e); clearance = ap (λ (x : Keyed). x .row .numbers) (heads behind); rest = tails behind }
 
 pub same-value : {a b : WrittenJob} → GoodJob a → GoodJob b → SameJob a b → job-value a ≡ job-value b
 same-value (good {b} {v} {ls} p q r s) (good {b = c} {v = w} {ls = ms} t u x y) e =
     let h : b .keyed ≡ c .keyed = heads e in
-    let k = rivers-alike q u r x (tails e) in
+    let k = same-river q u r x (tails e) in
     let g = loads-same ls ms (k .rest) in
     λ i. record {
       stage = k .stage i;

@@ -1,4 +1,4 @@
--- The jobs grow by a row: `Step`. Rows that are placed are placed by one list of jobs, and taking the last row off leaves rows that are placed.
+-- The jobs grow by a row: `GrowsBy`. Rows that are placed are placed by one list of jobs, and taking the last row off leaves rows that are placed.
 use Prim.Native.Nat.{ℕ, zero, suc, _+_, _≤_, _<_}
 use native.Mathlib.Omega.{arith}
 use mathlib.Core.Path.{_≡_, refl, sym, ap, subst, _∙_}
@@ -9,14 +9,14 @@ use Rattle.rows.specs.Form.{BookRow}
 use Rattle.kinds.specs.declared.Role.the-variants.{Base, Scour, Clearance, Load}
 use Rattle.book.specs.JobBook.{IsA, SameKey, River, dry, scoured, crossed, job, river-rows, LoadRows, no-load, load, is-dry, is-scoured, is-crossed, good, Jobs, none, _and_, count, rows-of, Loaded, Shaped, one-more, Different, new-key, Placed}
 use Rattle.csv.proofs.Lists.{not-empty, lasts}
-use Rattle.book.proofs.Ends.{Ended, empty, ended, ends}
+use Rattle.book.proofs.Ends.{EmptyOrLast, empty, ended, ends}
 
 -- the jobs grow by a row
-pub data Step : Jobs → BookRow → Jobs → Type 0 where
-  starts : {js : Jobs} {r : BookRow} → Loaded js → IsA Base r → Step js r (js and job r dry [])
-  scours : {js : Jobs} {b r : BookRow} → IsA Scour r → SameKey b r → Step (js and job b dry []) r (js and job b (scoured r) [])
-  crosses : {js : Jobs} {b s r : BookRow} → IsA Clearance r → SameKey b r → Step (js and job b (scoured s) []) r (js and job b (crossed s r) [])
-  bears : {js : Jobs} {b r : BookRow} {v : River} {ls : List BookRow} → IsA Load r → SameKey b r → length ls < 16 → Step (js and job b v ls) r (js and job b v (ls ++ r ∷ []))
+pub data GrowsBy : Jobs → BookRow → Jobs → Type 0 where
+  starts : {js : Jobs} {r : BookRow} → Loaded js → IsA Base r → GrowsBy js r (js and job r dry [])
+  scours : {js : Jobs} {b r : BookRow} → IsA Scour r → SameKey b r → GrowsBy (js and job b dry []) r (js and job b (scoured r) [])
+  crosses : {js : Jobs} {b s r : BookRow} → IsA Clearance r → SameKey b r → GrowsBy (js and job b (scoured s) []) r (js and job b (crossed s r) [])
+  bears : {js : Jobs} {b r : BookRow} {v : River} {ls : List BookRow} → IsA Load r → SameKey b r → length ls < 16 → GrowsBy (js and job b v ls) r (js and job b v (ls ++ r ∷ []))
 
 loads-more : {b r : BookRow} {ls : List BookRow} → LoadRows b ls → IsA Load r → SameKey b r → LoadRows b (ls ++ r ∷ [])
 loads-more no-load k e = load k e no-load
@@ -35,7 +35,7 @@ grown js b v ls r = simp append-assoc
 extended : {ts l k : List BookRow} (r : BookRow) → ts ≡ l → l ++ r ∷ [] ≡ k → ts ++ r ∷ [] ≡ k
 extended r e f = ap (λ (t : List BookRow). t ++ r ∷ []) e ∙ f
 
-pub extend : {ts : List BookRow} {js ks : Jobs} {r : BookRow} → Placed ts js → Step js r ks → Placed (ts ++ r ∷ []) ks
+pub extend : {ts : List BookRow} {js ks : Jobs} {r : BookRow} → Placed ts js → GrowsBy js r ks → Placed (ts ++ r ∷ []) ks
 extend {r = r} p (starts {js} l k) = record { are = extended r (p .are) refl; shaped = one-more (p .shaped) l (good k is-dry no-load (omega arith)) }
 extend {r = r} p (scours {js} {b} k e) = record { are = extended r (p .are) (append-assoc (rows-of js) (b ∷ []) (r ∷ [])); shaped = scoured-on (p .shaped) k e }
   where
@@ -54,13 +54,13 @@ extend {r = r} p (bears {js} {b} {v = v} {ls} k e n) = record { are = extended r
 pub record Back (ts : List BookRow) (r : BookRow) (ks : Jobs) : Type 0 where
   pub jobs : Jobs
   pub placed : Placed ts jobs
-  pub step : Step jobs r ks
+  pub step : GrowsBy jobs r ks
 
 -- where the rows of jobs end with x, what is before it is ts
-back-to : {ts : List BookRow} {r x : BookRow} {ks : Jobs} (js : Jobs) → ts ++ r ∷ [] ≡ rows-of js ++ x ∷ [] → Shaped js → Step js x ks → Back ts r ks
+back-to : {ts : List BookRow} {r x : BookRow} {ks : Jobs} (js : Jobs) → ts ++ r ∷ [] ≡ rows-of js ++ x ∷ [] → Shaped js → GrowsBy js x ks → Back ts r ks
 back-to {ts} {r} {x} {ks} js e s p =
     let w = lasts ts (rows-of js) r x e in
-    record { jobs = js; placed = record { are = w .0; shaped = s }; step = subst (λ (y : BookRow). Step js y ks) (sym (w .1)) p }
+    record { jobs = js; placed = record { are = w .0; shaped = s }; step = subst (λ (y : BookRow). GrowsBy js y ks) (sym (w .1)) p }
 
 pub retract : {ts : List BookRow} {r : BookRow} (ks : Jobs) → Placed (ts ++ r ∷ []) ks → Back ts r ks
 retract {ts} {r} none p = absurd (not-empty ts r (p .are))
@@ -79,13 +79,13 @@ retract {ts} {r} (js and job b v ls) p = by-loads (ends ls) (p .are) (p .shaped)
         let n = length-append fs (x ∷ []) in
         back-to (js and job b v fs) (e ∙ sym (grown js b v fs x)) (one-more s l (good h w (m .0) (omega arith))) (bears (m .1) (m .2) (omega arith))
 
-    by-loads : {ls : List BookRow} → Ended ls → ts ++ r ∷ [] ≡ rows-of (js and job b v ls) → Shaped (js and job b v ls) → Back ts r (js and job b v ls)
+    by-loads : {ls : List BookRow} → EmptyOrLast ls → ts ++ r ∷ [] ≡ rows-of (js and job b v ls) → Shaped (js and job b v ls) → Back ts r (js and job b v ls)
     by-loads (empty q) e s =
         subst (λ (l : List BookRow). Back ts r (js and job b v l)) (sym q) (by-river v (subst (λ (l : List BookRow). ts ++ r ∷ [] ≡ rows-of (js and job b v l)) q e) (subst (λ (l : List BookRow). Shaped (js and job b v l)) q s))
     by-loads (ended w) e s =
         subst (λ (l : List BookRow). Back ts r (js and job b v l)) (sym (w .are)) (by-last (w .front) (w .end) (subst (λ (l : List BookRow). ts ++ r ∷ [] ≡ rows-of (js and job b v l)) (w .are) e) (subst (λ (l : List BookRow). Shaped (js and job b v l)) (w .are) s))
 
-pub step-one : {js ks ls : Jobs} {r : BookRow} → Step js r ks → Step js r ls → ks ≡ ls
+pub step-one : {js ks ls : Jobs} {r : BookRow} → GrowsBy js r ks → GrowsBy js r ls → ks ≡ ls
 step-one (starts l k) (starts m h) = refl
 step-one (starts l k) (scours h e) = impossible cc
 step-one (starts l k) (crosses h e) = impossible cc
@@ -112,12 +112,12 @@ no-jobs (js and job b v ls) p e =
 placed-same : (n : ℕ) {ts : List BookRow} {js ks : Jobs} → length ts ≤ n → Placed ts js → Placed ts ks → js ≡ ks
 placed-same zero {ts} {js} {ks} h p q = by-end (ends ts)
   where
-    by-end : Ended ts → js ≡ ks
+    by-end : EmptyOrLast ts → js ≡ ks
     by-end (empty e) = no-jobs js p e ∙ sym (no-jobs ks q e)
     by-end (ended w) = absurd (omega (arith, length-append (w .front) (w .end ∷ []), ap length (w .are)))
 placed-same (suc n) {ts} {js} {ks} h p q = by-end (λ us ls ms h p q. placed-same n h p q) (ends ts)
   where
-    by-end : ((us : List BookRow) (ls ms : Jobs) → length us ≤ n → Placed us ls → Placed us ms → ls ≡ ms) → Ended ts → js ≡ ks
+    by-end : ((us : List BookRow) (ls ms : Jobs) → length us ≤ n → Placed us ls → Placed us ms → ls ≡ ms) → EmptyOrLast ts → js ≡ ks
     by-end again (empty e) = no-jobs js p e ∙ sym (no-jobs ks q e)
     by-end again (ended w) =
         let a = retract js (subst (λ (l : List BookRow). Placed l js) (w .are) p) in
@@ -125,19 +125,19 @@ placed-same (suc n) {ts} {js} {ks} h p q = by-end (λ us ls ms h p q. placed-sam
         let m = length-append (w .front) (w .end ∷ []) in
         let k = ap length (w .are) in
         let e = again (w .front) (a .jobs) (b .jobs) (omega arith) (a .placed) (b .placed) in
-        step-one (subst (λ (l : Jobs). Step l (w .end) js) e (a .step)) (b .step)
+        step-one (subst (λ (l : Jobs). GrowsBy l (w .end) js) e (a .step)) (b .step)
 
 pub placed-one : {ts : List BookRow} {js ks : Jobs} → Placed ts js → Placed ts ks → js ≡ ks
 placed-one {ts} p q = placed-same (length ts) (omega arith) p q
 
 -- a row is placed behind rows that are placed exactly if the jobs grow by it
-pub grows : {ts : List BookRow} {js ks : Jobs} {r : BookRow} → Placed ts js → Placed (ts ++ r ∷ []) ks → Step js r ks
+pub grows : {ts : List BookRow} {js ks : Jobs} {r : BookRow} → Placed ts js → Placed (ts ++ r ∷ []) ks → GrowsBy js r ks
 grows {ks = ks} {r = r} p q =
     let b = retract ks q in
-    subst (λ (l : Jobs). Step l r ks) (placed-one (b .placed) p) (b .step)
+    subst (λ (l : Jobs). GrowsBy l r ks) (placed-one (b .placed) p) (b .step)
 
 -- what grows by a row had no more jobs before, and no key twice
-pub step-count : {js ks : Jobs} {r : BookRow} → Step js r ks → count js ≤ count ks
+pub step-count : {js ks : Jobs} {r : BookRow} → GrowsBy js r ks → count js ≤ count ks
 step-count (starts l k) = omega arith
 step-count (scours k e) = omega arith
 step-count (crosses k e) = omega arith
@@ -147,7 +147,7 @@ step-count (bears k e n) = omega arith
 pub rebased : {js : Jobs} {b : BookRow} {v w : River} {ls ms : List BookRow} → Different (js and job b v ls) → Different (js and job b w ms)
 rebased (new-key d u) = new-key d u
 
-pub step-keys : {js ks : Jobs} {r : BookRow} → Step js r ks → Different ks → Different js
+pub step-keys : {js ks : Jobs} {r : BookRow} → GrowsBy js r ks → Different ks → Different js
 step-keys (starts l k) (new-key d u) = d
 step-keys (scours k e) d = rebased d
 step-keys (crosses k e) d = rebased d

@@ -8,7 +8,7 @@ use lib.ListN.{length, take, set}
 use lib.Seq.{take-at}
 use Rattle.arithmetic.proofs.Cases.{impossible}
 use Rattle.csv.specs.rfc4180.Rfc4180.{Cell, Readable}
-use Rattle.csv.proofs.notes.Reached.{Reached, reached-start, reached-more, reached-last, reached-many}
+use Rattle.csv.proofs.notes.Reached.{RowReached, reached-start, reached-more, reached-last, reached-many}
 use Rattle.rows.specs.Form.{BookRow, raw, Form}
 use Rattle.rows.specs.Answer.{RowGiven, RowSeen, SeenAt}
 use Rattle.rows.specs.declared.keys.Key.{Key}
@@ -20,7 +20,7 @@ use Rattle.book.specs.JobBook.{Jobs, none, _and_, job, dry, count, Loade
 use Rattle.rows.specs.keys.Among.{Among}
 use Rattle.rows.specs.keys.Beginning as beginning
 use Rattle.rows.specs.declared.keys.Beginning.{Beginning}
-use Rattle.rows.specs.declared.keys.Beginning.the-variants.{Free, Barred}
+use Rattle.rows.specs.declared.keys.Beginning.the-variants.{Allowed, Barred}
 use Rattle.book.specs.counted.Places.{places}
 use Rattle.book.specs.Values.{values}
 use Rattle.book.specs.walk.Kept.{last-value}
@@ -33,7 +33,7 @@ use Rattle.book.specs.step.Step.{RefusesRow}
 use Rattle.book.specs.declared.counted.Count.{Count}
 use Rattle.book.specs.declared.counted.Count.the-variants.{Given, Refused}
 use Rattle.book.specs.declared.counted.Book.{Book}
-use Rattle.book.proofs.Steps.{Step, starts, scours, crosses, bears, extend, grows}
+use Rattle.book.proofs.Steps.{GrowsBy, starts, scours, crosses, bears, extend, grows}
 use Rattle.book.proofs.Answers.{begins-book}
 use Rattle.book.proofs.Growing.{Grown, place-grows, step-place}
 use Rattle.book.proofs.Keeping.{values-many, among-used, used-among, Standing, base-jobs, standing-starts, joins, standing-joins}
@@ -43,13 +43,13 @@ forms-more no-form g = form g no-form
 forms-more (form f fs) g = form f (forms-more fs g)
 
 -- behind a row the last job's value says whether a load row is missing
-lacks : {js ks : Jobs} {r : BookRow} → Step js r ks → last-value ks .count ≡ 0 → Loaded ks → ⊥
+lacks : {js ks : Jobs} {r : BookRow} → GrowsBy js r ks → last-value ks .count ≡ 0 → Loaded ks → ⊥
 lacks (starts l h) e k = omega arith
 lacks (scours h f) e k = omega arith
 lacks (crosses h f) e k = omega arith
 lacks (bears h f n) e k = omega arith
 
-has-load : {js ks : Jobs} {r : BookRow} → Step js r ks → (last-value ks .count ≡ 0 → ⊥) → Loaded ks
+has-load : {js ks : Jobs} {r : BookRow} → GrowsBy js r ks → (last-value ks .count ≡ 0 → ⊥) → Loaded ks
 has-load (starts l h) n = absurd (n refl)
 has-load (scours h f) n = absurd (n refl)
 has-load (crosses h f) n = absurd (n refl)
@@ -59,10 +59,10 @@ used-twice : {js : Jobs} {r : BookRow} → Used r js → Different (js and job r
 used-twice u (new-key d n) = n u
 
 -- where a job begins, it is one of 64, and its key is new
-pub begun-new : {ks : List Key} {n : ℕ} {k : Key} {b : Beginning} → beginning.BeginningIs ks n k b → b ≡ Free → (n < 64) × (Among ks n k → ⊥)
+pub begun-new : {ks : List Key} {n : ℕ} {k : Key} {b : Beginning} → beginning.BeginningIs ks n k b → b ≡ Allowed → (n < 64) × (Among ks n k → ⊥)
 begun-new (beginning.surplus m e) f = impossible cc
 begun-new (beginning.reused m a e) f = impossible cc
-begun-new (beginning.free m a e) f = (m, a)
+begun-new (beginning.allowed m a e) f = (m, a)
 
 -- an answer, from what it is told
 pub refused-is : {s : List ℕ} (b : Book) (why : Refusal) (row : ℕ) → (b .count ≡ Refused why row) × (b .jobs ≡ places []) → BookSays s (refused (refusal-number why) row) → BookIs s b
@@ -82,7 +82,7 @@ given-is {s} {js} b n c m e k =
 pub record Walk (s : List ℕ) (last : Job) (jobs : List Job) (keys : List Key) (n row at : ℕ) : Type 0 where
   pub size : length s ≤ 65536
   pub passed : List (List Cell)
-  pub reached : Reached s passed row at
+  pub reached : RowReached s passed row at
   pub typed : List BookRow
   pub written : Jobs
   pub begins : Begins passed typed written
@@ -147,11 +147,11 @@ module _ {s : List ℕ} {last : Job} {jobs : List Job} {keys : List Key} {n row 
     -- behind the row
     pub record After (next : Job) (vs : List Job) (ks : List Key) (m : ℕ) : Type 0 where
       pub grew : Jobs
-      pub step : Step (i .written) this grew
+      pub step : GrowsBy (i .written) this grew
       pub begins : Begins (i .passed ++ cs ∷ []) (i .typed ++ this ∷ []) grew
       pub stands : Standing grew m ks vs next
 
-    begins-more : {js : Jobs} → Step (i .written) this js → count js ≤ 64 → (Different (i .written) → Different js) → Begins (i .passed ++ cs ∷ []) (i .typed ++ this ∷ []) js
+    begins-more : {js : Jobs} → GrowsBy (i .written) this js → count js ≤ 64 → (Different (i .written) → Different js) → Begins (i .passed ++ cs ∷ []) (i .typed ++ this ∷ []) js
     begins-more p few d = record { forms = forms-more (i .begins .forms) means; placed = extend (i .begins .placed) p; few = few; different = d (i .begins .different) }
 
     pub walk-joined : (next : Job) → taking.TakeSays last (r .row) taking.joins next → After next (set jobs (n - 1) next) keys n
@@ -181,8 +181,8 @@ module _ {s : List ℕ} {last : Job} {jobs : List Job} {keys : List Key} {n row 
       abbrev started : Jobs
       started = i .written and job this dry []
 
-      start : Step (i .written) this started
-      start = let k = grows-by (t .1) (t .2) in subst (Step (i .written) this) (base-jobs (t .0) (k .step)) (k .step)
+      start : GrowsBy (i .written) this started
+      start = let k = grows-by (t .1) (t .2) in subst (GrowsBy (i .written) this) (base-jobs (t .0) (k .step)) (k .step)
 
       holds : last-value started ≡ next
       holds = let k = grows-by (t .1) (t .2) in ap last-value (sym (base-jobs (t .0) (k .step))) ∙ k .is
@@ -209,7 +209,7 @@ module _ {s : List ℕ} {last : Job} {jobs : List Job} {keys : List Key} {n row 
       walk-barred why (beginning.reused m a e) f =
           let q : UsedKey ≡ why = cc in
           subst (λ (x : Refusal). BookSays s (refused (refusal-number x) row)) q (walk-reused m a)
-      walk-barred why (beginning.free m a e) f = impossible cc
+      walk-barred why (beginning.allowed m a e) f = impossible cc
 
       pub walk-started : n < 64 → (Among keys n (next .key) → ⊥) → After next (set jobs (n + 1 - 1) next) (set keys n (next .key)) (n + 1)
       walk-started m a =

@@ -1,8 +1,7 @@
 // The jobs of a book by value, with their number; or the refusal of the book, with its row (document 01, "Refusals of a book"): "the
 // book then yields no job".
 //
-// The jobs stand in 64 places, as many as a book may have. What is hard is that a refused book has places too: each is blank, so that
-// no job is left in one.
+// The jobs stand in 64 places, as many as a book may have. A refused book has places too: each is blank, so that no job is left in one.
 use jobs::Job;
 use rows::refusals::Refusal;
 ghost use mathlib.Core.Path.{_≡_};

@@ -1,8 +1,8 @@
 // The reading of a job book (document 01, "The job book" and "Refusals of a book"): its jobs by value and their number, or
 // the refusal, 1 to 6, with its row; and the note of a row, as the stretch of the lent book that it is.
 //
-// A book is refused by its length before its form, and by its form before its rows, which `walk` goes through. What is hard is the note: it
-// is the tenth cell of a row of the text, and the forms of the book's rows say the same of it.
+// A book is refused by its length before its form, and by its form before its rows, which `walk` goes through. A note is the tenth cell of
+// a row of the text, and the forms of the book's rows say the same of it.
 pub mod counted;
 mod step;
 mod walk;

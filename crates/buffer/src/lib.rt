@@ -1,8 +1,8 @@
 // A block's text in a lent buffer (document 01, Refusals of a book, refusal 7).
 //
-// Exactly the block's bytes are written from the start, and the rest of the buffer is untouched; a buffer that is too short is
-// refused, and nothing is written. What is hard is that the promise leaves no choice: it gives one answer and one state of the
-// buffer for every block, also for one that claims more than its 2,048 bytes.
+// Exactly the block's bytes are written from the start, and the rest of the buffer is untouched; a buffer that is too short is refused, and
+// nothing is written. The promise gives one answer and one state of the buffer for every block, also for one that claims more than its
+// 2,048 bytes.
 use block::Block;
 ghost use Rattle.block.specs.Block.{text-held};
 ghost use Rattle.buffer.specs.Copying.{Wrote, copy-told};

@@ -1,7 +1,7 @@
 // The ranks of OP and OM, SL, PR and RK (document 01, Load sets; 002, 5.16.2.5, 6.5.3 note).
 //
-// What is hard is that each figure has cases of its own before the division, and that the ranks of these stand at either end; that PR has
-// two rules, for a base that is pressed whole and for one that is pressed in part; and that every product fits in 64 bits.
+// Each figure has cases of its own before the division, whose ranks stand at either end, and PR has two rules, for a base that is pressed
+// whole and for one that is pressed in part. Every product fits in 64 bits by the bounds of the sums.
 use crate::TOP;
 ghost use Prim.Native.Nat.{_^_, _<_, _≤_};
 ghost use Rattle.checks.specs.Order.{lowest, highest};

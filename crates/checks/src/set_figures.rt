@@ -1,6 +1,6 @@
 // The figure that a check shows of a set of load rows (document 01, Load sets).
 //
-// What is hard is that the definition speaks of the whole numbers N, H and M, and the program of what each is above and below zero.
+// The definition speaks of the whole numbers N, H and M, and the program of what each is above and below zero.
 use crate::Base;
 use crate::Check;
 use crate::Figure;

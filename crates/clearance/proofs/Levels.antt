@@ -43,10 +43,10 @@ sides y z h =
     let down : negℤ (pos h) ≡ pos 0 -ℤ pos h = sym (+ℤ-idl (negℤ (pos h))) in
     sym (rw (apart, down) (add-diffs (above y + below z) (below y + above z) 0 h ∙ ap (λ (n : ℕ). pos n -ℤ pos (below y + above z + h)) (add-zero (above y + below z))))
 
-pub between : (upper lower : Entry) (h : ℕ) {u l : Amount} {p q : Parts} → Level u upper → Level l lower → p ≡ parts-of (worth u) → q ≡ parts-of (worth l)
+pub between-levels : (upper lower : Entry) (h : ℕ) {u l : Amount} {p q : Parts} → Level u upper → Level l lower → p ≡ parts-of (worth u) → q ≡ parts-of (worth l)
     → pos (p .above + q .below) -ℤ pos (p .below + q .above + h) ≡ value upper -ℤ value lower -ℤ pos h
 unfolding parts-of
-between upper lower h {u} {l} hu hl e f = rw (e, f, level-worth upper u hu, level-worth lower l hl) (sides (worth u) (worth l) h)
+between-levels upper lower h {u} {l} hu hl e f = rw (e, f, level-worth upper u hu, level-worth lower l hl) (sides (worth u) (worth l) h)
 
 -- the amount of a number tells it, without a minus zero
 pub amount-told : (z : ℤ) (needed : ℕ) {a : Amount} → a ≡ amount z → ClearanceAnswered (λ t. t ≡ given z needed) (Given (a .minus) (a .size) needed)

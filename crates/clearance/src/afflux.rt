@@ -1,6 +1,6 @@
 // Molesworth's afflux, and the clearance needed above it (document 01, River rules, for 002, clauses 4.7 and 4.8).
 //
-// What is hard is size: the afflux takes all 64 bits of a word, and fits by nothing but the ranges in the table of kinds.
+// The afflux takes all 64 bits of a word, and fits by nothing but the ranges in the table of kinds.
 ghost use Prim.Native.Nat.{_≤_};
 ghost use Rattle.clearance.specs.afflux.Rules.{Afflux, ClearanceNeeded};
 

@@ -1,8 +1,7 @@
 // The river rules of document 01 for clearance (002, clauses 4.7 and 4.8): the clearance that a C row has and needs, or its refusal, 11
 // or 14.
 //
-// What is left of the clearance may be below zero. What is hard is sign: levels are added up on two sides, and only natural numbers are
-// taken from each other.
+// What is left of the clearance may be below zero: levels are added up on two sides, and only natural numbers are taken from each other.
 pub mod afflux;
 
 use arithmetic::signed::Amount;

@@ -13,13 +13,13 @@ use Rattle.csv.specs.declared.field.Ended.the-variants.{Comma, Row, End,
 use Rattle.csv.proofs.rfc4180.First.{comma-readable, row-readable, end-readable, starts}
 use Rattle.csv.proofs.rfc4180.Parts.{part-rest, past}
 
-pub record Step (s : List ℕ) (at next : ℕ) : Type 0 where
+pub record FieldStep (s : List ℕ) (at next : ℕ) : Type 0 where
   pub on : at < next
   pub within : next ≤ length s
   pub same : Readable (drop at s) ↔ Readable (drop next s)
 
 module _ (s : List ℕ) (at : ℕ) where
-  pub step-comma : (e : ℕ) → FieldAt s at (Comma e) → Step s at (e + 1)
+  pub step-comma : (e : ℕ) → FieldAt s at (Comma e) → FieldStep s at (e + 1)
   step-comma e h =
       let f = h .0 .from in
       let w : drop at s ≡ part at e s ++ COMMA ∷ drop (e + 1) s = part-rest s at e f ∙ ap (λ (l : List ℕ). part at e s ++ l) (h .1) in
@@ -29,7 +29,7 @@ module _ (s : List ℕ) (at : ℕ) where
         same = rw w (comma-readable (h .0 .field) (drop (e + 1) s));
       }
 
-  pub step-row : (e : ℕ) → FieldAt s at (Row e) → Step s at (e + 2)
+  pub step-row : (e : ℕ) → FieldAt s at (Row e) → FieldStep s at (e + 2)
   step-row e h =
       let f = h .0 .from in
       let w : drop at s ≡ part at e s ++ CR ∷ LF ∷ drop (e + 2) s = part-rest s at e f ∙ ap (λ (l : List ℕ). part at e s ++ l) (h .1) in

@@ -1,8 +1,8 @@
 // The cells of a row of an RFC 4180 text, by position (document 01, the job book): how many there are, where the first ten stand, and
 // where the next row starts; and the stretch of the text that a cell is.
 //
-// The text is known to be RFC 4180, so no field is bad. What is hard is that each place is tied to the one reading of the text: the loop
-// keeps the fields passed, and what stands behind them still has the rest of the rows.
+// The text is known to be RFC 4180, so no field is bad. Each place is tied to the one reading of the text: the loop keeps the fields
+// passed, and what stands behind them still has the rest of the rows.
 use crate::field::Ended;
 ghost use Rattle.csv.specs.cells.Cells.{CellAt, RowAt};
 ghost use mathlib.Core.Path.{_≡_};

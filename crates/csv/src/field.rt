@@ -1,7 +1,7 @@
 // RFC 4180 text, a field (document 01, the job book): where the field at a place ends, and what follows it.
 //
-// Where a quoted field closes stands in `quoted`. What is hard is that the grammar gives a text one reading at most, so that the field at a
-// place, with what may follow it, is one.
+// Where a quoted field closes stands in `quoted`. The grammar gives a text one reading at most, so the field at a place, with what may
+// follow it, is one.
 use crate::quoted;
 use crate::quoted::ClosingQuote;
 ghost use Prim.Native.Nat.{_≤_};

@@ -1,7 +1,7 @@
 // The note of a row of a text (document 01, the job book): "handed on as the stretch of the book from its comma to its row's
 // end", which is the row's tenth cell.
 //
-// What is hard is that a row is found by passing the rows before it, and that no row stands behind a final CRLF.
+// A row is found by passing the rows before it, and no row stands behind a final CRLF.
 ghost use Rattle.csv.specs.rfc4180.Rfc4180.{Readable};
 ghost use Rattle.csv.specs.notes.Notes.{NoteAt};
 

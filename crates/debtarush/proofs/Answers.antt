@@ -13,14 +13,14 @@ use Rattle.debtarush.specs.Told.{CallTold, written, refused}
 use Rattle.debtarush.specs.Called.{Called, no-book, no-place, too-short, lines}
 
 -- a book's refusal as a call's
-refusal : book.BookTold → CallTold
-refusal (book.given n js) = written n
-refusal (book.refused n row) = refused n row
+call-refusal : book.BookTold → CallTold
+call-refusal (book.given n js) = written n
+call-refusal (book.refused n row) = refused n row
 
 module _ {fill : ℕ → ℕ → Coefficient} {b : List ℕ} {place : ℕ} {before : List ℕ} where
   pub called-one : {x y : List ℕ} {t u : CallTold} → Called fill b place before x t → Called fill b place before y u → (x ≡ y) × (t ≡ u)
-  unfolding refusal
-  called-one (no-book p a e) (no-book q c f) = (a ∙ sym c, e ∙ ap refusal (book-says-one p q) ∙ sym f)
+  unfolding call-refusal
+  called-one (no-book p a e) (no-book q c f) = (a ∙ sym c, e ∙ ap call-refusal (book-says-one p q) ∙ sym f)
   called-one (no-book p a e) (no-place q m c f) = absurd (refused-none p _ q)
   called-one (no-book p a e) (too-short q r s l c f) = absurd (refused-none p _ q)
   called-one (no-book p a e) (lines q r s l c f) = absurd (refused-none p _ q)

@@ -1,8 +1,7 @@
 // The job at a place of a book, the first place being 1 (document 01, "Refusals of a book", refusal 10).
 //
-// The place is looked at behind the book's own refusal, 1 to 6, and never instead of it. What is hard is that the jobs come by value in 64
-// places, of which the book's jobs fill the first: a place up to their number holds the job there, and a place past it is none,
-// whatever stands there.
+// The place is looked at behind the book's own refusal, 1 to 6, and never instead of it. The jobs come by value in 64 places, of which the
+// book's jobs fill the first: a place up to their number holds the job there, and a place past it is none, whatever stands there.
 use book::counted::Count;
 use jobs::Job;
 use rows::refusals::Refusal;

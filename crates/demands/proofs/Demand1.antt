@@ -23,7 +23,7 @@ use Rattle.debtarush.proofs.Texts.{text-one}
 use Rattle.debtarush.proofs.Answers.{called-one}
 use Rattle.demands.specs.Demand1.{Demand1}
 use Rattle.demands.proofs.Numbers.{book-numbers}
-use Rattle.demands.proofs.Wrote.{reached, wrote}
+use Rattle.demands.proofs.Wrote.{call-on-job, wrote}
 
 -- the one line of a refused job
 refused-text : {fill : ℕ → ℕ → Coefficient} {job : Job} {n : ℕ} → Refuses fill job n → TextOf fill job (line-text (job .key) (verdict-line (Refused n)))
@@ -46,7 +46,7 @@ module _ (fill : ℕ → ℕ → Coefficient) {b : List ℕ} {place : ℕ} {befo
   alone : {len : ℕ} → Called fill b place before after (written len) → (js : Jobs) (job : Job) (n : ℕ) → JobBook b js → RowIn (values js) place job → Refuses fill job n
       → (len ≡ length (line-text (job .key) (verdict-line (Refused n)))) × (after ≡ line-text (job .key) (verdict-line (Refused n)) ++ drop len before)
   alone {len} c js job n p r q =
-      let w = wrote (reached p r c) in
+      let w = wrote (call-on-job p r c) in
       let e = text-one refl (w .text) (refused-text q) in
       (w .long ∙ ap length e, w .whole ∙ ap (λ (t : List ℕ). t ++ drop len before) e)
 

@@ -31,7 +31,7 @@ use Rattle.demands.specs.Demand2.{Demand2}
 use Rattle.demands.proofs.Keys.{job-key}
 use Rattle.demands.proofs.Sound.{sound-accepted, accepted-sound}
 use Rattle.demands.proofs.Lines.{line-named, line-shown}
-use Rattle.demands.proofs.Wrote.{Wrote, reached, wrote}
+use Rattle.demands.proofs.Wrote.{WroteJob, call-on-job, wrote}
 
 -- the verdict line says the verdict
 verdict-same : (v : Verdict) → verdict-line Accepted ≡ verdict-line v → v ≡ Accepted
@@ -42,8 +42,8 @@ verdict-same (Refused n) e = let v : accepted ≡ number n = ap (λ (l : Printed
 
 module _ (fill : ℕ → ℕ → Coefficient) {b : List ℕ} {place : ℕ} {before after : List ℕ} {len : ℕ} (c : Called fill b place before after (written len))
     (js : Jobs) (job : Job) (book : JobBook b js) (at : RowIn (values js) place job) where
-  own : Wrote fill job before after len
-  own = wrote (reached book at c)
+  own : WroteJob fill job before after len
+  own = wrote (call-on-job book at c)
 
   bytes-are : take len after ≡ texts (job .key) (lines-of (own .text .answer))
   unfolding own text

@@ -19,7 +19,7 @@ use Rattle.demands.specs.Words.{listed}
 use Rattle.demands.specs.Demand3.{Demand3}
 use Rattle.demands.proofs.Keys.{good-job, value-at}
 use Rattle.demands.proofs.Numbers.{book-numbers}
-use Rattle.demands.proofs.Wrote.{Reached, short, full, reached, wrote}
+use Rattle.demands.proofs.Wrote.{CallOnJob, short, full, call-on-job, wrote}
 
 module _ (fill : ℕ → ℕ → Coefficient) {b : List ℕ} {place : ℕ} {before after : List ℕ} where
   refused-none : {n row : ℕ} → Called fill b place before after (refused n row) → n ≤ 6 → (js : Jobs) → JobBook b js → ⊥
@@ -40,7 +40,7 @@ same-job x y r s e = same-value (good-job x r) (good-job y s) e
 
 -- the answer goes by the text and the buffer's length
 same-told : {fill : ℕ → ℕ → Coefficient} {j k : Job} {before before′ after after′ : List ℕ} {t u : CallTold} → j ≡ k → length before ≡ length before′
-    → Reached fill j before after t → Reached fill k before′ after′ u → t ≡ u
+    → CallOnJob fill j before after t → CallOnJob fill k before′ after′ u → t ≡ u
 same-told e l (short s a p) (short v c q) = p ∙ sym q
 same-told e l (short s a p) (full v c d q) = let z = ap length (text-one e s v) in absurd (omega arith)
 same-told e l (full s a d p) (short v c q) = let z = ap length (text-one e s v) in absurd (omega arith)
@@ -53,9 +53,9 @@ demand3 fill = record {
   one-book = read.book-one;
   one-reading = read.reading-one;
   same-lines = λ {js = js} {ks = ks} c d x y r s e.
-      let v = wrote (reached x (value-at js r) c) in
-      let w = wrote (reached y (value-at ks s) d) in
+      let v = wrote (call-on-job x (value-at js r) c) in
+      let w = wrote (call-on-job y (value-at ks s) d) in
       let t = text-one (same-job x y r s e) (v .text) (w .text) in
       (v .long ∙ ap length t ∙ sym (w .long), v .first ∙ t ∙ sym (w .first));
-  same-answer = λ {js = js} {ks = ks} c d l x y r s e. same-told (same-job x y r s e) l (reached x (value-at js r) c) (reached y (value-at ks s) d);
+  same-answer = λ {js = js} {ks = ks} c d l x y r s e. same-told (same-job x y r s e) l (call-on-job x (value-at js r) c) (call-on-job y (value-at ks s) d);
 }

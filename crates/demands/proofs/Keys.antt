@@ -25,21 +25,21 @@ form-key {cs} f = record {
 HasKey : BookRow → Type 0
 HasKey r = IsKey (r .keyed .key)
 
-Keyed : Job → Type 0
-Keyed j = IsKey (j .key)
+HasJobKey : Job → Type 0
+HasJobKey j = IsKey (j .key)
 
 forms-keys : {css : List (List Cell)} {rs : List BookRow} → Forms css rs → all.All HasKey rs
 unfolding HasKey
 forms-keys no-form = all.none
 forms-keys (form f fs) = all.more (form-key f) (forms-keys fs)
 
-values-keys : (js : Jobs) → all.All HasKey (rows-of js) → all.All Keyed (values js)
-unfolding HasKey Keyed
+values-keys : (js : Jobs) → all.All HasKey (rows-of js) → all.All HasJobKey (values js)
+unfolding HasKey HasJobKey
 values-keys none p = all.none
 values-keys (js and job b v ls) p = all.all-append (values-keys js (all.all-front (rows-of js) (job-rows (job b v ls)) p)) (all.more (all.all-first (all.all-behind (rows-of js) (job-rows (job b v ls)) p)) all.none)
 
 pub job-key : {s : List ℕ} {js : Jobs} {n : ℕ} {j : Job} → JobBook s js → RowIn (values js) n j → IsKey (j .key)
-unfolding Keyed
+unfolding HasJobKey
 job-key {js = js} b r = all.all-at (values-keys js (subst (all.All HasKey) (b .parts) (forms-keys (b .forms)))) r
 
 wholes : {js : Jobs} → Whole js → all.All GoodJob (listed js)

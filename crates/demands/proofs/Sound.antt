@@ -6,7 +6,7 @@ use mathlib.Core.Bool.{true, false}
 use Rattle.arithmetic.proofs.Cases.{impossible}
 use Rattle.arithmetic.specs.decides.Decides.{decided}
 use Rattle.jobs.specs.declared.Job.{Job}
-use Rattle.scour.proofs.Scours.{scoured-one}
+use Rattle.scour.proofs.Scours.{scour-rule-one}
 use Rattle.earth.specs.declared.table2.Coefficient.{Coefficient}
 use Rattle.sets.specs.declared.Combination.{Combination}
 use Rattle.sets.specs.declared.Combination.the-variants.{I, II, III, IV}
@@ -63,25 +63,25 @@ has-limit III RK base limit h = h .0
 has-limit IV RK base limit h = h .0
 
 -- every permitted set of one combination passes one check
-Holds : Combination → Check → Base → Loads → Type 0
-Holds combination check base loads =
+AllPass : Combination → Check → Base → Loads → Type 0
+AllPass combination check base loads =
     (limit : ℕ) → Limit combination check base limit → (set : ℕ) (figure : Figure) → Permitted combination loads set → Shows check base loads set figure → Passes (side check) limit figure
 
 module _ (combination : Combination) (base : Base) (loads : Loads) where
-  line-holds : (check : Check) (l : Line) → worst.LineSays combination check base loads l → LineYes l → Holds combination check base loads
-  unfolding worst.LineSays Holds
+  line-holds : (check : Check) (l : Line) → worst.LineSays combination check base loads l → LineYes l → AllPass combination check base loads
+  unfolding worst.LineSays AllPass
   line-holds check Missing p y limit h set figure a b = absurd (p (has-limit combination check base limit h) set a)
   line-holds check (Shown v n s passes) p y limit h set figure a b =
       let d = decided passes y (worst-decides combination check base loads v n s passes p) set figure a b in
       subst (λ (m : ℕ). Passes (side check) m figure) (limit-one combination check base n limit (p .limited) h) d
 
-  line-yes : (check : Check) (l : Line) → worst.LineSays combination check base loads l → Holds combination check base loads → LineYes l
-  unfolding worst.LineSays Holds
+  line-yes : (check : Check) (l : Line) → worst.LineSays combination check base loads l → AllPass combination check base loads → LineYes l
+  unfolding worst.LineSays AllPass
   line-yes check Missing p h = tt
   line-yes check (Shown v n s true) p h = refl
   line-yes check (Shown v n s false) p h = absurd (p .marked (h n (p .limited) s v (p .named .permitted) (p .named .reaches)))
 
-  lines-hold : (l : Lines) → LinesAre combination base loads l → LinesYes l → (check : Check) → Holds combination check base loads
+  lines-hold : (l : Lines) → LinesAre combination base loads l → LinesYes l → (check : Check) → AllPass combination check base loads
   unfolding worst.line
   lines-hold l p y OP = line-holds OP (l .op) (p OP) (y .op)
   lines-hold l p y OM = line-holds OM (l .om) (p OM) (y .om)
@@ -89,7 +89,7 @@ module _ (combination : Combination) (base : Base) (loads : Loads) where
   lines-hold l p y PR = line-holds PR (l .pr) (p PR) (y .pr)
   lines-hold l p y RK = line-holds RK (l .rk) (p RK) (y .rk)
 
-  lines-yes : (l : Lines) → LinesAre combination base loads l → ((check : Check) → Holds combination check base loads) → LinesYes l
+  lines-yes : (l : Lines) → LinesAre combination base loads l → ((check : Check) → AllPass combination check base loads) → LinesYes l
   unfolding worst.line
   lines-yes l p h = record {
     op = line-yes OP (l .op) (p OP) (h OP);
@@ -110,7 +110,7 @@ module _ (job : Job) where
   deep-depth (river.Shown k n m true) p h = refl
   deep-depth (river.Shown k n m false) p h =
       let d = h (p .founded) in
-      let e = scoured-one (p .value) (d .needed) in
+      let e = scour-rule-one (p .value) (d .needed) in
       let a : n ≡ d .depth = cc in
       let b = p .limit in
       let c = d .found in
@@ -132,7 +132,7 @@ module _ (job : Job) where
 
 module _ (fill : ℕ → ℕ → Coefficient) (job : Job) (a : Answer) where
   given-bears : (g : Given fill job a) → AllYes a → Bears (base-of (job .base)) (g .loads)
-  unfolding Holds
+  unfolding AllPass
   given-bears g y I check = lines-hold I _ (g .loads) (a .one) (g .one) (y .one) check
   given-bears g y II check = lines-hold II _ (g .loads) (a .two) (g .two) (y .two) check
   given-bears g y III check = lines-hold III _ (g .loads) (a .three) (g .three) (y .three) check
@@ -149,7 +149,7 @@ module _ (fill : ℕ → ℕ → Coefficient) (job : Job) (a : Answer) where
   }
 
   sound-yes : Given fill job a → Sound fill job → AllYes a
-  unfolding Holds
+  unfolding AllPass
   sound-yes g s =
       let e = loads-one fill (job .loads) (row-count (job .count)) (s .loads) (g .loads) (s .are) (g .are) in
       let h = subst (Bears (base-of (job .base))) e (s .bears) in

@@ -16,29 +16,29 @@ use Rattle.debtarush.specs.Lines.{TextOf}
 use Rattle.debtarush.specs.Told.{CallTold, written, refused}
 use Rattle.debtarush.specs.Called.{Called, no-book, no-place, too-short, lines}
 
-pub data Reached (fill : ℕ → ℕ → Coefficient) (job : Job) (before after : List ℕ) (t : CallTold) : Type 0 where
-  short : {bytes : List ℕ} → TextOf fill job bytes → length before < length bytes → t ≡ refused 7 0 → Reached fill job before after t
-  full : {bytes : List ℕ} → TextOf fill job bytes → length bytes ≤ length before → after ≡ bytes ++ drop (length bytes) before → t ≡ written (length bytes) → Reached fill job before after t
+pub data CallOnJob (fill : ℕ → ℕ → Coefficient) (job : Job) (before after : List ℕ) (t : CallTold) : Type 0 where
+  short : {bytes : List ℕ} → TextOf fill job bytes → length before < length bytes → t ≡ refused 7 0 → CallOnJob fill job before after t
+  full : {bytes : List ℕ} → TextOf fill job bytes → length bytes ≤ length before → after ≡ bytes ++ drop (length bytes) before → t ≡ written (length bytes) → CallOnJob fill job before after t
 
 module _ {fill : ℕ → ℕ → Coefficient} {b : List ℕ} {place : ℕ} {js : Jobs} {job : Job} (book : JobBook b js) (at : RowIn (values js) place job) where
   own-text : {ks : Jobs} {k : Job} {bytes : List ℕ} → JobBook b ks → RowIn (values ks) place k → TextOf fill k bytes → TextOf fill job bytes
   own-text {k = k} {bytes} p r t = subst (λ (x : Job). TextOf fill x bytes) (row-one (subst (λ (l : Jobs). RowIn (values l) place k) (book-one p book) r) at) t
 
-  pub reached : {before after : List ℕ} {t : CallTold} → Called fill b place before after t → Reached fill job before after t
-  reached (no-book s a e) = absurd (refused-none s js book)
-  reached (no-place p n a e) = absurd (n job (subst (λ (l : Jobs). RowIn (values l) place job) (book-one book p) at))
-  reached (too-short p r s l a e) = short (own-text p r s) l e
-  reached (lines p r s l a e) = full (own-text p r s) l a e
+  pub call-on-job : {before after : List ℕ} {t : CallTold} → Called fill b place before after t → CallOnJob fill job before after t
+  call-on-job (no-book s a e) = absurd (refused-none s js book)
+  call-on-job (no-place p n a e) = absurd (n job (subst (λ (l : Jobs). RowIn (values l) place job) (book-one book p) at))
+  call-on-job (too-short p r s l a e) = short (own-text p r s) l e
+  call-on-job (lines p r s l a e) = full (own-text p r s) l a e
 
 -- the bytes written
-pub record Wrote (fill : ℕ → ℕ → Coefficient) (job : Job) (before after : List ℕ) (len : ℕ) : Type 0 where
+pub record WroteJob (fill : ℕ → ℕ → Coefficient) (job : Job) (before after : List ℕ) (len : ℕ) : Type 0 where
   pub bytes : List ℕ
   pub text : TextOf fill job bytes
   pub long : len ≡ length bytes
   pub first : take len after ≡ bytes
   pub whole : after ≡ bytes ++ drop len before
 
-pub wrote : {fill : ℕ → ℕ → Coefficient} {job : Job} {before after : List ℕ} {len : ℕ} → Reached fill job before after (written len) → Wrote fill job before after len
+pub wrote : {fill : ℕ → ℕ → Coefficient} {job : Job} {before after : List ℕ} {len : ℕ} → CallOnJob fill job before after (written len) → WroteJob fill job before after len
 wrote (short s l e) = impossible cc
 wrote {before = before} {after} {len} (full {bytes} s l a e) =
     let n : len ≡ length bytes = cc in

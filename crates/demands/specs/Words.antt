@@ -61,7 +61,7 @@ Bears base loads = (combination : Combination) (check : Check) (limit : ℕ) →
 -- "SC needs value <= limit": the depth needed is found
 pub record Deep (job : Job) : Type 0 where
   pub depth : ℕ
-  pub needed : scour.Scoured (job .scour .n1 .size) (job .scour .n2 .size) (job .scour .n3 .size) (job .scour .n4 .size) (job .scour .n5 .size) (scour.needs depth)
+  pub needed : scour.ScourRule (job .scour .n1 .size) (job .scour .n2 .size) (job .scour .n3 .size) (job .scour .n4 .size) (job .scour .n5 .size) (scour.needs depth)
   pub found : depth ≤ job .scour .n6 .size
 
 -- "CL value >= limit": underside - flood - afflux is the clearance needed or more

@@ -1,7 +1,7 @@
 // Earth pressure by document 002's semi-empirical method (document 01, Earth pressure; 002, 5.7.2, Table 2): the thrust of an E row's
 // fill, and its height above the base.
 //
-// What is hard is size: the numbers of an E row are small enough for any coefficient up to 40,000, whichever table it comes from.
+// The numbers of an E row are small enough for any coefficient up to 40,000, whichever table it comes from.
 pub mod table2;
 mod thrust;
 

@@ -1,7 +1,7 @@
 // Document 002's Table 2 (clause 5.7.2; document 01, Earth pressure): the coefficient of a fill, for a soil and a slope.
 //
-// The table is an array of arrays, soil by slope, with a mark for the four places that 002 leaves blank; what is hard is
-// only that it is the definition's table, which one computed equation says.
+// The table is an array of arrays, soil by slope, with a mark for the four places that 002 leaves blank; one computed equation says that it
+// is the definition's.
 ghost use mathlib.Core.Path.{_≡_};
 ghost use Prim.Native.Nat.{_≤_};
 ghost use Rattle.earth.specs.table2.Table2.{table2-fill};

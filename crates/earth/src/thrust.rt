@@ -1,7 +1,6 @@
 // The thrust of a fill and its height above the base (document 01, Earth pressure, for 002, clause 5.7.2).
 //
-// What is hard is size: the product fits a word by nothing but the ranges in the table of kinds, for any coefficient up to
-// 40,000.
+// The product fits a word by nothing but the ranges in the table of kinds, for any coefficient up to 40,000.
 ghost use Prim.Native.Nat.{_≤_};
 ghost use Rattle.earth.specs.thrust.Thrust.{Thrust, Arm};
 

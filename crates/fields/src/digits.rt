@@ -1,6 +1,6 @@
 // Digits, and what they are worth (document 01, the job book: "1 to 9 digits, no leading zero save 0 itself").
 //
-// What is hard is that the worth of nine digits fits, and that the answer is exact whatever the bytes.
+// The worth of nine digits fits a word, and the answer is exact whatever the bytes.
 ghost use Rattle.fields.specs.digits.Numerals.{DigitsAre};
 
 // What digits are worth, or that a content is not digits.

@@ -1,8 +1,7 @@
 // The fields of a job book by their content (document 01, the job book): numbers, and fields left empty.
 //
-// Each function takes a stretch of the lent book that starts in its middle, and its answer is exact for every stretch,
-// whether or not it is a field of RFC 4180. What is hard is that one content is one number: a minus stands before its
-// digits or nowhere, and never before a zero.
+// Each function takes a stretch of the lent book that starts in its middle, and its answer is exact for every stretch, whether or not it is
+// a field of RFC 4180. One content is one number: a minus stands before its digits or nowhere, and never before a zero.
 pub mod content;
 pub mod digits;
 pub mod names;

@@ -1,7 +1,7 @@
 // The names of a job book, its members and jobs (document 01, the job book: "1 to 12 of A-Z, 0-9, hyphen").
 //
-// The answer for a stretch is exact whether or not it is a field of RFC 4180. What is hard is that a name is a value of
-// its own: its bytes with zeros behind them, so that one content gives one name, and two contents two.
+// The answer for a stretch is exact whether or not it is a field of RFC 4180. A name is a value of its own: its bytes with zeros behind
+// them, so that one content gives one name, and two contents two.
 ghost use mathlib.Core.Path.{_≡_};
 ghost use Rattle.fields.specs.names.Names.{NameAt, no-name};
 

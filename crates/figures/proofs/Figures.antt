@@ -8,10 +8,10 @@ use Rattle.arithmetic.specs.signed.Whole.{worth, amount, above, below}
 use Rattle.sets.specs.Sets.{bit, row}
 use Rattle.sets.specs.Totals.{counted, sum, arm, upright, push, resists, overturns, resisting, overturning}
 use Rattle.checks.specs.ranks.Figures.{Presses}
-use Rattle.figures.specs.Figures.{needed, pressure, pressure-either, Holds, All, none, more, starred}
+use Rattle.figures.specs.Figures.{needed, pressure, pressure-either, AllHold, none, more, starred}
 use Rattle.figures.proofs.Loaded.{overturns-test}
 
-pub figures : All Holds starred
+pub figures : AllHold starred
 unfolding worth amount bit row sum counted resists overturns upright push arm above below resisting overturning Presses
 figures =
     more (to-500 (lit≤ tt) (up-test _ _ _ tt))

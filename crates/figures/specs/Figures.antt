@@ -38,19 +38,19 @@ pub record PressesEither (B L N M figure : ℕ) : Type 0 where
   pub part : PressesPart B L N M figure
 
 -- a figure: what is asked, and what 01 says
-pub data Figure : Type 0 where
-  flood : (Q Z Qf : ℕ) → Figure
-  width : (Q W : ℕ) (met : Bool) → Figure
-  depth : (Qf f D : ℕ) → Figure
-  needed : (D reach d : ℕ) → Figure
-  constricted : (q f D : ℕ) → Figure
-  afflux : (v A a h : ℕ) → Figure
-  earth : (soil slope height length H y : ℕ) → Figure
-  overturning : (B v x h y figure : ℕ) → Figure
-  pressure : (B L N M figure : ℕ) → Figure
-  pressure-either : (B L N M figure : ℕ) → Figure
+pub data StarredFigure : Type 0 where
+  flood : (Q Z Qf : ℕ) → StarredFigure
+  width : (Q W : ℕ) (met : Bool) → StarredFigure
+  depth : (Qf f D : ℕ) → StarredFigure
+  needed : (D reach d : ℕ) → StarredFigure
+  constricted : (q f D : ℕ) → StarredFigure
+  afflux : (v A a h : ℕ) → StarredFigure
+  earth : (soil slope height length H y : ℕ) → StarredFigure
+  overturning : (B v x h y figure : ℕ) → StarredFigure
+  pressure : (B L N M figure : ℕ) → StarredFigure
+  pressure-either : (B L N M figure : ℕ) → StarredFigure
 
-abbrev pub Holds : Figure → Type 0
+abbrev pub Holds : StarredFigure → Type 0
 Holds (flood Q Z Qf) = FoundationDischarge Q Z Qf
 Holds (width Q W met) = Decides met (RegimeMet Q W)
 Holds (depth Qf f D) = RegimeDepth Qf f D
@@ -62,10 +62,10 @@ Holds (overturning B v x h y figure) = Overturns B (dead-load v x h y) figure
 Holds (pressure B L N M figure) = Presses B L N M (Number figure)
 Holds (pressure-either B L N M figure) = PressesEither B L N M figure
 
--- all of a list say what holds
-pub data All (P : Figure → Type 0) : List Figure → Type 0 where
-  none : All P []
-  more : {x : Figure} {xs : List Figure} → P x → All P xs → All P (x ∷ xs)
+-- all of a list hold
+pub data AllHold : List StarredFigure → Type 0 where
+  none : AllHold []
+  more : {x : StarredFigure} {xs : List StarredFigure} → Holds x → AllHold xs → AllHold (x ∷ xs)
 
 -- *Z = 500, Q = 1,000,000: 1,300,000. *5,000: 1,200,000. *25,000: 1,100,000.
 -- *Q = 1,000,000: W = 152,908 meets the regime width, *152,907 doesn't.
@@ -76,7 +76,7 @@ pub data All (P : Figure → Type 0) : List Figure → Type 0 where
 -- *B 4,000, one row of V 1,000 at x 0, H 100: y 10,000 gives OP 200, *10,001 gives 199.
 -- *B 4,000, L 8,000, N 1,000, M = 2,000,000: PR 84.
 -- *N 900, M 1,200,000: PR 57 by either rule.
-abbrev pub starred : List Figure
+abbrev pub starred : List StarredFigure
 starred =
     flood 1000000 500 1300000
     ∷ flood 1000000 5000 1200000

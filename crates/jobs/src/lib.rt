@@ -1,9 +1,9 @@
 // A job, taken up row by row (document 01, the job book; refusal 4): a value with a method that takes it, and hands
 // back the next job beside an answer.
 //
-// The promise is exact for every value, and not only for those that a book gives: a row is taken exactly if it is in
-// place, and then the next job is this job with exactly that row more; a row that is refused leaves the job as it
-// stood. What is hard is to keep the copies of a job few: whether a row is in place is decided first, from what `stages` needs of it.
+// The promise is exact for every value, and not only for those that a book gives: a row is taken exactly if it is in place, and then the
+// next job is this job with exactly that row more; a row that is refused leaves the job as it stood. Whether a row is in place is decided
+// first, from what `stages` needs of it, so that the copies of a job are few.
 pub mod stages;
 
 use kinds::Numbers;

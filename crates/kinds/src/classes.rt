@@ -10,7 +10,7 @@ ghost use Rattle.kinds.specs.classes.Classes.{class-of, source, optional
 pub enum Source {
     Absent,
     Earth,
-    Written,
+    Own,
 }
 
 // What a row of a kind is to a combination.
@@ -42,7 +42,7 @@ pub fn source_of(kind: Kind) -> Source
         | Kind::TM
         | Kind::EX
         | Kind::WL
-        | Kind::SF => Source::Written,
+        | Kind::SF => Source::Own,
     }
 }
 

@@ -1,6 +1,6 @@
 // How the kinds of document 01's table are written, and the kind that a field is (refusal 3).
 //
-// What is hard is that a field is a kind exactly if the stretch between its quotes is, since no letter is a quote.
+// A field is a kind exactly if the stretch between its quotes is, since no letter is a quote.
 use crate::Kind;
 ghost use Rattle.kinds.specs.letters.Form.{KindAt};
 

@@ -1,6 +1,6 @@
 // Whether a row's numbers are in their ranges (document 01, refusal 11), which the table of kinds holds.
 //
-// What is hard is what is not there: a number that a column leaves empty has no range, and one that is not filled is in none.
+// A number that a column leaves empty has no range, and one that is not filled is in none.
 use crate::Column;
 use crate::Kind;
 use crate::Numbers;

@@ -1,7 +1,7 @@
 // The answer of a job, by value, and the lines that document 01, The printed answer, gives it.
 //
-// `worst` gives the lines of a combination, `answer` those of the river, and `verdicts` here whether they all say Y. What is hard is
-// their order, which `specs/` states once as a list, for the text and for the demands.
+// `worst` gives the lines of a combination, `answer` those of the river, and `verdicts` here whether they all say Y. Their order stands
+// once, as a list, in `specs/`, for the text and for the demands.
 pub mod verdicts;
 
 use checks::Figure;

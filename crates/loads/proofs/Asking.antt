@@ -40,7 +40,7 @@ optional-low Wind = omega arith
 optional-low Earthquake = omega arith
 
 -- the rows passed: what was asked of them, and, as long as none was refused, how many are optional, and their loads
-pub record Passed (fill : ℕ → ℕ → Coefficient) (rows : List Row) (n : ℕ) (in-range unblank : Bool) (count : ℕ) (loads : List Load) : Type 0 where
+pub record RowsAsked (fill : ℕ → ℕ → Coefficient) (rows : List Row) (n : ℕ) (in-range unblank : Bool) (count : ℕ) (loads : List Load) : Type 0 where
   pub size : length loads ≡ 16
   pub ranged : Decides in-range (AllRanged rows n)
   pub filled : Decides unblank (NoneBlank fill rows n)
@@ -48,15 +48,15 @@ pub record Passed (fill : ℕ → ℕ → Coefficient) (rows : List Row) (n : �
   pub laid : in-range ≡ true → unblank ≡ true → Laid fill rows n loads
 
 module _ (fill : ℕ → ℕ → Coefficient) (rows : List Row) where
-  pub passed-none : {loads : List Load} → Laid fill rows 0 loads → Passed fill rows 0 true true 0 loads
+  pub asked-none : {loads : List Load} → Laid fill rows 0 loads → RowsAsked fill rows 0 true true 0 loads
   unfolding AllRanged NoneBlank optionals Laid
-  passed-none l =
+  asked-none l =
       record { size = l .0; ranged = λ i h. absurd (omega arith); filled = λ i h. absurd (omega arith); optional = λ _ _. refl; laid = λ _ _. l }
 
-  module _ (n : ℕ) {ranged filled : Bool} {count : ℕ} {loads : List Load} (p : Passed fill rows n ranged filled count loads) where
-    pub passed-out : LoadOf fill (row-at rows n) OutOfRange → Passed fill rows (n + 1) false filled count loads
+  module _ (n : ℕ) {ranged filled : Bool} {count : ℕ} {loads : List Load} (p : RowsAsked fill rows n ranged filled count loads) where
+    pub asked-out : LoadOf fill (row-at rows n) OutOfRange → RowsAsked fill rows (n + 1) false filled count loads
     unfolding LoadOf AllRanged NoneBlank
-    passed-out t =
+    asked-out t =
         record {
           size = p .size;
           ranged = not-more (λ i. Ranged ((row-at rows i) .kind) ((row-at rows i) .numbers)) n t;
@@ -65,9 +65,9 @@ module _ (fill : ℕ → ℕ → Coefficient) (rows : List Row) where
           laid = λ e _. impossible cc;
         }
 
-    pub passed-blank : LoadOf fill (row-at rows n) NoCoefficient → Passed fill rows (n + 1) ranged false count loads
+    pub asked-blank : LoadOf fill (row-at rows n) NoCoefficient → RowsAsked fill rows (n + 1) ranged false count loads
     unfolding LoadOf AllRanged NoneBlank
-    passed-blank t =
+    asked-blank t =
         record {
           size = p .size;
           ranged = decides-more (λ i. Ranged ((row-at rows i) .kind) ((row-at rows i) .numbers)) n ranged (p .ranged) (t .0);
@@ -76,9 +76,9 @@ module _ (fill : ℕ → ℕ → Coefficient) (rows : List Row) where
           laid = λ _ e. impossible cc;
         }
 
-    pub passed-load : (load : Load) → n < 16 → LoadOf fill (row-at rows n) (Exerted load) → Passed fill rows (n + 1) ranged filled (count + optional (load .class)) (set loads n load)
+    pub asked-load : (load : Load) → n < 16 → LoadOf fill (row-at rows n) (Exerted load) → RowsAsked fill rows (n + 1) ranged filled (count + optional (load .class)) (set loads n load)
     unfolding LoadOf AllRanged NoneBlank optionals
-    passed-load load h t =
+    asked-load load h t =
         record {
           size = length-set loads n load ∙ p .size;
           ranged = decides-more (λ i. Ranged ((row-at rows i) .kind) ((row-at rows i) .numbers)) n ranged (p .ranged) (t .0);

@@ -14,7 +14,7 @@ use Rattle.sets.specs.declared.Load.{Load}
 use Rattle.sets.specs.declared.Loads.{Loads}
 use Rattle.sets.specs.Sets.{no-load, row}
 use Rattle.kinds.specs.declared.classes.Source.{Source}
-use Rattle.kinds.specs.declared.classes.Source.the-variants.{Absent, Earth, Written}
+use Rattle.kinds.specs.declared.classes.Source.the-variants.{Absent, Earth, Own}
 use Rattle.kinds.specs.classes.Classes.{source}
 use Rattle.loads.specs.forces.Exerts.{EarthLoad, Forces, Exerts}
 use Rattle.loads.proofs.forces.Exerting.{same-load}
@@ -40,7 +40,7 @@ exerts-one fill r a b p q = go (source (r .kind)) (p .forces) (q .forces)
         let e = same-push (pressed-one (f .pressed) (g .pressed)) in
         let k = subst₂ (λ (H y : ℕ). EarthLoad H y a) (e .0) (e .1) (f .exerts) in
         same-load class phase (k .v ∙ sym (g .exerts .v)) (k .x ∙ sym (g .exerts .x)) (k .h ∙ sym (g .exerts .h)) (k .twist ∙ sym (g .exerts .twist))
-    go Written f g = same-load class phase (f .v ∙ sym (g .v)) (f .x ∙ sym (g .x)) (f .h ∙ sym (g .h)) (f .twist ∙ sym (g .twist))
+    go Own f g = same-load class phase (f .v ∙ sym (g .v)) (f .x ∙ sym (g .x)) (f .h ∙ sym (g .h)) (f .twist ∙ sym (g .twist))
 
 -- ---- and the rows of a job one table of loads
 module _ (fill : ℕ → ℕ → Coefficient) (rows : List Row) (n : ℕ) where

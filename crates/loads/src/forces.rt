@@ -1,7 +1,5 @@
 // What one load row exerts (document 01, the job book and Earth pressure): its class, its phase, and its forces, from its own numbers or
 // from its fill; or why its job is refused, with 11 or 15.
-//
-// What is hard is that numbers have signs and zero has none.
 use arithmetic::signed::Amount;
 use earth::EarthAnswer;
 use kinds::Numbers;
@@ -89,7 +87,7 @@ pub(crate) fn load_of(row: Row) -> RowLoad
                 arm,
             )),
         },
-        Source::Written => {
+        Source::Own => {
             if !kinds::ranges::is_ranged(kind, numbers) {
                 return RowLoad::OutOfRange;
             }

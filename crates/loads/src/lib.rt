@@ -1,7 +1,7 @@
 // The loads of a job's load rows, or their refusal (document 01, refusals 11, 15 and 16 of a job).
 //
-// Everything above sees loads and no rows. One loop asks each row once. What is hard is the order of the refusals, which is over all the
-// rows and by number, and that past the rows of the job there stands no load.
+// Everything above sees loads and no rows. One loop asks each row once. The order of the refusals is over all the rows and by number, and
+// past the rows of the job there stands no load.
 mod forces;
 
 use forces::RowLoad;

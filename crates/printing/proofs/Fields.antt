@@ -141,8 +141,8 @@ worth-numeral (more {s} {d} some front h) = worth-append 0 s ((0x30 + d) ∷ [])
 worth-decimal : (n : ℕ) → worth 0 (decimal n) ≡ n
 worth-decimal n = worth-numeral (decimal-numeral n)
 
-first : List ℕ → ℕ
-first t = getD t 0 0
+first-byte : List ℕ → ℕ
+first-byte t = getD t 0 0
 
 check-by : ℕ → Check
 check-by last = cond (eqb last 0x50) OP (cond (eqb last 0x4D) OM (cond (eqb last 0x4C) SL (cond (eqb last 0x52) PR RK)))
@@ -151,11 +151,11 @@ combination-by : List ℕ → Combination
 combination-by t = cond (eqb (length t) 4) I (cond (eqb (length t) 6) III (cond (eqb (getD t 1 0) 0x49) II IV))
 
 pub read-name : List ℕ → LineName
-unfolding first combination-by check-by
+unfolding first-byte combination-by check-by
 read-name t =
-    cond (eqb (first t) 0x56) VERDICT
-    (cond (eqb (first t) 0x53) SC
-    (cond (eqb (first t) 0x43) CL (check (combination-by t) (check-by (getD t (length t - 1) 0)))))
+    cond (eqb (first-byte t) 0x56) VERDICT
+    (cond (eqb (first-byte t) 0x53) SC
+    (cond (eqb (first-byte t) 0x43) CL (check (combination-by t) (check-by (getD t (length t - 1) 0)))))
 
 pub name-read : (n : LineName) → read-name (name-text n) ≡ n
 unfolding read-name name-text combination-text check-text
@@ -184,12 +184,12 @@ name-read (check IV PR) = refl
 name-read (check IV RK) = refl
 
 pub read-value : List ℕ → Value
-unfolding first worth
+unfolding first-byte worth
 read-value t =
-    cond (eqb (first t) 0x41) accepted
-    (cond (eqb (first t) 0x4E) not-accepted
-    (cond (eqb (first t) 0x6E) none
-    (cond (eqb (first t) 0x6F) off (cond (eqb (first t) 0x2D) (minus (worth 0 (drop 1 t))) (number (worth 0 t))))))
+    cond (eqb (first-byte t) 0x41) accepted
+    (cond (eqb (first-byte t) 0x4E) not-accepted
+    (cond (eqb (first-byte t) 0x6E) none
+    (cond (eqb (first-byte t) 0x6F) off (cond (eqb (first-byte t) 0x2D) (minus (worth 0 (drop 1 t))) (number (worth 0 t))))))
 
 pub value-read : (v : Value) → read-value (value-text v) ≡ v
 unfolding read-value value-text
@@ -199,7 +199,7 @@ value-read none = refl
 value-read off = refl
 value-read (number n) =
     let d = decimal-plain n 0 (decimal-some n) in
-    rw (ne-eqb (first (decimal n)) 0x41 (λ e. omega arith), ne-eqb (first (decimal n)) 0x4E (λ e. omega arith), ne-eqb (first (decimal n)) 0x6E (λ e. omega arith), ne-eqb (first (decimal n)) 0x6F (λ e. omega arith), ne-eqb (first (decimal n)) 0x2D (λ e. omega arith), worth-decimal n)
+    rw (ne-eqb (first-byte (decimal n)) 0x41 (λ e. omega arith), ne-eqb (first-byte (decimal n)) 0x4E (λ e. omega arith), ne-eqb (first-byte (decimal n)) 0x6E (λ e. omega arith), ne-eqb (first-byte (decimal n)) 0x6F (λ e. omega arith), ne-eqb (first-byte (decimal n)) 0x2D (λ e. omega arith), worth-decimal n)
 value-read (minus n) = ap minus (worth-decimal n)
 
 pub read-cell : List ℕ → NumberField
@@ -212,8 +212,8 @@ cell-read empty = refl
 cell-read (holds n) = rw (ne-eqb (length (decimal n)) 0 (λ e. omega (arith, decimal-some n)), worth-decimal n)
 
 pub read-mark : List ℕ → YesOrNo
-unfolding first
-read-mark t = cond (eqb (length t) 0) unmarked (cond (eqb (first t) 0x59) Y N)
+unfolding first-byte
+read-mark t = cond (eqb (length t) 0) unmarked (cond (eqb (first-byte t) 0x59) Y N)
 
 pub mark-read : (m : YesOrNo) → read-mark (mark-text m) ≡ m
 unfolding read-mark mark-text

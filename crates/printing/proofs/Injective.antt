@@ -56,12 +56,12 @@ module _ (k k′ : Key) (l l′ : PrintedLine) (later later′ : List ℕ)
 
 -- ---- lines
 
-not-empty : (s : List ℕ) (x : ℕ) (t : List ℕ) → [] ≡ s ++ (x ∷ t) → ⊥
-not-empty [] x t e = impossible cc
-not-empty (y ∷ s) x t e = impossible cc
+none-not-some : (s : List ℕ) (x : ℕ) (t : List ℕ) → [] ≡ s ++ (x ∷ t) → ⊥
+none-not-some [] x t e = impossible cc
+none-not-some (y ∷ s) x t e = impossible cc
 
 line-some : (key : Key) (l : PrintedLine) (later : List ℕ) → [] ≡ line-text key l ++ later → ⊥
-line-some key l later e = not-empty (name-bytes (key .member)) COMMA _ (e ∙ line-laid key l later)
+line-some key l later e = none-not-some (name-bytes (key .member)) COMMA _ (e ∙ line-laid key l later)
 
 module _ (k k′ : Key) (member : Without COMMA (name-bytes (k .member))) (member′ : Without COMMA (name-bytes (k′ .member)))
     (job : Without COMMA (name-bytes (k .job))) (job′ : Without COMMA (name-bytes (k′ .job))) where

@@ -8,7 +8,7 @@ use lib.Dec.{eqb}
 use lib.ListN.{length, drop}
 use Rattle.csv.specs.rfc4180.Rfc4180.{Cell, Field, File}
 use Rattle.csv.proofs.rfc4180.Unique.{content-unique}
-use Rattle.arithmetic.proofs.Tests.{AllOf, all-of, decides-six}
+use Rattle.arithmetic.proofs.Tests.{AllSix, all-six, decides-six}
 use Rattle.arithmetic.specs.decides.Decides.{Decides, decides-both, decides-equal, decides-flag}
 use Rattle.csv.specs.cells.Cells.{offset, RowAt, CellAt}
 use Rattle.csv.specs.declared.cells.Cells.{Cells}
@@ -80,16 +80,16 @@ module _ {s : List ℕ} {c : Cells} {cs : List Cell} (t : TenAt s c cs) where
 
 -- six flags by one
 module _ (a b c d e f : Bool) where
-  abbrev All : Type 0
-  All = AllOf (a ≡ true) (b ≡ true) (c ≡ true) (d ≡ true) (e ≡ true) (f ≡ true)
+  abbrev EachFlag : Type 0
+  EachFlag = AllSix (a ≡ true) (b ≡ true) (c ≡ true) (d ≡ true) (e ≡ true) (f ≡ true)
 
   -- the six numbers are good if each of them is
-  pub six-by : (n : Numbers) (kind : Kind) (cs : List Cell) (k : Columns) → k ≡ columns kind → (All → Six k cs n) → ((m : Numbers) → Six k cs m → All) → NumbersGiven (all-of a b c d e f) n kind cs
+  pub six-by : (n : Numbers) (kind : Kind) (cs : List Cell) (k : Columns) → k ≡ columns kind → (EachFlag → Six k cs n) → ((m : Numbers) → Six k cs m → EachFlag) → NumbersGiven (all-six a b c d e f) n kind cs
   six-by n kind cs k z some none =
-      go (all-of a b c d e f)
+      go (all-six a b c d e f)
       (decides-six (a ≡ true) (b ≡ true) (c ≡ true) (d ≡ true) (e ≡ true) (f ≡ true) a b c d e f (decides-flag a) (decides-flag b) (decides-flag c) (decides-flag d) (decides-flag e) (decides-flag f))
     where
-      go : (r : Bool) → Decides r All → NumbersGiven r n kind cs
+      go : (r : Bool) → Decides r EachFlag → NumbersGiven r n kind cs
       go true h = subst (λ (j : Columns). Six j cs n) z (some h)
       go false h = λ m s. h (none m (subst (λ (j : Columns). Six j cs m) (sym z) s))
 

@@ -1,8 +1,8 @@
 // Member and job are together the key of a row (document 01, the job book): a row with its key, whether two keys are
 // one, and whether the next job may begin with a key (refusals 5 and 6).
 //
-// Keys are compared by their bytes, and the promise is about the keys themselves. What is hard is that names of one
-// length are one exactly if all their twelve bytes agree, so that the bytes behind a name must stand in the promise too.
+// Keys are compared by their bytes, and the promise is about the keys themselves. Names of one length are one exactly if all their twelve
+// bytes agree, so that the bytes behind a name stand in the promise too.
 use crate::refusals::Refusal;
 use fields::names::Name;
 use kinds::Kind;
@@ -27,7 +27,7 @@ pub struct Keyed {
 
 // Whether a job begins; or the refusal of its B row.
 pub enum Beginning {
-    Free,
+    Allowed,
     Barred(Refusal),
 }
 
@@ -90,5 +90,5 @@ pub fn may_begin(keys: [Key; 64], n: usize, key: Key) -> Beginning
         }
         i += 1;
     }
-    Beginning::Free
+    Beginning::Allowed
 }

@@ -3,14 +3,14 @@ use mathlib.Core.Path.{_≡_, refl}
 use Rattle.kinds.specs.declared.Numbers.{Numbers}
 use Rattle.scour.specs.Scour.{ScourTold, scour-told}
 use Rattle.scour.specs.declared.ScourAnswer.{ScourAnswer}
-use Rattle.scour.proofs.Scours.{scoured-one, scour-told-one}
+use Rattle.scour.proofs.Scours.{scour-rule-one, scour-told-one}
 use Rattle.scour.specs.River.{ScourSays, out-of-range, in-range}
 
 pub scour-says-one : {row : Numbers} {t u : ScourTold} → ScourSays row t → ScourSays row u → t ≡ u
 scour-says-one (out-of-range h) (out-of-range k) = refl
 scour-says-one (out-of-range h) (in-range r s) = absurd (h r)
 scour-says-one (in-range r s) (out-of-range h) = absurd (h r)
-scour-says-one (in-range p s) (in-range q t) = scoured-one s t
+scour-says-one (in-range p s) (in-range q t) = scour-rule-one s t
 
 -- no second answer meets the promise of `scour`
 pub scour-one : (row : Numbers) (r s : ScourAnswer) → ScourSays row (scour-told r) → ScourSays row (scour-told s) → r ≡ s

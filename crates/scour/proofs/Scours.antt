@@ -6,7 +6,7 @@ use native.Mathlib.Omega.{arith}
 use lib.Dec.{eqb}
 use Rattle.arithmetic.proofs.rounding.Laws.{least-one}
 use Rattle.scour.specs.lacey.Lacey.{Intensity, RegimeDepth, ConstrictedDepth, DepthNeeded}
-use Rattle.scour.specs.Scour.{ScourTold, refused, needs, scour-told, Constricted, LaceyDepth, regime, constricted, Scoured, large-catchment, too-intense, needed}
+use Rattle.scour.specs.Scour.{ScourTold, refused, needs, scour-told, Constricted, LaceyDepth, regime, constricted, ScourRule, large-catchment, too-intense, needed}
 use Rattle.scour.specs.declared.ScourAnswer.{ScourAnswer}
 use Rattle.scour.specs.declared.ScourAnswer.the-variants.{OutOfRange, LargeCatchment, TooIntense, Needed}
 use Rattle.scour.proofs.discharge.Rules.{discharge-one, no-discharge}
@@ -32,16 +32,16 @@ module _ {Q Z W : ℕ} where
     intense a h (regime b k u) = a .narrow k
     intense a h (constricted b k u) = omega (arith, intensity-one a b)
 
-    pub scoured-one : {reach : ℕ} {t u : ScourTold} → Scoured Q Z f W reach t → Scoured Q Z f W reach u → t ≡ u
-    scoured-one (large-catchment h) (large-catchment k) = refl
-    scoured-one (large-catchment h) (too-intense a k) = absurd (no-discharge h (a .flood))
-    scoured-one (large-catchment h) (needed l n) = absurd (large h l)
-    scoured-one (too-intense a h) (large-catchment k) = absurd (no-discharge k (a .flood))
-    scoured-one (too-intense a h) (too-intense b k) = refl
-    scoured-one (too-intense a h) (needed l n) = absurd (intense a h l)
-    scoured-one (needed l m) (large-catchment k) = absurd (large k l)
-    scoured-one (needed l m) (too-intense a k) = absurd (intense a k l)
-    scoured-one {reach} (needed l m) (needed {depth = d} k n) = ap needs (depth-needed-one m (subst (λ (D : ℕ). DepthNeeded D reach d) (lacey-one k l) n))
+    pub scour-rule-one : {reach : ℕ} {t u : ScourTold} → ScourRule Q Z f W reach t → ScourRule Q Z f W reach u → t ≡ u
+    scour-rule-one (large-catchment h) (large-catchment k) = refl
+    scour-rule-one (large-catchment h) (too-intense a k) = absurd (no-discharge h (a .flood))
+    scour-rule-one (large-catchment h) (needed l n) = absurd (large h l)
+    scour-rule-one (too-intense a h) (large-catchment k) = absurd (no-discharge k (a .flood))
+    scour-rule-one (too-intense a h) (too-intense b k) = refl
+    scour-rule-one (too-intense a h) (needed l n) = absurd (intense a h l)
+    scour-rule-one (needed l m) (large-catchment k) = absurd (large k l)
+    scour-rule-one (needed l m) (too-intense a k) = absurd (intense a k l)
+    scour-rule-one {reach} (needed l m) (needed {depth = d} k n) = ap needs (depth-needed-one m (subst (λ (D : ℕ). DepthNeeded D reach d) (lacey-one k l) n))
 
 back : ScourTold → ScourAnswer
 back (refused n) = cond (eqb n 11) OutOfRange (cond (eqb n 12) LargeCatchment TooIntense)

@@ -29,7 +29,7 @@ pub data LaceyDepth (Q Z f W D : ℕ) : Type 0 where
   constricted : {q : ℕ} → Constricted Q Z W q → q ≤ 50000 → ConstrictedDepth q f D → LaceyDepth Q Z f W D
 
 -- "12, catchment above 25,000; 13, the constricted rule applies and q is above 50,000"; else the depth needed
-pub data Scoured (Q Z f W reach : ℕ) : ScourTold → Type 0 where
-  large-catchment : 25000 < Z → Scoured Q Z f W reach (refused 12)
-  too-intense : {q : ℕ} → Constricted Q Z W q → 50000 < q → Scoured Q Z f W reach (refused 13)
-  needed : {D depth : ℕ} → LaceyDepth Q Z f W D → DepthNeeded D reach depth → Scoured Q Z f W reach (needs depth)
+pub data ScourRule (Q Z f W reach : ℕ) : ScourTold → Type 0 where
+  large-catchment : 25000 < Z → ScourRule Q Z f W reach (refused 12)
+  too-intense : {q : ℕ} → Constricted Q Z W q → 50000 < q → ScourRule Q Z f W reach (refused 13)
+  needed : {D depth : ℕ} → LaceyDepth Q Z f W D → DepthNeeded D reach depth → ScourRule Q Z f W reach (needs depth)

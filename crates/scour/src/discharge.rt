@@ -1,8 +1,7 @@
 // The discharge for which a foundation is designed (document 01, River rules, for 002, clause 4.4): Qf, from the discharge
 // and the catchment.
 //
-// What is hard is that the share falls with the catchment, in three pieces that meet, and that the products fit a word by
-// nothing but the bounds of both.
+// The share falls with the catchment, in three pieces that meet. The products fit a word by nothing but the bounds of both.
 ghost use Prim.Native.Nat.{_≤_};
 ghost use Rattle.scour.specs.discharge.Discharge.{FoundationDischarge};
 

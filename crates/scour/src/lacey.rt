@@ -1,7 +1,7 @@
 // Lacey's rules for scour (document 01, River rules, for 002, clauses 4.5.3, 4.6 and 6.9.1): the regime width, the depths in a
 // wide and in a constricted waterway, and the depth needed below flood.
 //
-// What is hard is size: the regime test takes all 64 bits of a word, and fits by nothing but the ranges in the table of kinds.
+// The regime test takes all 64 bits of a word, and fits by nothing but the ranges in the table of kinds.
 ghost use Prim.Native.Nat.{_≤_};
 ghost use Rattle.arithmetic.specs.decides.Decides.{Decides};
 ghost use Rattle.scour.specs.lacey.Lacey.{RegimeMet, RegimeDepth, ConstrictedDepth, DepthNeeded};

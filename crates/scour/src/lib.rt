@@ -1,8 +1,7 @@
 // The river rules of document 01 for scour, for an S row (002, clauses 4.4 to 4.6 and 6.9.1): the depth that it needs, or its refusal,
 // 11 to 13.
 //
-// What is hard is which discharge goes where: the regime test takes Q, the depths and q take Qf. Each rule bounds the number that it hands
-// to the next.
+// The regime test takes Q, the depths and q take Qf. Each rule bounds the number that it hands to the next.
 mod cubes;
 pub mod discharge;
 pub mod lacey;
@@ -25,7 +24,7 @@ pub enum ScourAnswer {
 // What the numbers of an S row give, where they are in range.
 fn scour_of(q: u64, z: u64, f: u64, w: u64, reach: u64) -> ScourAnswer
     requires { ⌜ (q ≤ 50000000) × (100 ≤ f) × (f ≤ 3000) × (1000 ≤ w) × (w ≤ 1300000) × (1 ≤ reach) × (reach ≤ 5) ⌝ }
-    ensures { λ r. ⌜ scour.Scoured q z f w reach (scour.scour-told r) ⌝ }
+    ensures { λ r. ⌜ scour.ScourRule q z f w reach (scour.scour-told r) ⌝ }
 {
     if 25000 < z {
         return ScourAnswer::LargeCatchment;

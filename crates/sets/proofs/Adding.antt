@@ -221,7 +221,7 @@ unfolding parts-of
 parts-low a m e h = rw e (omega (arith, above-size a), omega (arith, below-size a))
 
 -- one row's numbers
-pub record Slight (load : Load) : Type 0 where
+pub record SmallLoad (load : Load) : Type 0 where
   pub down : above (worth (load .v)) ≤ 50000
   pub up : below (worth (load .v)) ≤ 50000
   pub onward : above (worth (load .x)) ≤ 32000
@@ -231,8 +231,8 @@ pub record Slight (load : Load) : Type 0 where
   pub turning : above (worth (load .twist)) ≤ 3000000000
   pub returning : below (worth (load .twist)) ≤ 3000000000
 
-pub slight : {load : Load} → BoundedLoad load → Slight load
-slight {load} b =
+pub small-load : {load : Load} → BoundedLoad load → SmallLoad load
+small-load {load} b =
     record {
       down = omega (arith, above-size (load .v), b .v);
       up = omega (arith, below-size (load .v), b .v);
@@ -278,14 +278,14 @@ module _ (width : ℕ) (load : Load) (wide : width ≤ 30000) (b : BoundedLoad l
   row-moment : ((moment-of load) .above ≤ 2 ^ 34) × ((moment-of load) .below ≤ 2 ^ 34)
   unfolding parts-of
   row-moment =
-      let s = slight b in
+      let s = small-load b in
       subst (λ (p : Parts). (p .above ≤ 2 ^ 34) × (p .below ≤ 2 ^ 34)) (moment-parts load)
       (moment-room _ _ _ (s .down) (s .up) (s .onward) (s .inward) (s .turning) (s .returning))
 
   row-plus : ((balance-of plus width load) .resisting ≤ 2 ^ 34) × ((balance-of plus width load) .overturning ≤ 2 ^ 34)
   unfolding parts-of
   row-plus =
-      let s = slight b in
+      let s = small-load b in
       let x = worth (load .x) in
       subst (λ (p : Balance). (p .resisting ≤ 2 ^ 34) × (p .overturning ≤ 2 ^ 34)) (balance-plus width load)
       (balance-room _ _ _ _ (s .down) (s .up)
@@ -294,7 +294,7 @@ module _ (width : ℕ) (load : Load) (wide : width ≤ 30000) (b : BoundedLoad l
   row-minus : ((balance-of minus width load) .resisting ≤ 2 ^ 34) × ((balance-of minus width load) .overturning ≤ 2 ^ 34)
   unfolding parts-of
   row-minus =
-      let s = slight b in
+      let s = small-load b in
       let x = worth (load .x) in
       subst (λ (p : Balance). (p .resisting ≤ 2 ^ 34) × (p .overturning ≤ 2 ^ 34)) (balance-minus width load)
       (balance-room _ _ _ _ (s .down) (s .up)
@@ -303,7 +303,7 @@ module _ (width : ℕ) (load : Load) (wide : width ≤ 30000) (b : BoundedLoad l
   pub room-row : (place : ℕ) → place ≤ 2 ^ 34 → Room 1 (terms-of width load place)
   unfolding terms-of parts-of
   room-row place near =
-      let s = slight b in
+      let s = small-load b in
       let m = row-moment in
       let p = row-plus in
       let n = row-minus in

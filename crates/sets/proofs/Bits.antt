@@ -33,8 +33,8 @@ no-rest s n i rest p q e z =
     let h : s / 2 ^ n < 1 = rw (← m, ← e, z) (lit< tt) in
     simp one-mul at (div-lt-iff-lt-mul (pow-pos n) .0 h)
 
-pub rest-none : (s n i rest : ℕ) → i ≤ n → n ≤ i → rest ≡ s / 2 ^ i → s < 2 ^ n → rest ≡ 0
-rest-none s n i rest p q e h = let m : i ≡ n = le-antisymm p q in e ∙ rw m (div-eq-of-lt h)
+pub no-bits-left : (s n i rest : ℕ) → i ≤ n → n ≤ i → rest ≡ s / 2 ^ i → s < 2 ^ n → rest ≡ 0
+no-bits-left s n i rest p q e h = let m : i ≡ n = le-antisymm p q in e ∙ rw m (div-eq-of-lt h)
 
 -- a set of the rows below i has none of the others
 pub bit-above : (s i : ℕ) → s < 2 ^ i → bit s i ≡ 0

@@ -1,6 +1,6 @@
 // Which numbers of wind and earthquake rows a combination permits in a set (document 01, Load sets; 002, 5.13).
 //
-// What is hard is that the definition speaks of rows of a class that are or are not there, and the program of how many it counts.
+// The definition speaks of rows of a class that are or are not there, and the program of how many it counts.
 use crate::Combination;
 ghost use Rattle.arithmetic.specs.decides.Decides.{Decides};
 ghost use Rattle.sets.specs.steps.Deciding.{Admits};

@@ -1,7 +1,7 @@
 // The loads of a job, what its load sets are, and the sums over a set (document 01, Load sets; 002, 5.13).
 //
-// A set is a bit pattern: the first load row counts 1, the next 2, the next 4. What is hard is to keep the definition free of any
-// order of going through the sets, and to add whole numbers by their natural parts alone.
+// A set is a bit pattern: the first load row counts 1, the next 2, the next 4. The definition names no order of going through the sets, and
+// whole numbers are added by their natural parts alone.
 pub mod admission;
 pub mod arising;
 pub mod phases;

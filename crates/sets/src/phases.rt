@@ -1,7 +1,7 @@
 // Which phases a combination is over, and whether a row may stand in a set of it (document 01, Load sets; 002, 5.13).
 //
-// I, II and III are over phases 0 and 2, IV over 1 and 2. What is hard is that a permanent row that acts may not be left out, while
-// a row that does not act may not be in.
+// I, II and III are over phases 0 and 2, IV over 1 and 2. A permanent row that acts may not be left out, and a row that does not act may
+// not be in.
 use crate::Class;
 use crate::Combination;
 use crate::Load;

@@ -1,7 +1,7 @@
 // Whether a combination permits a set of a job's load rows (document 01, Load sets; 002, 5.13).
 //
-// The decision for any one set, whatever its number: for whoever asks of a set, as a reviewer does. The search for the worst set goes
-// through the choices of the free rows and does not ask it. What is hard is that a set may name rows that the job has not.
+// The decision for any one set, whatever its number, also one that names rows that the job has not: for whoever asks of a set, as a
+// reviewer does. The search for the worst set goes through the choices among the rows and does not ask it.
 use sets::Combination;
 use sets::Loads;
 ghost use Rattle.arithmetic.specs.decides.Decides.{Decides};

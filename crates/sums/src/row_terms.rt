@@ -1,7 +1,6 @@
 // What one load row gives to each sum over a set (document 01, Load sets).
 //
-// M sums 2Vx + 2Hy; at an edge V(B - 2x) or V(B + 2x) stands beside 2Hy. What is hard is that each is a whole number and is reckoned
-// by its natural parts, and which arm and which part of the twist belong to which edge.
+// M sums 2Vx + 2Hy; at an edge V(B - 2x) or V(B + 2x) stands beside 2Hy. Each is a whole number, and is reckoned by its natural parts.
 use arithmetic::signed::Parts;
 use sets::Balance;
 use sets::Class;

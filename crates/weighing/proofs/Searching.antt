@@ -22,7 +22,7 @@ module _ (s : Side) (P : ℕ → Type 0) (Shown : ℕ → Figure → Type 0) whe
     pub ranks : Ranks s (Shown (r .set)) (r .rank)
 
   -- r does not come after t
-  pub record Before (r : RankedSet) (t : ℕ) : Type 0 where
+  pub record NotAfter (r : RankedSet) (t : ℕ) : Type 0 where
     pub rank : ℕ
     pub ranks : Ranks s (Shown t) rank
     pub weighs : weight-of r ≤ weight rank t
@@ -31,12 +31,12 @@ module _ (s : Side) (P : ℕ → Type 0) (Shown : ℕ → Figure → Type 0) whe
   pub record Extends (F : ℕ → Type 0) (b r : RankedSet) : Type 0 where
     pub from : (r ≡ b) ⊎ Reached r
     pub kept : weight-of r ≤ weight-of b
-    pub first : (t : ℕ) → F t → P t → Before r t
+    pub first : (t : ℕ) → F t → P t → NotAfter r t
 
   pub nothing-yet : {F : ℕ → Type 0} {b : RankedSet} → ((t : ℕ) → F t → ⊥) → Extends F b b
   nothing-yet none = record { from = inl refl; kept = le-refl _; first = λ t f. absurd (none t f) }
 
-  later : {c r : RankedSet} {t : ℕ} → weight-of r ≤ weight-of c → Before c t → Before r t
+  later : {c r : RankedSet} {t : ℕ} → weight-of r ≤ weight-of c → NotAfter c t → NotAfter r t
   later h w = record { rank = w .rank; ranks = w .ranks; weighs = le-trans h (w .weighs) }
 
   module _ {F H : ℕ → Type 0} {b c : RankedSet} (u : ℕ) (so-far : Extends F b c) (split : (t : ℕ) → H t → F t ⊎ (t ≡ u)) where
@@ -46,7 +46,7 @@ module _ (s : Side) (P : ℕ → Type 0) (Shown : ℕ → Figure → Type 0) whe
         record {
           from = ⊎-elim (λ e. ⊎-elim (λ d. inl (e ∙ d)) (λ k. inr (subst Reached (sym e) k)) (so-far .from)) (λ e. inr (here e)) (w .worse .from);
           kept = le-trans (w .worse .kept) (so-far .kept);
-          first = λ t f k. ⊎-elim (λ x. later (w .worse .kept) (so-far .first t x k)) (λ e. subst (Before r) (sym e) own) (split t f);
+          first = λ t f k. ⊎-elim (λ x. later (w .worse .kept) (so-far .first t x k)) (λ e. subst (NotAfter r) (sym e) own) (split t f);
         }
       where
         here : (r .rank ≡ w .rank) × (r .set ≡ u) → Reached r
@@ -56,7 +56,7 @@ module _ (s : Side) (P : ℕ → Type 0) (Shown : ℕ → Figure → Type 0) whe
               ranks = subst (λ (n : ℕ). Ranks s (Shown n) (r .rank)) (sym (e .1)) (subst (Ranks s (Shown u)) (sym (e .0)) (w .ranks));
             }
 
-        own : Before r u
+        own : NotAfter r u
         own = record { rank = w .rank; ranks = w .ranks; weighs = w .worse .first }
 
     -- or a set more that is not permitted
@@ -76,7 +76,7 @@ module _ (s : Side) (P : ℕ → Type 0) (Shown : ℕ → Figure → Type 0) whe
     unfolding weight-of weight
     ends-empty e t h = ⊎-elim start (λ k. omega (arith, some (r .set) (k .permitted))) (all .from)
       where
-        w : Before r t
+        w : NotAfter r t
         w = all .first t (whole t h) h
 
         start : r ≡ b → ⊥
@@ -95,7 +95,7 @@ module _ (s : Side) (P : ℕ → Type 0) (Shown : ℕ → Figure → Type 0) whe
       shown =
           subst (Shown (r .set)) (rank-one s (reached .ranks .figure) v (reached .ranks .sound) sound (reached .ranks .ranked ∙ sym ranked)) (reached .ranks .holds)
 
-      before : (t : ℕ) → P t → Before r t
+      before : (t : ℕ) → P t → NotAfter r t
       before t h = all .first t (whole t h) h
 
       at : (t : ℕ) (w : Figure) (h : P t) → Shown t w → rank s w ≡ before t h .rank

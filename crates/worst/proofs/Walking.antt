@@ -30,13 +30,13 @@ use Rattle.weighing.specs.declared.Worst.{Worst}
 use Rattle.weighing.specs.declared.ranked.RankedSet.{RankedSet}
 use Rattle.worst.specs.declared.term_table.Table.{Table}
 use Rattle.weighing.specs.steps.Ranked.{Offered}
-use Rattle.worst.specs.steps.Stance.{free, pick, chosen, stance-at}
+use Rattle.worst.specs.steps.Stance.{choosable, pick, chosen, stance-at}
 use Rattle.weighing.specs.steps.Weighs.{ranked-of, Weighed, Weighs, Visits}
 use Rattle.worst.specs.steps.Table.{terms-at}
 use Rattle.worst.specs.steps.Filling.{TableIs}
 use Rattle.worst.specs.steps.Search.{Walked}
 use Rattle.weighing.proofs.Searching.{Extends, nothing-yet, offer, skip, ends-named, ends-empty}
-use Rattle.worst.proofs.choices.Choices.{pick-low, pick-bit, Stands, Made, made, sums-number, Tabled, pick-sums}
+use Rattle.worst.proofs.choices.Choices.{pick-low, pick-bit, KeepsStances, Made, made, sums-number, Tabled, pick-sums}
 use Rattle.worst.proofs.choices.Rows.{stance-says, held-never, held-always, stance-fits}
 
 -- ---- the choices gone through, and what is found over all of them
@@ -44,13 +44,13 @@ use Rattle.worst.proofs.choices.Rows.{stance-says, held-never, held-alw
 unfoldable pub set-of : Combination → Loads → ℕ → ℕ
 set-of combination loads k = pick (stance-at combination loads) (loads .count) k
 
-unfoldable pub Passed : Combination → Loads → ℕ → ℕ → Type 0
-Passed combination loads n t = (k : ℕ) × (k < n) × (t ≡ set-of combination loads k)
+unfoldable pub GoneThrough : Combination → Loads → ℕ → ℕ → Type 0
+GoneThrough combination loads n t = (k : ℕ) × (k < n) × (t ≡ set-of combination loads k)
 
 -- the worst so far, check by check, after the first n choices
 unfoldable pub So-far : Combination → Base → Loads → Bool → ℕ → RankedSet → Worst → Type 0
 So-far combination base loads serves n none worst =
-    (check : Check) → Weighed serves base check → Extends (side check) (Permitted combination loads) (Shows check base loads) (Passed combination loads n) none (ranked-of check worst)
+    (check : Check) → Weighed serves base check → Extends (side check) (Permitted combination loads) (Shows check base loads) (GoneThrough combination loads n) none (ranked-of check worst)
 
 module _ (combination : Combination) (base : Base) (loads : Loads) (bounded : Bounded loads) (arises : Arises combination loads) where
   pub set-low : (k : ℕ) → set-of combination loads k < 65536
@@ -67,7 +67,7 @@ module _ (combination : Combination) (base : Base) (loads : Loads) (bounded : Bo
 
   -- the sums of a choice are those of its set
   pub choice-sums : (table : Table) (k : ℕ) → TableIs combination (base .width) loads (loads .count) table
-      → chosen (table .fixed) (terms-at (table .terms)) k (table .free) ≡ sums-of (base .width) loads (set-of combination loads k)
+      → chosen (table .fixed) (terms-at (table .terms)) k (table .choosable) ≡ sums-of (base .width) loads (set-of combination loads k)
   unfolding set-of sums-of Tabled
   choice-sums table k f =
       (λ i. chosen (f .always i) (terms-at (table .terms)) k (f .count i)) ∙ sym (pick-sums (stance-at combination loads) (base .width) loads (terms-at (table .terms)) (loads .count) k (f .rows))
@@ -77,9 +77,9 @@ module _ (combination : Combination) (base : Base) (loads : Loads) (bounded : Bo
   set-number k = sums-number (base .width) loads _ (loads .count) (pick-low (stance-at combination loads) (loads .count) k)
 
   -- one choice more
-  passed-more : (n t : ℕ) → Passed combination loads (n + 1) t → Passed combination loads n t ⊎ (t ≡ set-of combination loads n)
-  unfolding Passed
-  passed-more n t w =
+  gone-through-more : (n t : ℕ) → GoneThrough combination loads (n + 1) t → GoneThrough combination loads n t ⊎ (t ≡ set-of combination loads n)
+  unfolding GoneThrough
+  gone-through-more n t w =
       by-cases (decLt (w .0) n) (λ h. inl (w .0, h, w .2)) (λ h. let e : w .0 ≡ n = omega (arith, w .1) in inr (w .2 ∙ ap (set-of combination loads) e))
 
   pub one-choice : (serves : Bool) (n : ℕ) (none : RankedSet) {sums : Sums} {b r : Worst} → sums ≡ sums-of (base .width) loads (set-of combination loads n) → Visits combination serves base sums b r
@@ -95,9 +95,9 @@ module _ (combination : Combination) (base : Base) (loads : Loads) (bounded : Bo
 
       inside : Admits combination (sums .winds) (sums .quakes) (sums .set)
           × Weighs serves base sums b r
-          → Extends (side check) (Permitted combination loads) (Shows check base loads) (Passed combination loads (n + 1)) none (ranked-of check r)
+          → Extends (side check) (Permitted combination loads) (Shows check base loads) (GoneThrough combination loads (n + 1)) none (ranked-of check r)
       inside w =
-          offer (side check) (Permitted combination loads) (Shows check base loads) (set-of combination loads n) (so check on) (passed-more n)
+          offer (side check) (Permitted combination loads) (Shows check base loads) (set-of combination loads n) (so check on) (gone-through-more n)
           (permits (base .width) loads (set-of combination loads n) combination (fits n) arises (subst (λ (A : Type 0). A) admits (w .0)))
           (shown (w .1 .offered check on))
         where
@@ -111,20 +111,20 @@ module _ (combination : Combination) (base : Base) (loads : Loads) (bounded : Bo
               })
 
       outside : (Admits combination (sums .winds) (sums .quakes) (sums .set) → ⊥) × (r ≡ b)
-          → Extends (side check) (Permitted combination loads) (Shows check base loads) (Passed combination loads (n + 1)) none (ranked-of check r)
+          → Extends (side check) (Permitted combination loads) (Shows check base loads) (GoneThrough combination loads (n + 1)) none (ranked-of check r)
       outside w =
-          subst⁻¹ (λ (x : Worst). Extends (side check) (Permitted combination loads) (Shows check base loads) (Passed combination loads (n + 1)) none (ranked-of check x)) (w .1)
-          (skip (side check) (Permitted combination loads) (Shows check base loads) (set-of combination loads n) (so check on) (passed-more n)
+          subst⁻¹ (λ (x : Worst). Extends (side check) (Permitted combination loads) (Shows check base loads) (GoneThrough combination loads (n + 1)) none (ranked-of check x)) (w .1)
+          (skip (side check) (Permitted combination loads) (Shows check base loads) (set-of combination loads n) (so check on) (gone-through-more n)
           (λ p. w .0 (subst⁻¹ (λ (A : Type 0). A) admits (admitted (base .width) loads (set-of combination loads n) combination p))))
 
   -- every permitted set is a choice
-  every : (t : ℕ) → Permitted combination loads t → Passed combination loads (2 ^ free (stance-at combination loads) (loads .count)) t
-  unfolding Passed set-of Made Stands stance-at
+  every : (t : ℕ) → Permitted combination loads t → GoneThrough combination loads (2 ^ choosable (stance-at combination loads) (loads .count)) t
+  unfolding GoneThrough set-of Made KeepsStances stance-at
   every t p =
       let m = made (stance-at combination loads) t (loads .count) (p .within) (λ i h. (held-never combination loads t i p h, held-always combination loads t i p h)) in
       (m .0, m .1, sym (m .2))
 
-  pub all-found : (serves : Bool) (n : ℕ) (none : RankedSet) (worst : Worst) → n ≡ 2 ^ free (stance-at combination loads) (loads .count) → none .set ≡ 0 → none .rank ≡ 2 ^ 64 - 1
+  pub all-found : (serves : Bool) (n : ℕ) (none : RankedSet) (worst : Worst) → n ≡ 2 ^ choosable (stance-at combination loads) (loads .count) → none .set ≡ 0 → none .rank ≡ 2 ^ 64 - 1
       → Decides serves (Service combination) → So-far combination base loads serves n none worst → Walked combination base loads worst
   unfolding Walked So-far Weighed HasCheck
   all-found serves n none worst e z l d so check has =
@@ -144,8 +144,8 @@ module _ (combination : Combination) (base : Base) (loads : Loads) (bounded : Bo
       weighed PR h = tt
       weighed RK h = h
 
-      over : Extends (side check) (Permitted combination loads) (Shows check base loads) (Passed combination loads (2 ^ free (stance-at combination loads) (loads .count))) none (ranked-of check worst)
-      over = subst (λ (m : ℕ). Extends (side check) (Permitted combination loads) (Shows check base loads) (Passed combination loads m) none (ranked-of check worst)) e (so check (weighed check has))
+      over : Extends (side check) (Permitted combination loads) (Shows check base loads) (GoneThrough combination loads (2 ^ choosable (stance-at combination loads) (loads .count))) none (ranked-of check worst)
+      over = subst (λ (m : ℕ). Extends (side check) (Permitted combination loads) (Shows check base loads) (GoneThrough combination loads m) none (ranked-of check worst)) e (so check (weighed check has))
 
       some : (t : ℕ) → Permitted combination loads t → 0 < t
       some t p = p .some
@@ -157,7 +157,7 @@ module _ (combination : Combination) (base : Base) (loads : Loads) (bounded : Bo
       one t v w p q = shows-one check base loads t v w p q
 
   pub nothing-passed : (serves : Bool) (none : RankedSet) (worst : Worst) → ((check : Check) → ranked-of check worst ≡ none) → So-far combination base loads serves 0 none worst
-  unfolding So-far Passed
+  unfolding So-far GoneThrough
   nothing-passed serves none worst e check on =
-      subst⁻¹ (Extends (side check) (Permitted combination loads) (Shows check base loads) (Passed combination loads 0) none) (e check)
+      subst⁻¹ (Extends (side check) (Permitted combination loads) (Shows check base loads) (GoneThrough combination loads 0) none) (e check)
       (nothing-yet (side check) (Permitted combination loads) (Shows check base loads) (λ t w. omega (arith, w .1)))

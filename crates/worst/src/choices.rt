@@ -1,4 +1,4 @@
-// The choices of a combination's free rows, and the sets that they make (document 01, Load sets).
+// The choices among the rows of a combination, and the sets that they make (document 01, Load sets).
 //
 // What is hard is that every permitted set is a choice, and that the sums of a choice are those of its set. A search in any order of
 // the choices rests on these two laws.
@@ -8,7 +8,7 @@ use sets::Load;
 ghost use mathlib.Core.Path.{_≡_};
 ghost use Rattle.worst.specs.steps.Stance.{stance-of};
 
-// A row is in no set of the combination, in every one, or free.
+// A row is in no set of the combination, in every one, or choosable.
 pub enum Stance {
     Never,
     Always,

@@ -1,6 +1,6 @@
 // The worst permitted set of a combination for each check, and the line that names it (document 01, Load sets).
 //
-// One walk goes through the choices of the combination's free rows and weighs all its checks at once. What is hard is that every
+// One walk goes through the choices of the combination's choosable rows and weighs all its checks at once. What is hard is that every
 // permitted set is a choice and no other, and that the promise of the walk names no order: it is only that no permitted set comes
 // before the one that is named.
 mod choices;
@@ -35,7 +35,7 @@ fn walk(combination: Combination, base: Base, loads: Loads) -> Worst
     let serves = checks::service::serves(combination);
     let table = term_table::fill(combination, base.width, loads);
     let terms = table.terms;
-    let free = table.free;
+    let choosable = table.choosable;
     let fixed = table.fixed;
     let none = RankedSet { rank: TOP, set: 0 };
     let mut worst = Worst {
@@ -45,14 +45,14 @@ fn walk(combination: Combination, base: Base, loads: Loads) -> Worst
         pr: none,
         rk: none,
     };
-    let low = free / 4;
+    let low = choosable / 4;
     let step = 1u64 << low;
-    let choices = 1u64 << free;
+    let choices = 1u64 << choosable;
     let mut upper = fixed;
     let mut k: u64 = 0;
     while k < choices {
         if k % step == 0 {
-            upper = term_table::sums_at(&terms, low, free - low, k / step, fixed);
+            upper = term_table::sums_at(&terms, low, choosable - low, k / step, fixed);
         }
         let sums = term_table::sums_at(&terms, 0, low, k % step, upper);
         worst = weighing::visit(combination, serves, base, sums, worst);

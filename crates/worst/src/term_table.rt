@@ -1,8 +1,8 @@
-// The table of a combination's rows (document 01, Load sets): the terms of those that are free, 13 numbers each and at most 16 rows, so
+// The table of a combination's rows (document 01, Load sets): the terms of those that are choosable, 13 numbers each and at most 16 rows, so
 // 208 numbers; and the sums of the rows in every set of it.
 //
-// A search adds the terms of the chosen rows for each set that it weighs, so they lie side by side in one lent array. What is hard is that
-// each free row's place in the table is the number of free rows before it, by which a choice holds it.
+// A search adds the terms of the chosen rows for each set that it weighs, so they lie side by side in one lent array. A choosable row's
+// place there is the number of choosable rows before it, by which a choice holds it.
 use crate::choices::Stance;
 use arithmetic::signed::Parts;
 use sets::Balance;
@@ -17,10 +17,10 @@ ghost use Rattle.worst.specs.steps.Stance.{chosen};
 ghost use Rattle.sets.specs.Sets.{Bounded};
 ghost use Rattle.worst.specs.steps.Filling.{TableIs};
 
-// The rows of a combination: the terms of its free rows, 13 numbers each, how many they are, and the sums of the rows in every set.
+// The rows of a combination: the terms of its choosable rows, 13 numbers each, how many they are, and the sums of the rows in every set.
 pub struct Table {
     pub terms: [u64; 208],
-    pub free: usize,
+    pub choosable: usize,
     pub fixed: Sums,
 }
 
@@ -127,7 +127,7 @@ pub(crate) fn fill(combination: Combination, width: u64, loads: Loads) -> Table
 {
     let count = loads.count;
     let mut terms = [0u64; 208];
-    let mut free: usize = 0;
+    let mut choosable: usize = 0;
     let mut fixed = sets::no_sums();
     let mut place: u64 = 1;
     let mut i: usize = 0;
@@ -141,13 +141,17 @@ pub(crate) fn fill(combination: Combination, width: u64, loads: Loads) -> Table
                 fixed = sets::add_sums(fixed, sums);
             }
             Stance::Either => {
-                let next = put_terms(terms, free, sums);
+                let next = put_terms(terms, choosable, sums);
                 terms = next;
-                free = free + 1;
+                choosable = choosable + 1;
             }
         }
         place = 2 * place;
         i = i + 1;
     }
-    Table { terms, free, fixed }
+    Table {
+        terms,
+        choosable,
+        fixed,
+    }
 }

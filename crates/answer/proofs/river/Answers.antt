@@ -5,7 +5,7 @@ use mathlib.Core.Bool.{Bool}
 use Rattle.arithmetic.specs.decides.Decides.{Decides, decides-one}
 use Rattle.jobs.specs.declared.Job.{Job}
 use Rattle.clearance.specs.declared.ClearanceAnswer.the-variants as clearance
-use Rattle.scour.proofs.Scours.{scoured-one}
+use Rattle.scour.proofs.Scours.{scour-rule-one}
 use Rattle.clearance.proofs.Told.{clearance-told-one}
 use Rattle.clearance.proofs.Clearances.{cleared-one}
 use Rattle.lines.specs.declared.RiverLine.{RiverLine}
@@ -21,7 +21,7 @@ module _ (job : Job) where
   depth-one line.Missing (line.Shown k n f y) p q = absurd (p (q .founded))
   depth-one (line.Shown k n f y) line.Missing p q = absurd (q (p .founded))
   depth-one (line.Shown k n f y) (line.Shown l m g z) p q =
-      let s = scoured-one (p .value) (q .value) in
+      let s = scour-rule-one (p .value) (q .value) in
       let a : n ≡ m = cc in
       let b : f ≡ g = p .limit ∙ sym (q .limit) in
       let h : k ≡ l = p .plain ∙ sym (q .plain) in

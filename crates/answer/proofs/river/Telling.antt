@@ -21,7 +21,7 @@ use Rattle.scour.proofs.River.{scour-says-one}
 use Rattle.clearance.proofs.Clearances as clearances
 use Rattle.lines.specs.declared.RiverLine.{RiverLine}
 use Rattle.lines.specs.declared.RiverLine.the-variants as lines
-use Rattle.answer.specs.river.River.{LargeCatchment, TooIntense, OverObstructed, OnRock, DepthShown, DepthIs, ClearShown, ClearIs, RiverRanged, Passed, RiverSays}
+use Rattle.answer.specs.river.River.{LargeCatchment, TooIntense, OverObstructed, OnRock, DepthShown, DepthIs, ClearShown, ClearIs, RiverRanged, ScourAllowed, RiverSays}
 use Rattle.answer.specs.river.River as says
 use Rattle.answer.specs.river.Rows.{DepthLineIs, DepthGiven, ClearLineIs, ClearGiven, both}
 use Rattle.answer.specs.declared.river.RowGives.{RowGives}
@@ -39,7 +39,7 @@ pub data DepthGives (job : Job) : RowGives → Type 0 where
   out-of-range : (Depth-ranged job → ⊥) → DepthGives job (Refused 11)
   large : Depth-ranged job → LargeCatchment job → DepthGives job (Refused 12)
   intense : Depth-ranged job → (LargeCatchment job → ⊥) → TooIntense job → DepthGives job (Refused 13)
-  line : {l : RiverLine} → Depth-ranged job → Passed job → DepthIs job l → DepthGives job (Line l)
+  line : {l : RiverLine} → Depth-ranged job → ScourAllowed job → DepthIs job l → DepthGives job (Line l)
 
 pub data ClearGives (job : Job) : RowGives → Type 0 where
   unranged : (Clear-ranged job → ⊥) → ClearGives job (Refused 11)
@@ -56,14 +56,14 @@ module _ (job : Job) where
 
   -- the S row
   module _ (has : HasScour (job .stage)) (rock : Bool) (strata : Decides rock (OnRock job)) where
-    depth-line : (needed : ℕ) (l : RiverLine) → scour.Scoured (job .scour .n1 .size) (job .scour .n2 .size) (job .scour .n3 .size) (job .scour .n4 .size) (job .scour .n5 .size) (scour.needs needed)
+    depth-line : (needed : ℕ) (l : RiverLine) → scour.ScourRule (job .scour .n1 .size) (job .scour .n2 .size) (job .scour .n3 .size) (job .scour .n4 .size) (job .scour .n5 .size) (scour.needs needed)
         → DepthLineIs rock needed (job .scour .n6 .size) l → DepthIs job l
     depth-line needed lines.Missing v w = λ f. f .soil (decided rock w strata)
     depth-line needed (lines.Shown minus n f passes) v w =
         record {
           founded = record { soil = refuted rock (w .0) strata; has = has };
           plain = w .1;
-          value = subst (λ (x : ℕ). scour.Scoured (job .scour .n1 .size) (job .scour .n2 .size) (job .scour .n3 .size) (job .scour .n4 .size) (job .scour .n5 .size) (scour.needs x)) (sym (w .2)) v;
+          value = subst (λ (x : ℕ). scour.ScourRule (job .scour .n1 .size) (job .scour .n2 .size) (job .scour .n3 .size) (job .scour .n4 .size) (job .scour .n5 .size) (scour.needs x)) (sym (w .2)) v;
           limit = w .3;
           mark = w .4;
         }

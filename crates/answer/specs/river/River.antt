@@ -45,7 +45,7 @@ pub record Founded (job : Job) : Type 0 where
 pub record DepthShown (job : Job) (minus : Bool) (needed found : ℕ) (passes : Bool) : Type 0 where
   pub founded : Founded job
   pub plain : minus ≡ false
-  pub value : scour.Scoured (job .scour .n1 .size) (job .scour .n2 .size) (job .scour .n3 .size) (job .scour .n4 .size) (job .scour .n5 .size) (scour.needs needed)
+  pub value : scour.ScourRule (job .scour .n1 .size) (job .scour .n2 .size) (job .scour .n3 .size) (job .scour .n4 .size) (job .scour .n5 .size) (scour.needs needed)
   pub limit : found ≡ job .scour .n6 .size
   pub mark : Decides passes (needed ≤ found)
 
@@ -71,7 +71,7 @@ pub record RiverRanged (job : Job) : Type 0 where
   pub scour : HasScour (job .stage) → Ranged S (job .scour)
   pub clearance : HasClearance (job .stage) → Ranged C (job .clearance)
 
-pub record Passed (job : Job) : Type 0 where
+pub record ScourAllowed (job : Job) : Type 0 where
   pub catchment : LargeCatchment job → ⊥
   pub intensity : TooIntense job → ⊥
 
@@ -79,5 +79,5 @@ pub data RiverSays (job : Job) : RiverRead → Type 0 where
   out-of-range : (RiverRanged job → ⊥) → RiverSays job (Refused 11)
   large : RiverRanged job → LargeCatchment job → RiverSays job (Refused 12)
   intense : RiverRanged job → (LargeCatchment job → ⊥) → TooIntense job → RiverSays job (Refused 13)
-  obstructed : RiverRanged job → Passed job → OverObstructed job → RiverSays job (Refused 14)
-  shown : {d c : RiverLine} → RiverRanged job → Passed job → (OverObstructed job → ⊥) → DepthIs job d → ClearIs job c → RiverSays job (Shown d c)
+  obstructed : RiverRanged job → ScourAllowed job → OverObstructed job → RiverSays job (Refused 14)
+  shown : {d c : RiverLine} → RiverRanged job → ScourAllowed job → (OverObstructed job → ⊥) → DepthIs job d → ClearIs job c → RiverSays job (Shown d c)

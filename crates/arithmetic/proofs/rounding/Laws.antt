@@ -41,10 +41,6 @@ pub least-by : (f : ℕ → ℕ) → Rises f → (a n : ℕ) → T (leb a (f n))
 least-by f rises a zero t u = least-zero f a (leb→le a (f zero) t)
 least-by f rises a (suc n) t u = least-suc f rises a n (leb→le a (f (suc n)) t) (ltb→lt (f n) a u)
 
--- a whole number is itself, rounded up
-pub whole : (n : ℕ) → RoundedUp n 1 n
-whole n = record { holds = omega arith; least = λ m p. omega arith }
-
 -- division rounds down, and up where it leaves nothing
 module _ (a b : ℕ) (pos : 0 < b) where
   next : a < (a / b + 1) * b

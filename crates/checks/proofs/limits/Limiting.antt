@@ -25,19 +25,19 @@ sliding-one II p q = p ∙ sym q
 sliding-one III p q = p ∙ sym q
 sliding-one IV p q = absurd p
 
-pressure-one : (k : Combination) (a : ℕ) {m n : ℕ} → PressureLimit k a m → PressureLimit k a n → m ≡ n
+pressure-limit-one : (k : Combination) (a : ℕ) {m n : ℕ} → PressureLimit k a m → PressureLimit k a n → m ≡ n
 unfolding PressureLimit
-pressure-one I a p q = p ∙ sym q
-pressure-one II a p q = greatest-one p q
-pressure-one III a p q = greatest-one p q
-pressure-one IV a p q = greatest-one p q
+pressure-limit-one I a p q = p ∙ sym q
+pressure-limit-one II a p q = greatest-one p q
+pressure-limit-one III a p q = greatest-one p q
+pressure-limit-one IV a p q = greatest-one p q
 
 pub limit-one : (k : Combination) (check : Check) (base : Base) (m n : ℕ) → Limit k check base m → Limit k check base n → m ≡ n
 unfolding Limit
 limit-one k OP base m n p q = tipping-one k p q
 limit-one k OM base m n p q = tipping-one k p q
 limit-one k SL base m n p q = sliding-one k p q
-limit-one k PR base m n p q = pressure-one k (base .allowable) p q
+limit-one k PR base m n p q = pressure-limit-one k (base .allowable) p q
 limit-one k RK base m n p q = p .1 ∙ sym (q .1)
 
 tipping-serves : (k : Combination) (n : ℕ) → TippingLimit k n → Service k

@@ -59,7 +59,7 @@ shows-one PR base loads set v w p q = presses-one _ _ _ _ v w p q
 shows-one RK base loads set v w p q = leans-one _ _ _ v w p q
 
 -- the sums of 16 rows are small enough for every figure
-pub record Slight (sums : Sums) : Type 0 where
+pub record SmallSums (sums : Sums) : Type 0 where
   pub n : sums .v .above - sums .v .below ≤ 2 ^ 20
   pub h : apart (sums .h) ≤ 2 ^ 24
   pub m : apart (sums .m) ≤ 2 ^ 40
@@ -68,6 +68,6 @@ pub record Slight (sums : Sums) : Type 0 where
   pub over-plus : sums .plus .overturning ≤ 2 ^ 38
   pub over-minus : sums .minus .overturning ≤ 2 ^ 38
 
-pub slight : {sums : Sums} → Room 16 sums → Slight sums
+pub small-sums : {sums : Sums} → Room 16 sums → SmallSums sums
 unfolding apart
-slight r = record { n = omega arith; h = omega arith; m = omega arith; plus = omega arith; minus = omega arith; over-plus = omega arith; over-minus = omega arith }
+small-sums r = record { n = omega arith; h = omega arith; m = omega arith; plus = omega arith; minus = omega arith; over-plus = omega arith; over-minus = omega arith }

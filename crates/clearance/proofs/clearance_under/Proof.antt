@@ -9,7 +9,7 @@ use Rattle.fields.specs.declared.Entry.{Entry}
 use Rattle.arithmetic.specs.declared.signed.Amount.{Amount}
 use Rattle.clearance.specs.Told.{given, ClearanceAnswered}
 use Rattle.clearance.specs.declared.ClearanceAnswer.the-variants.{Given}
-use Rattle.clearance.proofs.Levels.{part-fits, side-fits, between, amount-told}
+use Rattle.clearance.proofs.Levels.{part-fits, side-fits, between-levels, amount-told}
 use Rattle.clearance.proofs.clearance_under.Statement.{statement}
 use Rattle.clearance.proofs.clearance_under.Tie as tie
 
@@ -55,7 +55,7 @@ returns c =
     let start = at .before .before .before .before in
     let a = start .args in
     subst (λ (z : ℤ). ClearanceAnswered (λ t. t ≡ given z (a .needed)) (Given (c .difference .result .minus) (c .difference .result .size) (a .needed)))
-    (between (a .underside) (a .flood) (a .afflux) {u = level (a .underside)} {l = level (a .flood)} (refl, refl) (refl, refl) (at .before .before .parts-of .ensures) (at .parts-of2 .ensures))
+    (between-levels (a .underside) (a .flood) (a .afflux) {u = level (a .underside)} {l = level (a .flood)} (refl, refl) (refl, refl) (at .before .before .parts-of .ensures) (at .parts-of2 .ensures))
     (amount-told _ (a .needed) (c .difference .ensures))
 
 pub clearance-under-spec : {M : Type 1} → statement M

@@ -31,8 +31,8 @@ module _ {s : List ℕ} {start : ℕ} {fs : List Cell} {rs : List (List Cell)} {
       let d : r .next ≡ q .next = h .behind ∙ sym (k .behind) in
       λ i. record { count = c i; from = a i; to = b i; next = d i }
 
-pub row-one : {s : List ℕ} {start : ℕ} {r q : Cells} → Readable (drop start s) → RowAt s start r → RowAt s start q → r ≡ q
-row-one {s} {start} w h k =
+pub cells-one : {s : List ℕ} {start : ℕ} {r q : Cells} → Readable (drop start s) → RowAt s start r → RowAt s start q → r ≡ q
+cells-one {s} {start} w h k =
     let m = some-row (first (w .reading)) in
     let f : File (drop start s) (m .0 ∷ m .1) = subst (File (drop start s)) (m .2) (w .reading) in
     row-is-one (h (m .0) (m .1) f) (k (m .0) (m .1) f)

@@ -43,8 +43,8 @@ abbrev pub Noted : List ℕ → ℕ → List Cell → ℕ → List ℕ → List 
 Noted s start fs n from to = (k : ℕ) → k < 10 → k < n → Stretch s (start + offset fs k) (getD from k 0) (getD to k 0) (getD fs k no-cell)
 
 -- and nothing stands behind them
-abbrev pub Clear : ℕ → List ℕ → List ℕ → Type 0
-Clear n from to = (k : ℕ) → n ≤ k → (getD from k 0 ≡ 0) × (getD to k 0 ≡ 0)
+abbrev pub NothingBehind : ℕ → List ℕ → List ℕ → Type 0
+NothingBehind n from to = (k : ℕ) → n ≤ k → (getD from k 0 ≡ 0) × (getD to k 0 ≡ 0)
 
 -- one more
 module _ (s : List ℕ) (start : ℕ) (fs : List Cell) (n : ℕ) (from to : List ℕ) (lf : length from ≡ 10) (lt : length to ≡ 10) (a e : ℕ) where
@@ -58,7 +58,7 @@ module _ (s : List ℕ) (start : ℕ) (fs : List Cell) (n : ℕ) (from to : List
         rw (f, t, q) st)
         (λ q. rw (getD-set-other from n k a 0 q, getD-set-other to n k e 0 q) (h k h10 (omega arith)))
 
-  pub cleared : Clear n from to → Clear (n + 1) (set from n a) (set to n e)
+  pub cleared : NothingBehind n from to → NothingBehind (n + 1) (set from n a) (set to n e)
   cleared c k h =
       let q : k ≡ n → ⊥ = λ x. omega arith in
       let u = c k (omega arith) in
@@ -73,7 +73,7 @@ pub record Seen (s : List ℕ) (start : ℕ) (fs : List Cell) (rs : List (List C
   pub here : File (drop at s) (left ∷ rs)
   pub place : at ≡ start + offset fs n
   pub stands : Noted s start fs n from to
-  pub clear : Clear n from to
+  pub clear : NothingBehind n from to
 
 pub seen-none : (s : List ℕ) (at : ℕ) (fs : List Cell) (rs : List (List Cell)) → File (drop at s) (fs ∷ rs) → Seen s at fs rs 0 at (replicate 10 0) (replicate 10 0)
 seen-none s at fs rs h = record {

@@ -12,7 +12,7 @@ use Rattle.csv.specs.declared.field.Ended.the-variants.{Bad}
 use Rattle.csv.proofs.Lists.{tails}
 use Rattle.csv.proofs.rfc4180.Unique.{plain-unique, escaped-unique, closing-halts, plain-quote, stop-quote, stop-plain}
 use Rattle.csv.proofs.rfc4180.Parts.{part-more, part-rest, begins-is, begins-behind}
-use Rattle.csv.proofs.field.Scan.{begun}
+use Rattle.csv.proofs.field.Scan.{byte-first}
 
 -- every field at this place with an end behind it has that end where ours has it
 abbrev pub Follows : List ℕ → ℕ → ℕ → Type 0
@@ -43,7 +43,7 @@ module _ (s : List ℕ) (at : ℕ) where
   -- a quoted field
   module _ (bq : FirstByte DQUOTE (drop at s)) (i : ℕ) (p : EscapedTo s (at + 1) i) where
     opening : drop at s ≡ DQUOTE ∷ drop (at + 1) s
-    opening = begun s at DQUOTE bq
+    opening = byte-first s at DQUOTE bq
 
     stretch : part at (i + 1) s ≡ DQUOTE ∷ part (at + 1) i s ++ DQUOTE ∷ []
     stretch =

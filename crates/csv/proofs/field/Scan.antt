@@ -20,13 +20,13 @@ module _ (s : List ℕ) (at : ℕ) where
   plain-more i h k t p = rw (part-more s at i h k) (plain-snoc p t)
 
 -- what stands at e, from its first byte on
-pub begun : (s : List ℕ) (e b : ℕ) → FirstByte b (drop e s) → drop e s ≡ b ∷ drop (e + 1) s
-begun s e b g = begins-at s e b (begins-lt s e b (g .behind) (g .begins)) (begins-is s e b (g .behind) (g .begins))
+pub byte-first : (s : List ℕ) (e b : ℕ) → FirstByte b (drop e s) → drop e s ≡ b ∷ drop (e + 1) s
+byte-first s e b g = begins-at s e b (begins-lt s e b (g .behind) (g .begins)) (begins-is s e b (g .behind) (g .begins))
 
-pub two-bytes : (s : List ℕ) (e a b : ℕ) → FirstByte a (drop e s) × FirstByte b (drop (e + 1) s) → drop e s ≡ a ∷ b ∷ drop (e + 2) s
-two-bytes s e a b g =
+pub two-bytes-first : (s : List ℕ) (e a b : ℕ) → FirstByte a (drop e s) × FirstByte b (drop (e + 1) s) → drop e s ≡ a ∷ b ∷ drop (e + 2) s
+two-bytes-first s e a b g =
     let m : e + 2 ≡ e + 1 + 1 = omega arith in
-    rw m (begun s e a (g .0) ∙ ap (λ (l : List ℕ). a ∷ l) (begun s (e + 1) b (g .1)))
+    rw m (byte-first s e a (g .0) ∙ ap (λ (l : List ℕ). a ∷ l) (byte-first s (e + 1) b (g .1)))
 
 -- no field's end stands at e
 module _ (s : List ℕ) (e : ℕ) (h : e < length s) (nc : FirstByte COMMA (drop e s) → ⊥) (nr : FirstByte CR (drop e s) × FirstByte LF (drop (e + 1) s) → ⊥) where

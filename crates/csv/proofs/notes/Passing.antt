@@ -14,12 +14,12 @@ use Rattle.csv.specs.rfc4180.Rfc4180 as rfc4180
 use Rattle.csv.specs.cells.Cells as cells
 use Rattle.csv.specs.declared.cells.Cells.{Cells}
 use Rattle.csv.specs.notes.Notes.{NoteIn, cell, no-cell, NoteAt}
-use Rattle.csv.proofs.notes.Reached.{Reached, reached-start, reached-more, reached-many}
+use Rattle.csv.proofs.notes.Reached.{RowReached, reached-start, reached-more, reached-many}
 
 -- row n is reached, and the row sought is none of those passed
 pub record Passing (s : List ℕ) (row n at : ℕ) : Type 0 where
   pub passed : List (List Cell)
-  pub reached : Reached s passed n at
+  pub reached : RowReached s passed n at
   pub ahead : 1 ≤ row → n ≤ row
 
 pub passing-start : {s : List ℕ} (row : ℕ) → Readable s → Passing s row 1 0

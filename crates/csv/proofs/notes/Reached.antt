@@ -20,7 +20,7 @@ rest-none nothing e = refl
 rest-none (more m q) e = absurd (m e)
 
 -- the rows before row n are passed, and it starts at `at`. Each of them took a byte at least, so the number does not outrun the text
-pub record Reached (s : List ℕ) (passed : List (List Cell)) (n at : ℕ) : Type 0 where
+pub record RowReached (s : List ℕ) (passed : List (List Cell)) (n at : ℕ) : Type 0 where
   pub rows : List (List Cell)
   pub reading : File s rows
   pub row : List Cell
@@ -32,7 +32,7 @@ pub record Reached (s : List ℕ) (passed : List (List Cell)) (n at : ℕ) : Typ
   pub few : n ≤ at + 1
 
 -- what is left of a text begins with a row
-reach : {s : List ℕ} {rows passed left : List (List Cell)} {n at : ℕ} → File s rows → rows ≡ passed ++ left → n ≡ length passed + 1 → File (drop at s) left → at ≤ length s → n ≤ at + 1 → Reached s passed n at
+reach : {s : List ℕ} {rows passed left : List (List Cell)} {n at : ℕ} → File s rows → rows ≡ passed ++ left → n ≡ length passed + 1 → File (drop at s) left → at ≤ length s → n ≤ at + 1 → RowReached s passed n at
 reach {s} {rows} {passed} {at = at} reading split number here within few =
     let m = some-row (first here) in
     record {
@@ -47,12 +47,12 @@ reach {s} {rows} {passed} {at = at} reading split number here within few =
       few = few;
     }
 
-pub reached-start : {s : List ℕ} → Readable s → Reached s [] 1 0
+pub reached-start : {s : List ℕ} → Readable s → RowReached s [] 1 0
 reached-start q = reach (q .reading) refl refl (q .reading) (omega arith) (omega arith)
 
-module _ {s : List ℕ} {passed : List (List Cell)} {n at next : ℕ} (i : Reached s passed n at) (rest : Rest (drop next s) (i .behind)) where
+module _ {s : List ℕ} {passed : List (List Cell)} {n at next : ℕ} (i : RowReached s passed n at) (rest : Rest (drop next s) (i .behind)) where
   -- more text behind the row is the next one's
-  pub reached-more : at < next → next < length s → Reached s (passed ++ i .row ∷ []) (n + 1) next
+  pub reached-more : at < next → next < length s → RowReached s (passed ++ i .row ∷ []) (n + 1) next
   reached-more o k =
       let f = i .few in
       let p = i .number in

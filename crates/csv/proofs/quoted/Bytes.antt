@@ -10,28 +10,28 @@ use Rattle.arithmetic.specs.decides.Decides.{Decides, decides-at-most, decides-
 use Rattle.csv.specs.rfc4180.Rfc4180.{COMMA, CR, DQUOTE, LF, Textdata, low, middle, high, Inside, is-text, is-comma, is-cr, is-lf}
 
 -- TEXTDATA is every byte from a blank to a tilde but the quote and the comma
-record Printed (b : ℕ) : Type 0 where
+record Printable (b : ℕ) : Type 0 where
   from : 0x20 ≤ b
   to : b ≤ 0x7E
   no-quote : b ≡ DQUOTE → ⊥
   no-comma : b ≡ COMMA → ⊥
 
-printed : {b : ℕ} → Textdata b → Printed b
-printed (low h k) = omega arith
-printed (middle h k) = omega arith
-printed (high h k) = omega arith
+printable : {b : ℕ} → Textdata b → Printable b
+printable (low h k) = omega arith
+printable (middle h k) = omega arith
+printable (high h k) = omega arith
 
-text-of : {b : ℕ} → Printed b → Textdata b
+text-of : {b : ℕ} → Printable b → Textdata b
 text-of {b} h = by-cases (decLe b 0x21) (low (h .from)) (λ k. by-cases (decLe b 0x2B) (middle (omega arith)) (λ l. high (omega arith) (h .to)))
 
 pub text-decides : (b : ℕ) → Decides (((leb 0x20 b && leb b 0x7E) && not (eqb b DQUOTE)) && not (eqb b COMMA)) (Textdata b)
 text-decides b = by (leb 0x20 b) (leb b 0x7E) (eqb b DQUOTE) (eqb b COMMA) (decides-at-most 0x20 b) (decides-at-most b 0x7E) (decides-equal b DQUOTE) (decides-equal b COMMA)
   where
     by : (l h q c : Bool) → Decides l (0x20 ≤ b) → Decides h (b ≤ 0x7E) → Decides q (b ≡ DQUOTE) → Decides c (b ≡ COMMA) → Decides (((l && h) && not q) && not c) (Textdata b)
-    by false h q c k m n o = λ t. k (printed t .from)
-    by true false q c k m n o = λ t. m (printed t .to)
-    by true true true c k m n o = λ t. printed t .no-quote n
-    by true true false true k m n o = λ t. printed t .no-comma o
+    by false h q c k m n o = λ t. k (printable t .from)
+    by true false q c k m n o = λ t. m (printable t .to)
+    by true true true c k m n o = λ t. printable t .no-quote n
+    by true true false true k m n o = λ t. printable t .no-comma o
     by true true false false k m n o = text-of (record { from = k; to = m; no-quote = n; no-comma = o })
 
 -- comma, CR and LF stand for themselves between quotes, and so does TEXTDATA

@@ -15,9 +15,9 @@ use Rattle.debtarush.specs.declared.finding.Found.the-variants.{There, B
 use Rattle.debtarush.specs.declared.finding.JobFound.{JobFound}
 
 -- the refusal of a book as that of a place in it
-refusal : Count → JobFound
-refusal (Given n) = nothing There
-refusal (Refused why row) = nothing (Book why row)
+job-refusal : Count → JobFound
+job-refusal (Given n) = nothing There
+job-refusal (Refused why row) = nothing (Book why row)
 
 module _ {b : List ℕ} {place : ℕ} where
   -- the job at a place is one
@@ -28,8 +28,8 @@ module _ {b : List ℕ} {place : ℕ} where
   job-there {j = j} x y p n = n j (subst (λ (l : Jobs). RowIn (values l) place j) (book-one x y) p)
 
   pub job-at-one : (p q : JobFound) → JobAt b place p → JobAt b place q → p ≡ q
-  unfolding refusal
-  job-at-one p q (no-book {why} {row} x e) (no-book {why = na} {row = line} y f) = e ∙ ap refusal (book-told-one (Refused why row) (Refused na line) [] [] (book-says-one x y)) ∙ sym f
+  unfolding job-refusal
+  job-at-one p q (no-book {why} {row} x e) (no-book {why = na} {row = line} y f) = e ∙ ap job-refusal (book-told-one (Refused why row) (Refused na line) [] [] (book-says-one x y)) ∙ sym f
   job-at-one p q (no-book x e) (no-place y m f) = absurd (refused-none x _ y)
   job-at-one p q (no-book x e) (there y r f) = absurd (refused-none x _ y)
   job-at-one p q (no-place x m e) (no-book y f) = absurd (refused-none y _ x)

@@ -16,10 +16,10 @@ use Rattle.debtarush.proofs.finding.FoundAnswers.{book-there, book-nowh
 use Rattle.debtarush.specs.declared.finding.JobFound.{JobFound}
 
 -- the refusal that is found, in the paper's number
-refusal : Found → book.BookTold
-refusal There = book.refused 0 0
-refusal (Book why row) = book.refused (refusal-number why) row
-refusal NoPlace = book.refused 0 0
+book-refusal : Found → book.BookTold
+book-refusal There = book.refused 0 0
+book-refusal (Book why row) = book.refused (refusal-number why) row
+book-refusal NoPlace = book.refused 0 0
 
 -- a job book that has no job at a place
 pub record NoJob (s : List ℕ) (place : ℕ) : Type 0 where
@@ -38,8 +38,8 @@ found e = ap (λ (x : JobFound). x .found) e
 
 module _ {s : List ℕ} {place : ℕ} {p : JobFound} where
   pub refused-book : {why : Refusal} {row : ℕ} → JobAt s place p → p .found ≡ Book why row → book.BookSays s (book.refused (refusal-number why) row)
-  unfolding refusal
-  refused-book (no-book x e) f = subst (book.BookSays s) (ap refusal (sym (found e) ∙ f)) x
+  unfolding book-refusal
+  refused-book (no-book x e) f = subst (book.BookSays s) (ap book-refusal (sym (found e) ∙ f)) x
   refused-book (no-place x m e) f = absurd (book-nowhere f (found e))
   refused-book (there x r e) f = absurd (book-there f e)
 

@@ -66,7 +66,7 @@ no-job-zero : {jobs : List Job} {place : ℕ} → place ≡ 0 → (job : Job) �
 no-job-zero z job r = let a = r .number in omega arith
 
 -- a place among the jobs of a book that is given
-pub record Inside (s : List ℕ) (jobs : List Job) (place : ℕ) : Type 0 where
+pub record JobThere (s : List ℕ) (jobs : List Job) (place : ℕ) : Type 0 where
   pub written : Jobs
   pub book : JobBook s written
   pub low : 1 ≤ place
@@ -74,11 +74,11 @@ pub record Inside (s : List ℕ) (jobs : List Job) (place : ℕ) : Type 0 where
   pub row : (d : Job) → RowIn (values written) place (getD jobs (place - 1) d)
 
 module _ {s : List ℕ} {b : Book} (w : book.BookIs s b) (place : ℕ) {f : Found} where
-  pub inside : FoundIs (b .count) place f → f ≡ There → Inside s (b .jobs) place
-  inside (refused e g) t = impossible cc
-  inside (at-none e k g) t = impossible cc
-  inside (past e k g) t = impossible cc
-  inside (within {n} e k l g) t =
+  pub job-there : FoundIs (b .count) place f → f ≡ There → JobThere s (b .jobs) place
+  job-there (refused e g) t = impossible cc
+  job-there (at-none e k g) t = impossible cc
+  job-there (past e k g) t = impossible cc
+  job-there (within {n} e k l g) t =
       let h = held s b n w e in
       let few = h .few in
       let low : 1 ≤ place = omega (arith, k) in

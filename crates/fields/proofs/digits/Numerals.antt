@@ -80,9 +80,9 @@ pub lengths : (n : ℕ) → Decides (eqb n 0 || ltb 9 n) ((n ≡ 0) ⊎ (9 < n))
 lengths n = decides-either (n ≡ 0) (9 < n) (eqb n 0) (ltb 9 n) (decides-equal n 0) (decides-below 9 n)
 
 -- the first i bytes are read: there are none yet, or they are worth v
-pub data Passed (s : List ℕ) (i v : ℕ) : Type 0 where
-  nothing : i ≡ 0 → v ≡ 0 → Passed s i v
-  digits : 1 ≤ i → Numeral (take i s) v → Passed s i v
+pub data DigitsRead (s : List ℕ) (i v : ℕ) : Type 0 where
+  nothing : i ≡ 0 → v ≡ 0 → DigitsRead s i v
+  digits : 1 ≤ i → Numeral (take i s) v → DigitsRead s i v
 
 -- a byte behind them that is no digit, or follows a leading zero
 abbrev Stops : ℕ → ℕ → ℕ → Type 0
@@ -98,23 +98,23 @@ stops-decides b i v =
     (decides-both (0 < i) (v ≡ 0) (ltb 0 i) (eqb v 0) (decides-below 0 i) (decides-equal v 0))
 
 module _ (s : List ℕ) (i v : ℕ) where
-  pub passed-all : 1 ≤ length s → length s ≤ i → Passed s i v → Numeral s v
-  passed-all h k (nothing a b) = absurd (omega arith)
-  passed-all h k (digits a p) = subst (λ (l : List ℕ). Numeral l v) (take-all i s k) p
+  pub digits-all : 1 ≤ length s → length s ≤ i → DigitsRead s i v → Numeral s v
+  digits-all h k (nothing a b) = absurd (omega arith)
+  digits-all h k (digits a p) = subst (λ (l : List ℕ). Numeral l v) (take-all i s k) p
 
   module _ (l : i < length s) where
     abbrev b : ℕ
     b = getD s i 0
 
     -- at most eight digits leave room for one more
-    pub room : length s ≤ 9 → Passed s i v → v < 100000000
+    pub room : length s ≤ 9 → DigitsRead s i v → v < 100000000
     room h (nothing a e) = omega arith
     room h (digits a p) = numeral-small 8 p (rw length-take (omega arith))
 
-    pub passed-stops : Passed s i v → stops b i v ≡ true → (n : ℕ) → Numeral s n → ⊥
-    passed-stops p e n q = none p (decided (stops b i v) e (stops-decides b i v))
+    pub digits-stop : DigitsRead s i v → stops b i v ≡ true → (n : ℕ) → Numeral s n → ⊥
+    digits-stop p e n q = none p (decided (stops b i v) e (stops-decides b i v))
       where
-        none : Passed s i v → Stops b i v → ⊥
+        none : DigitsRead s i v → Stops b i v → ⊥
         none p (inl (inl h)) = let d = numeral-digit q i l in omega arith
         none p (inl (inr h)) = let d = numeral-digit q i l in omega arith
         none (nothing a z) (inr h) = let k = h .0 in omega arith
@@ -134,7 +134,7 @@ module _ (s : List ℕ) (i v : ℕ) where
       abbrev d : ℕ
       d = b - 0x30
 
-      grown : Passed s i v → Numeral (take i s ++ (0x30 + d) ∷ []) (10 * v + d)
+      grown : DigitsRead s i v → Numeral (take i s ++ (0x30 + d) ∷ []) (10 * v + d)
       grown (nothing a z) =
           let w : 10 * v + d ≡ d = omega arith in
           let t : take i s ≡ [] = ap (λ (j : ℕ). take j s) a in
@@ -145,8 +145,8 @@ module _ (s : List ℕ) (i v : ℕ) where
           let h = digit in
           more {n = v} {d = d} (omega arith) p (omega arith)
 
-      pub passed-more : Passed s i v → Passed s (i + 1) (v * 10 + b - 0x30)
-      passed-more p =
+      pub digits-more : DigitsRead s i v → DigitsRead s (i + 1) (v * 10 + b - 0x30)
+      digits-more p =
           let h = digit in
           let x : 0x30 + d ≡ b = omega arith in
           let t : take (i + 1) s ≡ take i s ++ (0x30 + d) ∷ [] = rw (add-one, take-suc s i 0 l, x) in

@@ -2,16 +2,16 @@
 use mathlib.Core.Path.{_≡_}
 use Rattle.arithmetic.proofs.Cases.{impossible}
 use Rattle.kinds.specs.declared.classes.Source.{Source}
-use Rattle.kinds.specs.declared.classes.Source.the-variants.{Absent, Earth, Written}
+use Rattle.kinds.specs.declared.classes.Source.the-variants.{Absent, Earth, Own}
 
-pub absent-not : _≡_ {A = Source} Absent Written → ⊥
+pub absent-not : _≡_ {A = Source} Absent Own → ⊥
 absent-not q = impossible cc
 
-pub earth-not : _≡_ {A = Source} Earth Written → ⊥
+pub earth-not : _≡_ {A = Source} Earth Own → ⊥
 earth-not q = impossible cc
 
 pub absent-earth : _≡_ {A = Source} Absent Earth → ⊥
 absent-earth q = impossible cc
 
-pub written-earth : _≡_ {A = Source} Written Earth → ⊥
-written-earth q = impossible cc
+pub own-earth : _≡_ {A = Source} Own Earth → ⊥
+own-earth q = impossible cc

@@ -74,22 +74,22 @@ one-plain p = text p none
 two-plain : {a b : ℕ} → Textdata a → Textdata b → Plain (a ∷ b ∷ [])
 two-plain p q = text p (one-plain q)
 
-letters-plain : (k : Kind) → Plain (letters k)
-letters-plain B = one-plain (high (omega arith) (omega arith))
-letters-plain S = one-plain (high (omega arith) (omega arith))
-letters-plain C = one-plain (high (omega arith) (omega arith))
-letters-plain E = one-plain (high (omega arith) (omega arith))
-letters-plain DL = two-plain (high (omega arith) (omega arith)) (high (omega arith) (omega arith))
-letters-plain EP = two-plain (high (omega arith) (omega arith)) (high (omega arith) (omega arith))
-letters-plain LL = two-plain (high (omega arith) (omega arith)) (high (omega arith) (omega arith))
-letters-plain LF = two-plain (high (omega arith) (omega arith)) (high (omega arith) (omega arith))
-letters-plain CF = two-plain (high (omega arith) (omega arith)) (high (omega arith) (omega arith))
-letters-plain WC = two-plain (high (omega arith) (omega arith)) (high (omega arith) (omega arith))
-letters-plain BU = two-plain (high (omega arith) (omega arith)) (high (omega arith) (omega arith))
-letters-plain TM = two-plain (high (omega arith) (omega arith)) (high (omega arith) (omega arith))
-letters-plain EX = two-plain (high (omega arith) (omega arith)) (high (omega arith) (omega arith))
-letters-plain WL = two-plain (high (omega arith) (omega arith)) (high (omega arith) (omega arith))
-letters-plain SF = two-plain (high (omega arith) (omega arith)) (high (omega arith) (omega arith))
+kind-plain : (k : Kind) → Plain (letters k)
+kind-plain B = one-plain (high (omega arith) (omega arith))
+kind-plain S = one-plain (high (omega arith) (omega arith))
+kind-plain C = one-plain (high (omega arith) (omega arith))
+kind-plain E = one-plain (high (omega arith) (omega arith))
+kind-plain DL = two-plain (high (omega arith) (omega arith)) (high (omega arith) (omega arith))
+kind-plain EP = two-plain (high (omega arith) (omega arith)) (high (omega arith) (omega arith))
+kind-plain LL = two-plain (high (omega arith) (omega arith)) (high (omega arith) (omega arith))
+kind-plain LF = two-plain (high (omega arith) (omega arith)) (high (omega arith) (omega arith))
+kind-plain CF = two-plain (high (omega arith) (omega arith)) (high (omega arith) (omega arith))
+kind-plain WC = two-plain (high (omega arith) (omega arith)) (high (omega arith) (omega arith))
+kind-plain BU = two-plain (high (omega arith) (omega arith)) (high (omega arith) (omega arith))
+kind-plain TM = two-plain (high (omega arith) (omega arith)) (high (omega arith) (omega arith))
+kind-plain EX = two-plain (high (omega arith) (omega arith)) (high (omega arith) (omega arith))
+kind-plain WL = two-plain (high (omega arith) (omega arith)) (high (omega arith) (omega arith))
+kind-plain SF = two-plain (high (omega arith) (omega arith)) (high (omega arith) (omega arith))
 
 -- the answer for a content
 abbrev pub KindIs : List ℕ → KindRead → Type 0
@@ -97,8 +97,8 @@ KindIs c (Known k) = c ≡ letters k
 KindIs c Unknown = (k : Kind) → c ≡ letters k → ⊥
 
 pub kind-field : {raw r : List ℕ} → Bare raw r → (a : KindRead) → KindIs r a → KindAt raw a
-kind-field {raw} {r} h (Known k) e = subst (λ (c : List ℕ). Field raw c) e (bare-field (subst Plain (sym e) (letters-plain k)) h)
-kind-field h Unknown n = λ k f. n k (field-bare f (letters-plain k) h)
+kind-field {raw} {r} h (Known k) e = subst (λ (c : List ℕ). Field raw c) e (bare-field (subst Plain (sym e) (kind-plain k)) h)
+kind-field h Unknown n = λ k f. n k (field-bare f (kind-plain k) h)
 
 letters-few : (k : Kind) → length (letters k) ≤ 2
 letters-few B = lit≤ tt
@@ -142,7 +142,7 @@ two-bytes (x ∷ y ∷ []) a b f h k j e =
 two-bytes (x ∷ y ∷ z ∷ l) a b f h k j e = absurd (omega arith)
 
 -- the first i bytes are read, at most 3 of them, into the number n
-pub record Passed (l : List ℕ) (i n : ℕ) : Type 0 where
+pub record LettersRead (l : List ℕ) (i n : ℕ) : Type 0 where
   pub within : i ≤ length l
   pub few : i ≤ 3
   pub code : n ≡ coded 1 (take i l)
@@ -150,8 +150,8 @@ pub record Passed (l : List ℕ) (i n : ℕ) : Type 0 where
   pub most : n < 2 * 256 ^ i
   pub bytes : (k : ℕ) → k < i → getD l k 0 < 256
 
-pub passed-none : (l : List ℕ) → Passed l 0 1
-passed-none l = record { within = zero-le; few = zero-le; code = refl; least = lit≤ tt; most = lit< tt; bytes = λ k h. absurd (omega arith) }
+pub letters-none : (l : List ℕ) → LettersRead l 0 1
+letters-none l = record { within = zero-le; few = zero-le; code = refl; least = lit≤ tt; most = lit< tt; bytes = λ k h. absurd (omega arith) }
 
 abbrev goes-on : List ℕ → ℕ → Bool
 goes-on l i = ltb i (length l) && ltb i 3
@@ -159,7 +159,7 @@ goes-on l i = ltb i (length l) && ltb i 3
 going : (l : List ℕ) (i : ℕ) → Decides (goes-on l i) ((i < length l) × (i < 3))
 going l i = decides-both (i < length l) (i < 3) (ltb i (length l)) (ltb i 3) (decides-below i (length l)) (decides-below i 3)
 
-module _ (l : List ℕ) (i n : ℕ) (p : Passed l i n) where
+module _ (l : List ℕ) (i n : ℕ) (p : LettersRead l i n) where
   module _ (e : goes-on l i ≡ true) where
     pub room : (i < length l) × (i < 3) × (n < 131072)
     room =
@@ -169,8 +169,8 @@ module _ (l : List ℕ) (i n : ℕ) (p : Passed l i n) where
         let q : 256 ^ i ≤ 256 ^ 2 = pow-le-pow-right (lit< tt) j in
         (h .0, h .1, omega arith)
 
-    pub passed-more : getD l i 0 < 256 → Passed l (i + 1) (n * 256 + getD l i 0)
-    passed-more b =
+    pub letters-more : getD l i 0 < 256 → LettersRead l (i + 1) (n * 256 + getD l i 0)
+    letters-more b =
         let r = room in
         let w = p .least in
         let m = p .most in

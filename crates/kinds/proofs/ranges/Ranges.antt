@@ -5,7 +5,7 @@ use mathlib.Core.Logic.{_⊎_, inl, inr}
 use mathlib.Core.Bool.{Bool, true, false, not, _&&_, cond}
 use lib.Dec.{leb}
 use Rattle.arithmetic.specs.decides.Decides.{Decides, not-both, decides-same, decides-at-most}
-use Rattle.arithmetic.proofs.Tests.{decides-within, all-of, decides-six}
+use Rattle.arithmetic.proofs.Tests.{decides-within, all-six, decides-six}
 use Rattle.fields.specs.declared.Entry.{Entry}
 use Rattle.kinds.specs.ranges.Range.{Between, Around, InRange, InColumns}
 use Rattle.kinds.specs.declared.Column.{Column}
@@ -16,11 +16,11 @@ use Rattle.kinds.specs.declared.Numbers.{Numbers}
 abbrev entry : Bool → Bool → ℕ → Entry
 entry filled minus size = record { filled = filled; minus = minus; size = size }
 
-between : (low high : ℕ) (filled minus : Bool) (size : ℕ)
+between-decides : (low high : ℕ) (filled minus : Bool) (size : ℕ)
     → Decides (((filled && not minus) && leb low size) && leb size high) (Between low high (entry filled minus size))
-between low high false minus size = λ w. not-both (w .filled) refl
-between low high true true size = λ w. not-both refl (w .plain)
-between low high true false size =
+between-decides low high false minus size = λ w. not-both (w .filled) refl
+between-decides low high true true size = λ w. not-both refl (w .plain)
+between-decides low high true false size =
     decides-same (leb low size && leb size high) (λ w. record { filled = refl; plain = refl; from = w .0; to = w .1 }) (λ w. (w .from, w .to))
     (decides-within low high size)
 
@@ -39,7 +39,7 @@ asked minus limit below above (inr w) = rw (w .0) (w .1)
 -- the tests of an entry, for a column that asks for a number
 module _ (k : Column) (e : Entry) where
   pub filled-decides : (low high : ℕ) → k ≡ Filled low high → Decides (((e .filled && not (e .minus)) && leb low (e .size)) && leb (e .size) high) (InRange k e)
-  filled-decides low high q = rw q (between low high (e .filled) (e .minus) (e .size))
+  filled-decides low high q = rw q (between-decides low high (e .filled) (e .minus) (e .size))
 
   pub signed-decides : (below above limit : ℕ) → k ≡ Signed below above → ((e .minus ≡ true) × (limit ≡ below)) ⊎ ((e .minus ≡ false) × (limit ≡ above))
       → Decides (e .filled && leb (e .size) limit) (InRange k e)
@@ -48,9 +48,9 @@ module _ (k : Column) (e : Entry) where
 module _ (k : Columns) (n : Numbers) where
   pub all-in-range : (a b c d e f : Bool) → Decides a (InRange (k .n1) (n .n1)) → Decides b (InRange (k .n2) (n .n2)) → Decides c (InRange (k .n3) (n .n3))
       → Decides d (InRange (k .n4) (n .n4)) → Decides e (InRange (k .n5) (n .n5)) → Decides f (InRange (k .n6) (n .n6))
-      → Decides (all-of a b c d e f) (InColumns k n)
+      → Decides (all-six a b c d e f) (InColumns k n)
   all-in-range a b c d e f p q r s t u =
-      decides-same {Q = InColumns k n} (all-of a b c d e f)
+      decides-same {Q = InColumns k n} (all-six a b c d e f)
       (λ w. record { n1 = w .0 .0 .0 .0 .0; n2 = w .0 .0 .0 .0 .1; n3 = w .0 .0 .0 .1; n4 = w .0 .0 .1; n5 = w .0 .1; n6 = w .1 })
       (λ w. (((((w .n1, w .n2), w .n3), w .n4), w .n5), w .n6))
       (decides-six (InRange (k .n1) (n .n1)) (InRange (k .n2) (n .n2)) (InRange (k .n3) (n .n3)) (InRange (k .n4) (n .n4)) (InRange (k .n5) (n .n5)) (InRange (k .n6) (n .n6)) a b c d e f p q r s t u)

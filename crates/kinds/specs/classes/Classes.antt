@@ -5,7 +5,7 @@ use Rattle.kinds.specs.declared.Kind.the-variants.{B, S, C, E, DL, EP, L
 use Rattle.sets.specs.declared.Class.{Class}
 use Rattle.sets.specs.declared.Class.the-variants.{Permanent, Free, Wind, Earthquake}
 use Rattle.kinds.specs.declared.classes.Source.{Source}
-use Rattle.kinds.specs.declared.classes.Source.the-variants.{Absent, Earth, Written}
+use Rattle.kinds.specs.declared.classes.Source.the-variants.{Absent, Earth, Own}
 
 -- DL, EP, E are permanent, the rest optional and free; WL and SF stand apart in the combinations. B, S and C are no load rows.
 unfoldable pub class-of : Kind → Class
@@ -31,17 +31,17 @@ source B = Absent
 source S = Absent
 source C = Absent
 source E = Earth
-source DL = Written
-source EP = Written
-source LL = Written
-source LF = Written
-source CF = Written
-source WC = Written
-source BU = Written
-source TM = Written
-source EX = Written
-source WL = Written
-source SF = Written
+source DL = Own
+source EP = Own
+source LL = Own
+source LF = Own
+source CF = Own
+source WC = Own
+source BU = Own
+source TM = Own
+source EX = Own
+source WL = Own
+source SF = Own
 
 -- how many optional rows a row of a class is
 unfoldable pub optional : Class → ℕ

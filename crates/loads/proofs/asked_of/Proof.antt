@@ -10,12 +10,12 @@ use Rattle.loads.specs.forces.Exerted.{LoadOf}
 use Rattle.loads.specs.declared.forces.RowLoad.{RowLoad}
 use Rattle.loads.specs.LoadRows.{row-at}
 use Rattle.loads.proofs.Laying.{laid-none, laid-all}
-use Rattle.loads.proofs.Asking.{optional-low, Passed, passed-none, passed-out, passed-blank, passed-load}
+use Rattle.loads.proofs.Asking.{optional-low, RowsAsked, asked-none, asked-out, asked-blank, asked-load}
 use Rattle.loads.proofs.asked_of.Statement.{statement}
 use Rattle.loads.proofs.asked_of.Tie as tie
 
 abbrev Inv-loop : tie.InvT-loop
-Inv-loop n rows loads₀ ranged₀ filled₀ optional₀ i₀ loads ranged filled optional i = (i ≤ n) × (optional ≤ i) × Passed table2-fill rows i ranged filled optional loads
+Inv-loop n rows loads₀ ranged₀ filled₀ optional₀ i₀ loads ranged filled optional i = (i ≤ n) × (optional ≤ i) × RowsAsked table2-fill rows i ranged filled optional loads
 
 abbrev μ-loop : tie.MeasureT-loop
 μ-loop n rows loads₀ ranged₀ filled₀ optional₀ i₀ loads ranged filled optional i = n - i
@@ -24,7 +24,7 @@ no-load-requires : tie.Need-no-load-requires Inv-loop μ-loop
 no-load-requires c κs = search needs
 
 loop-holds : tie.Need-loop-holds Inv-loop μ-loop
-loop-holds c = (search needs, omega arith, passed-none _ _ (laid-none _ _ (c .no-load .ensures)))
+loop-holds c = (search needs, omega arith, asked-none _ _ (laid-none _ _ (c .no-load .ensures)))
 
 mul-row : tie.Need-mul-row Inv-loop μ-loop
 mul-row c = omega (arith, c .before .before .before .pre)
@@ -74,14 +74,14 @@ loop-again c =
     let at = c .before .before .before .before in
     let inv = at .loop .inv in
     ⊎-elim
-    (λ w. (omega arith, omega (arith, w .5, inv .1), rw (w .2, w .3, w .4, w .5) (passed-out _ _ _ (inv .2) (told c (w .1 .given .1)))))
+    (λ w. (omega arith, omega (arith, w .5, inv .1), rw (w .2, w .3, w .4, w .5) (asked-out _ _ _ (inv .2) (told c (w .1 .given .1)))))
     (⊎-elim
-    (λ w. (omega arith, omega (arith, w .5, inv .1), rw (w .2, w .3, w .4, w .5) (passed-blank _ _ _ (inv .2) (told c (w .1 .given .1)))))
+    (λ w. (omega arith, omega (arith, w .5, inv .1), rw (w .2, w .3, w .4, w .5) (asked-blank _ _ _ (inv .2) (told c (w .1 .given .1)))))
     (λ w.
     let few : c .before .before .before .before .loop .i < 16 = omega (arith, c .before .before .before .before .before .before .pre, c .before .before .before .loop-test .taken) in (
       omega arith,
       omega (arith, w .7, inv .1, w .3 .ensures, optional-low (w .1 .given .0 .0 .class)),
-      rw (w .4, w .5, w .6, w .7, w .3 .ensures) (passed-load _ _ _ (inv .2) _ few (told c (w .1 .given .1))),
+      rw (w .4, w .5, w .6, w .7, w .3 .ensures) (asked-load _ _ _ (inv .2) _ few (told c (w .1 .given .1))),
     )))
     (c .match .came)
 
@@ -90,7 +90,7 @@ returns c =
     let at = c .before .loop in
     let rows = c .before .before .before .args .t1 in
     let e = le-antisymm (at .inv .0) (c .loop-test .left) in
-    let p = subst (λ (n : ℕ). Passed table2-fill rows n (at .ranged) (at .filled) (at .optional) (at .loads)) e (at .inv .2) in
+    let p = subst (λ (n : ℕ). RowsAsked table2-fill rows n (at .ranged) (at .filled) (at .optional) (at .loads)) e (at .inv .2) in
     record { ranged = p .ranged; filled = p .filled; optional = p .optional; loads = λ x y. laid-all _ _ _ _ (p .laid x y) }
 
 pub asked-of-spec : {M : Type 1} → statement M

@@ -25,9 +25,9 @@ use Rattle.arithmetic.specs.signed.Whole.{amount}
 use Rattle.sets.specs.declared.Load.{Load}
 use Rattle.sets.specs.Sets.{BoundedLoad}
 use Rattle.kinds.specs.declared.classes.Source.{Source}
-use Rattle.kinds.specs.declared.classes.Source.the-variants.{Absent, Earth, Written}
+use Rattle.kinds.specs.declared.classes.Source.the-variants.{Absent, Earth, Own}
 use Rattle.kinds.specs.classes.Classes.{class-of, source}
-use Rattle.kinds.proofs.classes.Sources.{absent-not, earth-not, absent-earth, written-earth}
+use Rattle.kinds.proofs.classes.Sources.{absent-not, earth-not, absent-earth, own-earth}
 use Rattle.loads.specs.forces.Blank.{BlankThere}
 use Rattle.loads.specs.forces.Exerted.{LoadOf}
 use Rattle.loads.specs.declared.forces.RowLoad.the-variants as RowLoad
@@ -35,23 +35,23 @@ use Rattle.loads.specs.forces.Exerts.{OwnForces, EarthLoad, Forces, Exer
 use Rattle.loads.proofs.forces.Amounts.{amount-size, value-size, product-size}
 
 -- ---- the columns of a row
-pub written-columns : (k : Kind) (n : Numbers) → source k ≡ Written → Ranged k n → InColumns load-columns n
+pub own-columns : (k : Kind) (n : Numbers) → source k ≡ Own → Ranged k n → InColumns load-columns n
 unfolding source
-written-columns B n e r = absurd (absent-not e)
-written-columns S n e r = absurd (absent-not e)
-written-columns C n e r = absurd (absent-not e)
-written-columns E n e r = absurd (earth-not e)
-written-columns DL n e r = r
-written-columns EP n e r = r
-written-columns LL n e r = r
-written-columns LF n e r = r
-written-columns CF n e r = r
-written-columns WC n e r = r
-written-columns BU n e r = r
-written-columns TM n e r = r
-written-columns EX n e r = r
-written-columns WL n e r = r
-written-columns SF n e r = r
+own-columns B n e r = absurd (absent-not e)
+own-columns S n e r = absurd (absent-not e)
+own-columns C n e r = absurd (absent-not e)
+own-columns E n e r = absurd (earth-not e)
+own-columns DL n e r = r
+own-columns EP n e r = r
+own-columns LL n e r = r
+own-columns LF n e r = r
+own-columns CF n e r = r
+own-columns WC n e r = r
+own-columns BU n e r = r
+own-columns TM n e r = r
+own-columns EX n e r = r
+own-columns WL n e r = r
+own-columns SF n e r = r
 
 pub earth-kind : (k : Kind) → source k ≡ Earth → k ≡ E
 unfolding source
@@ -59,17 +59,17 @@ earth-kind B e = absurd (absent-earth e)
 earth-kind S e = absurd (absent-earth e)
 earth-kind C e = absurd (absent-earth e)
 earth-kind E e = refl
-earth-kind DL e = absurd (written-earth e)
-earth-kind EP e = absurd (written-earth e)
-earth-kind LL e = absurd (written-earth e)
-earth-kind LF e = absurd (written-earth e)
-earth-kind CF e = absurd (written-earth e)
-earth-kind WC e = absurd (written-earth e)
-earth-kind BU e = absurd (written-earth e)
-earth-kind TM e = absurd (written-earth e)
-earth-kind EX e = absurd (written-earth e)
-earth-kind WL e = absurd (written-earth e)
-earth-kind SF e = absurd (written-earth e)
+earth-kind DL e = absurd (own-earth e)
+earth-kind EP e = absurd (own-earth e)
+earth-kind LL e = absurd (own-earth e)
+earth-kind LF e = absurd (own-earth e)
+earth-kind CF e = absurd (own-earth e)
+earth-kind WC e = absurd (own-earth e)
+earth-kind BU e = absurd (own-earth e)
+earth-kind TM e = absurd (own-earth e)
+earth-kind EX e = absurd (own-earth e)
+earth-kind WL e = absurd (own-earth e)
+earth-kind SF e = absurd (own-earth e)
 
 pub around-size : (a : ℕ) (e : Entry) → Around a a e → e .size ≤ a
 around-size a e h = go (e .minus) refl
@@ -156,7 +156,7 @@ exerts-bounded fill small row load r e = go (source (row .kind)) refl (e .forces
     go : (s : Source) → source (row .kind) ≡ s → Forces fill s (row .numbers) load → BoundedLoad load
     go Absent d f = earth-bounded (lit≤ tt) (lit≤ tt) f
     go Earth d f = let m = pressed-modest small (f .pressed) in earth-bounded (m .thrust) (m .moment) (f .exerts)
-    go Written d f = own-bounded (written-columns (row .kind) (row .numbers) d r) f
+    go Own d f = own-bounded (own-columns (row .kind) (row .numbers) d r) f
 
 -- loads are the same if their parts are
 pub same-load : {a b : Load} → a .class ≡ b .class → a .phase ≡ b .phase → a .v ≡ b .v → a .x ≡ b .x → a .h ≡ b .h → a .twist ≡ b .twist → a ≡ b

@@ -11,7 +11,7 @@ use Rattle.earth.specs.Earth.{push, Pressed}
 use Rattle.arithmetic.specs.signed.Whole.{amount}
 use Rattle.sets.specs.declared.Load.{Load}
 use Rattle.kinds.specs.declared.classes.Source.{Source}
-use Rattle.kinds.specs.declared.classes.Source.the-variants.{Absent, Earth, Written}
+use Rattle.kinds.specs.declared.classes.Source.the-variants.{Absent, Earth, Own}
 use Rattle.kinds.specs.classes.Classes.{class-of, source}
 
 -- a load as written: V, x, H, y
@@ -42,7 +42,7 @@ NoForces load = EarthLoad 0 0 load
 unfoldable pub Forces : (ℕ → ℕ → Coefficient) → Source → Numbers → Load → Type 0
 Forces fill Absent numbers load = NoForces load
 Forces fill Earth numbers load = EarthForces fill numbers load
-Forces fill Written numbers load = OwnForces numbers load
+Forces fill Own numbers load = OwnForces numbers load
 
 pub record Exerts (fill : ℕ → ℕ → Coefficient) (row : Row) (load : Load) : Type 0 where
   pub class : load .class ≡ class-of (row .kind)

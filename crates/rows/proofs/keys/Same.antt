@@ -7,22 +7,22 @@ use lib.Dec.{eqb}
 use Rattle.arithmetic.specs.decides.Decides.{Decides, decides-same, decides-both, decides-equal}
 use Rattle.rows.specs.declared.keys.Key.{Key}
 
-both : (x y z w : ℕ) → Decides (eqb x y && eqb z w) ((x ≡ y) × (z ≡ w))
-both x y z w = decides-both (x ≡ y) (z ≡ w) (eqb x y) (eqb z w) (decides-equal x y) (decides-equal z w)
+both-equal : (x y z w : ℕ) → Decides (eqb x y && eqb z w) ((x ≡ y) × (z ≡ w))
+both-equal x y z w = decides-both (x ≡ y) (z ≡ w) (eqb x y) (eqb z w) (decides-equal x y) (decides-equal z w)
 
 module _ (a b : Key) where
   -- the letters of both names at a place
-  abbrev pub Alike : ℕ → Type 0
-  Alike i = (getD (a .member .bytes) i 0 ≡ getD (b .member .bytes) i 0) × (getD (a .job .bytes) i 0 ≡ getD (b .job .bytes) i 0)
+  abbrev pub SameLetters : ℕ → Type 0
+  SameLetters i = (getD (a .member .bytes) i 0 ≡ getD (b .member .bytes) i 0) × (getD (a .job .bytes) i 0 ≡ getD (b .job .bytes) i 0)
 
-  abbrev pub alike : ℕ → Bool
-  alike i = eqb (getD (a .member .bytes) i 0) (getD (b .member .bytes) i 0) && eqb (getD (a .job .bytes) i 0) (getD (b .job .bytes) i 0)
+  abbrev pub same-letters : ℕ → Bool
+  same-letters i = eqb (getD (a .member .bytes) i 0) (getD (b .member .bytes) i 0) && eqb (getD (a .job .bytes) i 0) (getD (b .job .bytes) i 0)
 
-  pub alike-decides : (i : ℕ) → Decides (alike i) (Alike i)
-  alike-decides i = both (getD (a .member .bytes) i 0) (getD (b .member .bytes) i 0) (getD (a .job .bytes) i 0) (getD (b .job .bytes) i 0)
+  pub same-letters-decides : (i : ℕ) → Decides (same-letters i) (SameLetters i)
+  same-letters-decides i = both-equal (getD (a .member .bytes) i 0) (getD (b .member .bytes) i 0) (getD (a .job .bytes) i 0) (getD (b .job .bytes) i 0)
 
-  pub alike-of : (i : ℕ) → a ≡ b → Alike i
-  alike-of i e = (ap (λ (x : Key). getD (x .member .bytes) i 0) e, ap (λ (x : Key). getD (x .job .bytes) i 0) e)
+  pub same-letters-of : (i : ℕ) → a ≡ b → SameLetters i
+  same-letters-of i e = (ap (λ (x : Key). getD (x .member .bytes) i 0) e, ap (λ (x : Key). getD (x .job .bytes) i 0) e)
 
   -- with the same letters, the lengths decide
   pub key-decides : a .member .bytes ≡ b .member .bytes → a .job .bytes ≡ b .job .bytes → Decides (eqb (a .member .len) (b .member .len) && eqb (a .job .len) (b .job .len)) (a ≡ b)
@@ -30,4 +30,4 @@ module _ (a b : Key) where
       decides-same (eqb (a .member .len) (b .member .len) && eqb (a .job .len) (b .job .len))
       (λ w. λ i. record { member = record { len = w .0 i; bytes = m i }; job = record { len = w .1 i; bytes = j i } })
       (λ e. (ap (λ (x : Key). x .member .len) e, ap (λ (x : Key). x .job .len) e))
-      (both (a .member .len) (b .member .len) (a .job .len) (b .job .len))
+      (both-equal (a .member .len) (b .member .len) (a .job .len) (b .job .len))

@@ -17,11 +17,11 @@ number-low TooMany = lit≤ tt
 number-low UsedKey = lit≤ tt
 
 -- the refusal of a number
-numbered : ℕ → Refusal
-numbered n = getD (TooLong ∷ TooLong ∷ NotCsv ∷ NoForm ∷ NoPlace ∷ TooMany ∷ []) n UsedKey
+refusal-of : ℕ → Refusal
+refusal-of n = getD (TooLong ∷ TooLong ∷ NotCsv ∷ NoForm ∷ NoPlace ∷ TooMany ∷ []) n UsedKey
 
-own-number : (why : Refusal) → numbered (refusal-number why) ≡ why
-unfolding numbered
+own-number : (why : Refusal) → refusal-of (refusal-number why) ≡ why
+unfolding refusal-of
 own-number TooLong = refl
 own-number NotCsv = refl
 own-number NoForm = refl
@@ -30,4 +30,4 @@ own-number TooMany = refl
 own-number UsedKey = refl
 
 pub number-one : (a b : Refusal) → refusal-number a ≡ refusal-number b → a ≡ b
-number-one a b e = sym (own-number a) ∙ ap numbered e ∙ own-number b
+number-one a b e = sym (own-number a) ∙ ap refusal-of e ∙ own-number b

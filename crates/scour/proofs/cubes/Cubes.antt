@@ -15,11 +15,11 @@ pub record Bracket (t low high : ℕ) : Type 0 where
   pub reaches : t ≤ high ^ 3
   pub least : (d : ℕ) → t ≤ d ^ 3 → low ≤ d
 
-pub started : {t : ℕ} → t ≤ 41000 ^ 3 → Bracket t 0 41000
-started h = record { order = zero-le; top = le-refl 41000; reaches = h; least = λ d p. zero-le }
+pub bracket-started : {t : ℕ} → t ≤ 41000 ^ 3 → Bracket t 0 41000
+bracket-started h = record { order = zero-le; top = le-refl 41000; reaches = h; least = λ d p. zero-le }
 
-pub raised : {t low high : ℕ} (middle : ℕ) → Bracket t low high → middle < high → middle * middle * middle < t → Bracket t (middle + 1) high
-raised {t} middle b l h = record {
+pub bracket-raised : {t low high : ℕ} (middle : ℕ) → Bracket t low high → middle < high → middle * middle * middle < t → Bracket t (middle + 1) high
+bracket-raised {t} middle b l h = record {
   order = add-one-le l;
   top = b .top;
   reaches = b .reaches;
@@ -30,16 +30,16 @@ raised {t} middle b l h = record {
     either d p (yes k) = absurd (not-le-of-lt (subst (λ (x : ℕ). x < t) (sym (cube middle)) h) (le-trans p (pow-le-pow-left k 3)))
     either d p (no k) = add-one-le (lt-of-not-le k)
 
-pub lowered : {t low high : ℕ} (middle : ℕ) → Bracket t low high → low ≤ middle → middle < high → t ≤ middle * middle * middle → Bracket t low middle
-lowered {t} middle b k l h = record {
+pub bracket-lowered : {t low high : ℕ} (middle : ℕ) → Bracket t low high → low ≤ middle → middle < high → t ≤ middle * middle * middle → Bracket t low middle
+bracket-lowered {t} middle b k l h = record {
   order = k;
   top = omega (arith, b .top);
   reaches = subst (λ (x : ℕ). t ≤ x) (sym (cube middle)) h;
   least = b .least;
 }
 
-pub closed : {t low high : ℕ} → Bracket t low high → high ≤ low → Least (λ d. t ≤ d ^ 3) high
-closed b l = record { holds = b .reaches; least = λ d p. le-trans l (b .least d p) }
+pub bracket-closed : {t low high : ℕ} → Bracket t low high → high ≤ low → Least (λ d. t ≤ d ^ 3) high
+bracket-closed b l = record { holds = b .reaches; least = λ d p. le-trans l (b .least d p) }
 
 -- the cube of a number that the search tries fits a word
 pub square-small : {d : ℕ} → d ≤ 41000 → d * d ≤ 41000 * 41000

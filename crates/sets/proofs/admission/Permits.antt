@@ -31,11 +31,11 @@ some-counted : (held n : ℕ) → held ≡ 1 → 0 < n → 0 < counted held n
 unfolding counted
 some-counted held n e h = rw e h
 
-Some : (Load → ℕ) → Loads → ℕ → ℕ → Type 0
-Some gives loads set n = (i : ℕ) × (i < n) × (bit set i ≡ 1) × (0 < gives (row loads i))
+SomeGives : (Load → ℕ) → Loads → ℕ → ℕ → Type 0
+SomeGives gives loads set n = (i : ℕ) × (i < n) × (bit set i ≡ 1) × (0 < gives (row loads i))
 
-sum-some : (gives : Load → ℕ) (loads : Loads) (set n : ℕ) → 0 < sum gives loads set n → Some gives loads set n
-unfolding sum Some
+sum-some : (gives : Load → ℕ) (loads : Loads) (set n : ℕ) → 0 < sum gives loads set n → SomeGives gives loads set n
+unfolding sum SomeGives
 sum-some gives loads set zero h = absurd (omega arith)
 sum-some gives loads set (suc n) h =
     by-cases (ℕ-discrete (sum gives loads set n) 0)
@@ -75,7 +75,7 @@ one-quake c e = rw e (omega arith)
 -- ---- a set's wind and earthquake rows are what its sums count
 module _ (width : ℕ) (loads : Loads) (set : ℕ) where
   pub has-wind : 0 < (sums-of width loads set) .winds → Has Wind loads set
-  unfolding Has Some
+  unfolding Has SomeGives
   has-wind h =
       let w = sum-some (λ load. is-wind (load .class)) loads set (loads .count) (subst (λ (n : ℕ). 0 < n) (winds-is width loads set) h) in
       (w .0, w .1, w .2, wind-is _ (w .3))
@@ -87,7 +87,7 @@ module _ (width : ℕ) (loads : Loads) (set : ℕ) where
       (some-sum (λ load. is-wind (load .class)) loads set (loads .count) (w .0) (w .1) (w .2) (one-wind _ (w .3)))
 
   pub has-quake : 0 < (sums-of width loads set) .quakes → Has Earthquake loads set
-  unfolding Has Some
+  unfolding Has SomeGives
   has-quake h =
       let w = sum-some (λ load. is-quake (load .class)) loads set (loads .count) (subst (λ (n : ℕ). 0 < n) (quakes-is width loads set) h) in
       (w .0, w .1, w .2, quake-is _ (w .3))

@@ -70,15 +70,15 @@ module _ (s : ℕ) (p : 0 < s) (h : s < 65536) where
       (decides-either ((t ≡ 0) ⊎ (ones s < ones t)) ((ones s ≡ ones t) × (s < t)) (eqb t 0 || ltb (ones s) (ones t)) (eqb (ones s) (ones t) && ltb s t) fewer tied)
 
 -- The rank n with the set s comes before the rank m with the set t: by the place where the ranks are one, or by a lower rank.
-abbrev pub First : ℕ → ℕ → ℕ → ℕ → Type 0
-First n m s t = ((n ≡ m) × (place s < place t)) ⊎ (n < m)
+abbrev pub Leads : ℕ → ℕ → ℕ → ℕ → Type 0
+Leads n m s t = ((n ≡ m) × (place s < place t)) ⊎ (n < m)
 
 module _ (n m s t : ℕ) (p : s < 65536) (q : t < 65536) where
-  pub first-weighs : First n m s t → weight n s ≤ weight m t
-  first-weighs w = ⊎-elim (λ e. weight-place n m s t (e .0) (le-of-lt (e .1))) (λ h. weight-rank n m s t h p q) w
+  pub leads-weighs : Leads n m s t → weight n s ≤ weight m t
+  leads-weighs w = ⊎-elim (λ e. weight-place n m s t (e .0) (le-of-lt (e .1))) (λ h. weight-rank n m s t h p q) w
 
-  pub last-weighs : (First n m s t → ⊥) → weight m t ≤ weight n s
-  last-weighs f =
+  pub follows-weighs : (Leads n m s t → ⊥) → weight m t ≤ weight n s
+  follows-weighs f =
       by-cases (decLe (suc m) n) (λ h. weight-rank m n t s h q p)
       (λ h.
       let over : n < m → ⊥ = λ k. f (inr k) in

@@ -12,7 +12,7 @@ use Rattle.checks.specs.declared.Check.the-variants.{OP, OM, SL, PR, RK}
 use Rattle.checks.specs.ranks.Figures.{Presses, Slides, Leans}
 use Rattle.checks.specs.steps.BySums.{ShowsBySums, apart}
 use Rattle.checks.specs.Order.{side, lowest, highest}
-use Rattle.checks.proofs.set_figures.Showing.{slight}
+use Rattle.checks.proofs.set_figures.Showing.{small-sums}
 use Rattle.weighing.specs.declared.ranked.RankedSet.{RankedSet}
 use Rattle.weighing.specs.declared.Worst.{Worst}
 use Rattle.weighing.specs.steps.Ranked.{Offered}
@@ -61,11 +61,11 @@ abbrev start : tie.After-rk → tie.Start
 start c = c .before .before .before .before .before .before
 
 n-low : (c : tie.After-rk) → c .before .before .before .before .before .excess .result ≤ 2 ^ 20
-n-low c = rw (c .before .before .before .before .before .excess .ensures) (slight ((start c) .pre .1 .0) .n)
+n-low c = rw (c .before .before .before .before .before .excess .ensures) (small-sums ((start c) .pre .1 .0) .n)
 
 m-low : (c : tie.After-rk) → c .before .before .before .before .distance .result ≤ 2 ^ 40
 unfolding apart
-m-low c = rw (c .before .before .before .before .distance .ensures) (slight ((start c) .pre .1 .0) .m)
+m-low c = rw (c .before .before .before .before .distance .ensures) (small-sums ((start c) .pre .1 .0) .m)
 
 sets-low : (c : tie.After-rk) (check : Check) → (0 < (start c) .args .sums .set) × ((start c) .args .sums .set < 65536) × ((ranked-of check ((start c) .args .worst)) .set < 65536)
 unfolding Low
@@ -73,15 +73,15 @@ sets-low c check = let p = (start c) .pre .1 .1 in (p .0 .0, p .0 .1, p .1 check
 
 h-low : (c : tie.After-distance2) → c .distance2 .result ≤ 2 ^ 24
 unfolding apart
-h-low c = rw (c .distance2 .ensures) (slight ((start (c .before .before)) .pre .1 .0) .h)
+h-low c = rw (c .distance2 .ensures) (small-sums ((start (c .before .before)) .pre .1 .0) .h)
 
 tipped-requires : tie.Need-tipped-requires
 unfolding ranked-of
-tipped-requires c κs = let d = c .before .before in let s = slight ((start d) .pre .1 .0) in ((omega (arith, s), omega (arith, s)), sets-low d OP)
+tipped-requires c κs = let d = c .before .before in let s = small-sums ((start d) .pre .1 .0) in ((omega (arith, s), omega (arith, s)), sets-low d OP)
 
 tipped-requires-2 : tie.Need-tipped-requires-2
 unfolding ranked-of
-tipped-requires-2 c κs = let d = c .before .before .before in let s = slight ((start d) .pre .1 .0) in ((omega (arith, s), omega (arith, s)), sets-low d OM)
+tipped-requires-2 c κs = let d = c .before .before .before in let s = small-sums ((start d) .pre .1 .0) in ((omega (arith, s), omega (arith, s)), sets-low d OM)
 
 slid-requires : tie.Need-slid-requires
 unfolding ranked-of

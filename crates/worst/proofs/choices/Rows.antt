@@ -1,4 +1,4 @@
--- A row's stance is what every permitted set does with it, and a row that is free may stand either way.
+-- A row's stance is what every permitted set does with it, and a row that is choosable may stand either way.
 use mathlib.Core.Path.{_≡_, refl, sym, _∙_, ap, subst}
 use mathlib.Core.Logic.{_⊎_, inl, inr, ⊎-elim}
 use mathlib.Core.Bool.{Bool, true, false, cond, true≢false}

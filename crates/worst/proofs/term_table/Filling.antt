@@ -18,8 +18,8 @@ use Rattle.sets.specs.steps.Sums.{no-sums, add, Room}
 use Rattle.sets.proofs.Adding.{room-none, room-add, room-more, room-row, low-place}
 use Rattle.worst.specs.declared.choices.Stance.{Stance}
 use Rattle.worst.specs.declared.choices.Stance.the-variants.{Never, Always, Either}
-use Rattle.worst.specs.steps.Stance.{next, free, fixed-by, fixed, row-terms, stance-at}
-use Rattle.worst.proofs.choices.Choices.{next-le, free-room}
+use Rattle.worst.specs.steps.Stance.{next, choosable, fixed-by, fixed, row-terms, stance-at}
+use Rattle.worst.proofs.choices.Choices.{next-le, choosable-room}
 use Rattle.worst.specs.steps.Table.{terms-at, cells, Puts}
 use Rattle.worst.proofs.term_table.Rows.{puts-own, puts-others}
 use Rattle.worst.specs.declared.term_table.Table.{Table}
@@ -34,11 +34,11 @@ zeros (suc n) (suc i) = zeros n i
 -- ---- the table, one row more
 -- r is the table with one row more
 pub record Grows (table : Table) (stance : Stance) (sums : Sums) (r : Table) : Type 0 where
-  pub count : r .free ≡ next stance (table .free)
+  pub count : r .choosable ≡ next stance (table .choosable)
   pub always : r .fixed ≡ fixed-by stance (table .fixed) sums
-  pub own : stance ≡ Either → terms-at (r .terms) (table .free) ≡ sums
-  pub others : (i : ℕ) → i < table .free → terms-at (r .terms) i ≡ terms-at (table .terms) i
-  pub rest : (i : ℕ) → 13 * r .free ≤ i → getD (r .terms) i 0 ≡ getD (table .terms) i 0
+  pub own : stance ≡ Either → terms-at (r .terms) (table .choosable) ≡ sums
+  pub others : (i : ℕ) → i < table .choosable → terms-at (r .terms) i ≡ terms-at (table .terms) i
+  pub rest : (i : ℕ) → 13 * r .choosable ≤ i → getD (r .terms) i 0 ≡ getD (table .terms) i 0
   pub size : length (r .terms) ≡ length (table .terms)
 
 never-not : _≡_ {A = Stance} Never Either → ⊥
@@ -48,11 +48,11 @@ always-not : _≡_ {A = Stance} Always Either → ⊥
 always-not q = impossible cc
 
 module _ (table r : Table) (sums : Sums) {a : Stance} where
-  -- a row that is not free writes no terms
-  unwritten : (b : Stance) → (b ≡ Either → ⊥) → a ≡ b → r .terms ≡ table .terms → r .free ≡ next b (table .free) → r .fixed ≡ fixed-by b (table .fixed) sums → Grows table a sums r
+  -- a row that is not choosable writes no terms
+  unwritten : (b : Stance) → (b ≡ Either → ⊥) → a ≡ b → r .terms ≡ table .terms → r .choosable ≡ next b (table .choosable) → r .fixed ≡ fixed-by b (table .fixed) sums → Grows table a sums r
   unwritten b n e t f s =
       record {
-        count = f ∙ ap (λ (k : Stance). next k (table .free)) (sym e);
+        count = f ∙ ap (λ (k : Stance). next k (table .choosable)) (sym e);
         always = s ∙ ap (λ (k : Stance). fixed-by k (table .fixed) sums) (sym e);
         own = λ d. absurd (n (sym e ∙ d));
         others = λ i h. ap (λ (l : List ℕ). terms-at l i) t;
@@ -60,19 +60,19 @@ module _ (table r : Table) (sums : Sums) {a : Stance} where
         size = ap length t;
       }
 
-  pub grows-never : a ≡ Never → r .terms ≡ table .terms → r .free ≡ table .free → r .fixed ≡ table .fixed → Grows table a sums r
+  pub grows-never : a ≡ Never → r .terms ≡ table .terms → r .choosable ≡ table .choosable → r .fixed ≡ table .fixed → Grows table a sums r
   unfolding next fixed-by
   grows-never = unwritten Never never-not
 
-  pub grows-always : a ≡ Always → r .terms ≡ table .terms → r .free ≡ table .free → r .fixed ≡ add (table .fixed) sums → Grows table a sums r
+  pub grows-always : a ≡ Always → r .terms ≡ table .terms → r .choosable ≡ table .choosable → r .fixed ≡ add (table .fixed) sums → Grows table a sums r
   unfolding next fixed-by
   grows-always = unwritten Always always-not
 
-  pub grows-free : a ≡ Either → Puts (table .terms) (table .free) sums (r .terms) → r .free ≡ table .free + 1 → r .fixed ≡ table .fixed → Grows table a sums r
+  pub grows-choosable : a ≡ Either → Puts (table .terms) (table .choosable) sums (r .terms) → r .choosable ≡ table .choosable + 1 → r .fixed ≡ table .fixed → Grows table a sums r
   unfolding next fixed-by
-  grows-free e p f s =
+  grows-choosable e p f s =
       record {
-        count = f ∙ add-one _ ∙ ap (λ (k : Stance). next k (table .free)) (sym e);
+        count = f ∙ add-one _ ∙ ap (λ (k : Stance). next k (table .choosable)) (sym e);
         always = s ∙ ap (λ (k : Stance). fixed-by k (table .fixed) sums) (sym e);
         own = λ _. puts-own p;
         others = puts-others p;
@@ -81,8 +81,8 @@ module _ (table r : Table) (sums : Sums) {a : Stance} where
       }
 
 module _ (combination : Combination) (width : ℕ) (loads : Loads) where
-  pub filled-none : (table : Table) → table .terms ≡ replicate 208 0 → table .free ≡ 0 → table .fixed ≡ no-sums → TableIs combination width loads 0 table
-  unfolding free fixed
+  pub filled-none : (table : Table) → table .terms ≡ replicate 208 0 → table .choosable ≡ 0 → table .fixed ≡ no-sums → TableIs combination width loads 0 table
+  unfolding choosable fixed
   filled-none table d e f =
       record {
         count = e;
@@ -92,35 +92,35 @@ module _ (combination : Combination) (width : ℕ) (loads : Loads) where
         size = ap length d ∙ length-replicate {A = ℕ} 208 0;
       }
 
-  free-step : (i n : ℕ) → i < n → stance-at combination loads i ≡ Either → free (stance-at combination loads) i < free (stance-at combination loads) n
-  unfolding free next
-  free-step i zero h e = absurd (omega arith)
-  free-step i (suc n) h e =
-      by-cases (decLt i n) (λ l. lt-of-lt-of-le (free-step i n l e) (next-le (stance-at combination loads n) (free (stance-at combination loads) n)))
+  choosable-step : (i n : ℕ) → i < n → stance-at combination loads i ≡ Either → choosable (stance-at combination loads) i < choosable (stance-at combination loads) n
+  unfolding choosable next
+  choosable-step i zero h e = absurd (omega arith)
+  choosable-step i (suc n) h e =
+      by-cases (decLt i n) (λ l. lt-of-lt-of-le (choosable-step i n l e) (next-le (stance-at combination loads n) (choosable (stance-at combination loads) n)))
       (λ l.
       let d : i ≡ n = omega arith in
       let f : stance-at combination loads n ≡ Either = subst (λ (j : ℕ). stance-at combination loads j ≡ Either) d e in
-      subst (λ (j : ℕ). free (stance-at combination loads) j < next (stance-at combination loads n) (free (stance-at combination loads) n)) (sym d)
-      (subst⁻¹ (λ (a : Stance). free (stance-at combination loads) n < next a (free (stance-at combination loads) n)) f (omega arith)))
+      subst (λ (j : ℕ). choosable (stance-at combination loads) j < next (stance-at combination loads n) (choosable (stance-at combination loads) n)) (sym d)
+      (subst⁻¹ (λ (a : Stance). choosable (stance-at combination loads) n < next a (choosable (stance-at combination loads) n)) f (omega arith)))
 
   pub filled-more : (n : ℕ) {table r : Table} {a : Stance} {sums : Sums} → TableIs combination width loads n table → a ≡ stance-at combination loads n → sums ≡ row-terms width loads n
       → Grows table a sums r → TableIs combination width loads (n + 1) r
-  unfolding free fixed
+  unfolding choosable fixed
   filled-more n {table} {r} {a} {sums} f e d g =
       subst⁻¹ (λ (m : ℕ). TableIs combination width loads m r) (add-one n)
       (record {
         count = g .count ∙ ap₂ next e (f .count);
         always = g .always ∙ (λ i. fixed-by (e i) (f .always i) (d i));
         rows = λ i h s. go i s (decLt i n) (omega arith);
-        rest = λ i h. g .rest i h ∙ f .rest i (omega (arith, h, g .count, next-le a (table .free)));
+        rest = λ i h. g .rest i h ∙ f .rest i (omega (arith, h, g .count, next-le a (table .choosable)));
         size = g .size ∙ f .size;
       })
     where
-      go : (i : ℕ) → stance-at combination loads i ≡ Either → Dec (i < n) → i ≤ n → terms-at (r .terms) (free (stance-at combination loads) i) ≡ row-terms width loads i
-      go i s (yes l) h = g .others (free (stance-at combination loads) i) (subst (λ (m : ℕ). free (stance-at combination loads) i < m) (sym (f .count)) (free-step i n l s)) ∙ f .rows i l s
+      go : (i : ℕ) → stance-at combination loads i ≡ Either → Dec (i < n) → i ≤ n → terms-at (r .terms) (choosable (stance-at combination loads) i) ≡ row-terms width loads i
+      go i s (yes l) h = g .others (choosable (stance-at combination loads) i) (subst (λ (m : ℕ). choosable (stance-at combination loads) i < m) (sym (f .count)) (choosable-step i n l s)) ∙ f .rows i l s
       go i s (no l) h =
           let k : i ≡ n = omega arith in
-          subst (λ (j : ℕ). terms-at (r .terms) (free (stance-at combination loads) j) ≡ row-terms width loads j) (sym k)
+          subst (λ (j : ℕ). terms-at (r .terms) (choosable (stance-at combination loads) j) ≡ row-terms width loads j) (sym k)
           (ap (terms-at (r .terms)) (sym (f .count)) ∙ g .own (e ∙ subst (λ (j : ℕ). stance-at combination loads j ≡ Either) k s) ∙ d)
 
   -- ---- sizes
@@ -141,31 +141,31 @@ module _ (combination : Combination) (width : ℕ) (loads : Loads) where
     fixed-room (suc n) h =
         fixed-room-by (stance-at combination loads n) n _ _ (fixed-room n (omega arith)) (terms-room n (omega arith))
 
--- every place of the table that is in use is that of a free row
-free-onto : (stance : ℕ → Stance) (n j : ℕ) → j < free stance n → (i : ℕ) × (i < n) × (stance i ≡ Either) × (free stance i ≡ j)
-unfolding free next
-free-onto stance zero j h = absurd (omega arith)
-free-onto stance (suc n) j h = go (stance n) refl (λ l. free-onto stance n j l) h
+-- every place of the table that is in use is that of a choosable row
+choosable-onto : (stance : ℕ → Stance) (n j : ℕ) → j < choosable stance n → (i : ℕ) × (i < n) × (stance i ≡ Either) × (choosable stance i ≡ j)
+unfolding choosable next
+choosable-onto stance zero j h = absurd (omega arith)
+choosable-onto stance (suc n) j h = go (stance n) refl (λ l. choosable-onto stance n j l) h
   where
     Found-at : Type 0
-    Found-at = (i : ℕ) × (i < suc n) × (stance i ≡ Either) × (free stance i ≡ j)
+    Found-at = (i : ℕ) × (i < suc n) × (stance i ≡ Either) × (choosable stance i ≡ j)
 
-    below : ((i : ℕ) × (i < n) × (stance i ≡ Either) × (free stance i ≡ j)) → Found-at
+    below : ((i : ℕ) × (i < n) × (stance i ≡ Either) × (choosable stance i ≡ j)) → Found-at
     below w = (w .0, omega (arith, w .1), w .2, w .3)
 
-    go : (a : Stance) → stance n ≡ a → (j < free stance n → (i : ℕ) × (i < n) × (stance i ≡ Either) × (free stance i ≡ j)) → j < next a (free stance n) → Found-at
+    go : (a : Stance) → stance n ≡ a → (j < choosable stance n → (i : ℕ) × (i < n) × (stance i ≡ Either) × (choosable stance i ≡ j)) → j < next a (choosable stance n) → Found-at
     go Never e before l = below (before l)
     go Always e before l = below (before l)
-    go Either e before l = by-cases (decLt j (free stance n)) (λ k. below (before k)) (λ k. (n, omega arith, e, omega arith))
+    go Either e before l = by-cases (decLt j (choosable stance n)) (λ k. below (before k)) (λ k. (n, omega arith, e, omega arith))
 
 pub filled-room : (combination : Combination) (width : ℕ) (loads : Loads) (table : Table) → width ≤ 30000 → Bounded loads → TableIs combination width loads (loads .count) table
-    → (j : ℕ) → j < table .free → Room 1 (terms-at (table .terms) j)
+    → (j : ℕ) → j < table .choosable → Room 1 (terms-at (table .terms) j)
 filled-room combination width loads table w b f j h =
-    let i = free-onto (stance-at combination loads) (loads .count) j (subst (λ (m : ℕ). j < m) (f .count) h) in
+    let i = choosable-onto (stance-at combination loads) (loads .count) j (subst (λ (m : ℕ). j < m) (f .count) h) in
     subst (λ (x : ℕ). Room 1 (terms-at (table .terms) x)) (i .3) (subst⁻¹ (Room 1) (f .rows (i .0) (i .1) (i .2)) (terms-room combination width loads w b (i .0) (i .1)))
 
-pub filled-few : (combination : Combination) (width : ℕ) (loads : Loads) (table : Table) → Bounded loads → TableIs combination width loads (loads .count) table → table .free ≤ 16
-filled-few combination width loads table b f = omega (arith, f .count, free-room (stance-at combination loads) (loads .count), b .count)
+pub filled-few : (combination : Combination) (width : ℕ) (loads : Loads) (table : Table) → Bounded loads → TableIs combination width loads (loads .count) table → table .choosable ≤ 16
+filled-few combination width loads table b f = omega (arith, f .count, choosable-room (stance-at combination loads) (loads .count), b .count)
 
 -- ---- no second table meets the promise of `fill`
 
@@ -188,15 +188,15 @@ row-cells t j (suc (suc (suc (suc (suc (suc (suc (suc (suc (suc (suc (suc zero))
 row-cells t j (suc (suc (suc (suc (suc (suc (suc (suc (suc (suc (suc (suc (suc g))))))))))))) h = absurd (omega arith)
 
 module _ (combination : Combination) (width : ℕ) (loads : Loads) (n : ℕ) {s t : Table} (p : TableIs combination width loads n s) (q : TableIs combination width loads n t) where
-  as-many : s .free ≡ t .free
+  as-many : s .choosable ≡ t .choosable
   as-many = p .count ∙ sym (q .count)
 
-  same-row : (j : ℕ) → j < s .free → terms-at (s .terms) j ≡ terms-at (t .terms) j
+  same-row : (j : ℕ) → j < s .choosable → terms-at (s .terms) j ≡ terms-at (t .terms) j
   same-row j h =
-      let i = free-onto (stance-at combination loads) n j (subst (λ (m : ℕ). j < m) (p .count) h) in
+      let i = choosable-onto (stance-at combination loads) n j (subst (λ (m : ℕ). j < m) (p .count) h) in
       subst (λ (x : ℕ). terms-at (s .terms) x ≡ terms-at (t .terms) x) (i .3) (p .rows (i .0) (i .1) (i .2) ∙ sym (q .rows (i .0) (i .1) (i .2)))
 
-  same-number : (i : ℕ) → Dec (i < 13 * s .free) → getD (s .terms) i 0 ≡ getD (t .terms) i 0
+  same-number : (i : ℕ) → Dec (i < 13 * s .choosable) → getD (s .terms) i 0 ≡ getD (t .terms) i 0
   same-number i (no h) = p .rest i (omega arith) ∙ sym (q .rest i (omega (arith, as-many)))
   same-number i (yes h) =
       let e : 13 * (i / 13) + i % 13 ≡ i = omega arith in
@@ -208,7 +208,7 @@ module _ (combination : Combination) (width : ℕ) (loads : Loads) (n : ℕ) {s 
   pub filled-one : s ≡ t
   filled-one =
       λ i. record {
-        terms = ext-getD 0 (s .terms) (t .terms) (p .size ∙ sym (q .size)) (λ k _. same-number k (decLt k (13 * s .free))) i;
-        free = as-many i;
+        terms = ext-getD 0 (s .terms) (t .terms) (p .size ∙ sym (q .size)) (λ k _. same-number k (decLt k (13 * s .choosable))) i;
+        choosable = as-many i;
         fixed = (p .always ∙ sym (q .always)) i;
       }

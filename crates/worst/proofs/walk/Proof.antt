@@ -30,13 +30,13 @@ use Rattle.worst.proofs.walk.Statement.{statement}
 use Rattle.worst.proofs.walk.Tie as tie
 
 abbrev Inv-loop : tie.InvT-loop
-Inv-loop combination base serves terms free fixed worst₀ low step choices upper₀ k₀ worst upper k = (k ≤ choices) × Low worst
-    × (0 < k % step → upper ≡ chosen fixed (terms-from terms low) (k / step) (free - low))
-    × ((loads : Loads) → Bounded loads → Arises combination loads → TableIs combination (base .width) loads (loads .count) (record { terms = terms; free = free; fixed = fixed })
+Inv-loop combination base serves terms choosable fixed worst₀ low step choices upper₀ k₀ worst upper k = (k ≤ choices) × Low worst
+    × (0 < k % step → upper ≡ chosen fixed (terms-from terms low) (k / step) (choosable - low))
+    × ((loads : Loads) → Bounded loads → Arises combination loads → TableIs combination (base .width) loads (loads .count) (record { terms = terms; choosable = choosable; fixed = fixed })
     → So-far combination base loads serves k (record { rank = 2 ^ 64 - 1; set = 0 }) worst)
 
 abbrev μ-loop : tie.MeasureT-loop
-μ-loop combination base serves terms free fixed worst₀ low step choices upper₀ k₀ worst upper k = choices - k
+μ-loop combination base serves terms choosable fixed worst₀ low step choices upper₀ k₀ worst upper k = choices - k
 
 none : RankedSet
 none = record { rank = 2 ^ 64 - 1; set = 0 }
@@ -60,11 +60,11 @@ power : (n : ℕ) → n ≤ 16 → (1 * 2 ^ n) % 2 ^ 64 ≡ 2 ^ n
 power n h = shl-exact 1 n 64 (lit< tt) (omega arith) ∙ one-mul (2 ^ n)
 
 -- a choice's sums, those of the rows from `low` on having been added before
-in-parts : (t : List ℕ) (first upper : Sums) (k step low free : ℕ) → step ≡ 2 ^ low → low ≤ free → upper ≡ chosen first (terms-from t low) (k / step) (free - low)
-    → chosen upper (terms-from t 0) (k % step) low ≡ chosen first (terms-at t) k free
-in-parts t first upper k step low free s l e =
-    (λ i. chosen (e i) (terms-from t 0) (k % step) low) ∙ (λ i. chosen (chosen first (terms-from t low) (k / s i) (free - low)) (terms-from t 0) (k % s i) low)
-    ∙ two-parts t first k low (free - low) ∙ ap (chosen first (terms-at t) k) (omega arith)
+in-parts : (t : List ℕ) (first upper : Sums) (k step low choosable : ℕ) → step ≡ 2 ^ low → low ≤ choosable → upper ≡ chosen first (terms-from t low) (k / step) (choosable - low)
+    → chosen upper (terms-from t 0) (k % step) low ≡ chosen first (terms-at t) k choosable
+in-parts t first upper k step low choosable s l e =
+    (λ i. chosen (e i) (terms-from t 0) (k % step) low) ∙ (λ i. chosen (chosen first (terms-from t low) (k / s i) (choosable - low)) (terms-from t 0) (k % s i) low)
+    ∙ two-parts t first k low (choosable - low) ∙ ap (chosen first (terms-at t) k) (omega arith)
 
 -- a choice that differs from the one before in the first rows alone
 same-part : (k step low : ℕ) → step ≡ 2 ^ low → 0 < (k + 1) % step → (k + 1) / step ≡ k / step
@@ -75,33 +75,33 @@ same-part k step low s h =
     sym (ap (λ (n : ℕ). n / 2 ^ low) (sym e) ∙ high ((k + 1) / 2 ^ low) low (omega (arith, mod-lt (k + 1) (pow-pos low))))) h
 
 module _ (c : tie.After-fill Inv-loop μ-loop) where
-  few : c .fill .result .free ≤ 16
+  few : c .fill .result .choosable ≤ 16
   few = filled-few _ _ _ _ (c .before .before .pre .1 .0) (c .fill .ensures)
 
-  stepped : (1 * 2 ^ (c .fill .result .free / 4)) % 2 ^ 64 ≡ 2 ^ (c .fill .result .free / 4)
+  stepped : (1 * 2 ^ (c .fill .result .choosable / 4)) % 2 ^ 64 ≡ 2 ^ (c .fill .result .choosable / 4)
   stepped = power _ (omega (arith, few))
 
-  some : 0 < (1 * 2 ^ (c .fill .result .free / 4)) % 2 ^ 64
+  some : 0 < (1 * 2 ^ (c .fill .result .choosable / 4)) % 2 ^ 64
   some = subst⁻¹ (λ (n : ℕ). 0 < n) stepped (pow-pos _)
 
   fixed-fits : Room 16 (c .fill .result .fixed)
   fixed-fits =
       subst⁻¹ (Room 16) (c .fill .ensures .always) (room-more (c .before .before .pre .1 .0 .count) (fixed-room _ _ _ (c .before .before .pre .0 .width) (c .before .before .pre .1 .0) _ (le-refl _)))
 
-  row-fits : (j : ℕ) → j < c .fill .result .free → Room 1 (terms-at (c .fill .result .terms) j)
+  row-fits : (j : ℕ) → j < c .fill .result .choosable → Room 1 (terms-at (c .fill .result .terms) j)
   row-fits = filled-room _ _ _ _ (c .before .before .pre .0 .width) (c .before .before .pre .1 .0) (c .fill .ensures)
 
 -- the sums of the rows from `low` on, whether they were added for this choice or before
 upper-is : (c : tie.Joined1 Inv-loop μ-loop)
     → let t = c .before .before .before .before .before .fill .result in
-    let step = (1 * 2 ^ (t .free / 4)) % 2 ^ 64 in
-    c .if1 .upper ≡ chosen (t .fixed) (terms-from (t .terms) (t .free / 4)) (c .before .before .loop .k / step) (t .free - t .free / 4)
+    let step = (1 * 2 ^ (t .choosable / 4)) % 2 ^ 64 in
+    c .if1 .upper ≡ chosen (t .fixed) (terms-from (t .terms) (t .choosable / 4)) (c .before .before .loop .k / step) (t .choosable - t .choosable / 4)
 upper-is c = ⊎-elim (λ w. w .3 ∙ w .2 .ensures) (λ w. w .1 ∙ c .before .before .loop .inv .2 (omega (arith, w .0 .left))) (c .if1 .came)
 
 -- the sums are those of the choice
 summed : (c : tie.After-sums-at2 Inv-loop μ-loop)
     → let t = c .before .before .before .before .before .before .before .fill .result in
-    c .sums-at2 .result ≡ chosen (t .fixed) (terms-at (t .terms)) (c .before .before .before .before .loop .k) (t .free)
+    c .sums-at2 .result ≡ chosen (t .fixed) (terms-at (t .terms)) (c .before .before .before .before .loop .k) (t .choosable)
 summed c =
     c .sums-at2 .ensures
     ∙ in-parts _ _ _ _ _ _ _ (stepped (c .before .before .before .before .before .before .before)) (omega arith) (upper-is (c .before .before))
@@ -121,7 +121,7 @@ shl-choices c = omega (arith, few (c .before .before))
 loop-holds : tie.Need-loop-holds Inv-loop μ-loop
 unfolding Low ranked-of start none
 loop-holds c =
-    (search needs, none-low, (λ h. absurd (omega (arith, zero-mod ((1 * 2 ^ (c .before .before .fill .result .free / 4)) % 2 ^ 64), h))), λ loads bounded arises filled. nothing-passed _ _ loads bounded arises _ none _ none-yet)
+    (search needs, none-low, (λ h. absurd (omega (arith, zero-mod ((1 * 2 ^ (c .before .before .fill .result .choosable / 4)) % 2 ^ 64), h))), λ loads bounded arises filled. nothing-passed _ _ loads bounded arises _ none _ none-yet)
 
 rem-if1 : tie.Need-rem-if1 Inv-loop μ-loop
 rem-if1 c = some (c .before .before .before .before)
@@ -183,7 +183,7 @@ loop-again c =
     let a = f .before .before .args in (
       omega (arith, c .before .before .before .before .loop-test .taken),
       c .visit .ensures .low,
-      (λ h. upper-is (c .before .before .before) ∙ ap (λ (n : ℕ). chosen (t .fixed) (terms-from (t .terms) (t .free / 4)) n (t .free - t .free / 4)) (sym (same-part k _ _ (stepped f) h))),
+      (λ h. upper-is (c .before .before .before) ∙ ap (λ (n : ℕ). chosen (t .fixed) (terms-from (t .terms) (t .choosable / 4)) n (t .choosable - t .choosable / 4)) (sym (same-part k _ _ (stepped f) h))),
       λ loads bounded arises filled. one-choice (a .combination) (a .base) loads bounded arises _ k none (summed (c .before) ∙ choice-sums (a .combination) (a .base) loads bounded arises _ k filled) (c .visit .ensures) (inv .3 loads bounded arises filled),
     )
 

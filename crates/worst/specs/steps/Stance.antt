@@ -31,12 +31,12 @@ by-class IV Earthquake = Either
 unfoldable pub acting : Combination → ℕ → Bool
 acting k phase = cond (eqb phase (own-phase k)) true (eqb phase 2)
 
--- in no set of the combination, in every one, or free
+-- in no set of the combination, in every one, or choosable
 unfoldable pub stance-of : Combination → Load → Stance
 unfolding acting
 stance-of k load = cond (acting k (load .phase)) (by-class k (load .class)) Never
 
--- ---- the choices of the free rows: choice k of the first rows holds row i as the row's stance says, and by the next bit of k where it is free
+-- ---- the choices of the choosable rows: choice k of the first rows holds row i as the row's stance says, and by the next bit of k where it is choosable
 unfoldable pub held-by : Stance → ℕ → ℕ
 held-by Never b = 0
 held-by Always b = 1
@@ -47,10 +47,10 @@ next Never m = m
 next Always m = m
 next Either m = suc m
 
--- how many of the first n rows are free
-unfoldable pub free : (ℕ → Stance) → ℕ → ℕ
-free stance zero = 0
-free stance (suc n) = next (stance n) (free stance n)
+-- how many of the first n rows are choosable
+unfoldable pub choosable : (ℕ → Stance) → ℕ → ℕ
+choosable stance zero = 0
+choosable stance (suc n) = next (stance n) (choosable stance n)
 
 unfoldable pub join : ℕ → ℕ → ℕ → ℕ
 join zero s place = s
@@ -59,7 +59,7 @@ join (suc b) s place = s + place
 -- the set of the first n rows that choice k makes
 unfoldable pub pick : (ℕ → Stance) → ℕ → ℕ → ℕ
 pick stance zero k = 0
-pick stance (suc n) k = join (held-by (stance n) (bit k (free stance n))) (pick stance n k) (2 ^ n)
+pick stance (suc n) k = join (held-by (stance n) (bit k (choosable stance n))) (pick stance n k) (2 ^ n)
 
 -- ---- the sums of a choice: the rows in every set, and those of the table that the choice holds
 unfoldable pub fixed-by : Stance → Sums → Sums → Sums

@@ -8,7 +8,7 @@ use Rattle.checks.specs.ranks.Figures.{Presses, Slides, Leans}
 use Rattle.checks.specs.steps.BySums.{ShowsBySums, apart}
 use Rattle.checks.specs.Order.{side, lowest, highest}
 use Rattle.checks.specs.steps.Ranks.{Ranks}
-use Rattle.checks.proofs.set_figures.Showing.{slight}
+use Rattle.checks.proofs.set_figures.Showing.{small-sums}
 use Rattle.checks.proofs.set_figures.rank_of.Statement.{statement}
 use Rattle.checks.proofs.set_figures.rank_of.Tie as tie
 
@@ -26,27 +26,27 @@ abbrev start : tie.After-distance2 → tie.Start
 start c = c .before .before .before
 
 n-low : (c : tie.After-distance2) → c .before .before .excess .result ≤ 2 ^ 20
-n-low c = rw (c .before .before .excess .ensures) (slight ((start c) .pre .1) .n)
+n-low c = rw (c .before .before .excess .ensures) (small-sums ((start c) .pre .1) .n)
 
 h-low : (c : tie.After-distance2) → c .before .distance .result ≤ 2 ^ 24
 unfolding apart
-h-low c = rw (c .before .distance .ensures) (slight ((start c) .pre .1) .h)
+h-low c = rw (c .before .distance .ensures) (small-sums ((start c) .pre .1) .h)
 
 m-low : (c : tie.After-distance2) → c .distance2 .result ≤ 2 ^ 40
 unfolding apart
-m-low c = rw (c .distance2 .ensures) (slight ((start c) .pre .1) .m)
+m-low c = rw (c .distance2 .ensures) (small-sums ((start c) .pre .1) .m)
 
 enum-told : tie.Need-enum-told
 enum-told c = search needs
 
 tip-rank-requires : tie.Need-tip-rank-requires
-tip-rank-requires c κs = omega (arith, slight ((start (c .before .before)) .pre .1))
+tip-rank-requires c κs = omega (arith, small-sums ((start (c .before .before)) .pre .1))
 
 enum-told-2 : tie.Need-enum-told-2
 enum-told-2 c = search needs
 
 tip-rank-requires-2 : tie.Need-tip-rank-requires-2
-tip-rank-requires-2 c κs = omega (arith, slight ((start (c .before .before)) .pre .1))
+tip-rank-requires-2 c κs = omega (arith, small-sums ((start (c .before .before)) .pre .1))
 
 enum-told-3 : tie.Need-enum-told-3
 enum-told-3 c = search needs

@@ -13,7 +13,7 @@ use Rattle.csv.specs.field.Answer.{FieldAt}
 use Rattle.csv.specs.declared.field.Ended.{Ended}
 use Rattle.csv.specs.declared.field.Ended.the-variants.{Comma, Row, End, Bad}
 use Rattle.csv.proofs.field.Ended.{the-type}
-use Rattle.csv.proofs.Steps.{Step, step-comma, step-row, step-bad}
+use Rattle.csv.proofs.Steps.{FieldStep, step-comma, step-row, step-bad}
 use Rattle.csv.proofs.cells.Noted.{RowInv, seen-none, inv-comma, inv-row, inv-end}
 use Rattle.csv.proofs.cells.cells_at.Statement.{statement}
 use Rattle.csv.proofs.cells.cells_at.Tie as tie
@@ -56,7 +56,7 @@ is-end Bad h n = absurd (n refl)
 
 -- one field further on: no more fields are passed than bytes
 abbrev further : (c : tie.After-field-end Inv-loop μ-loop) → ℕ → Type 0
-further c next = (c .before .loop .n ≤ c .before .loop .at) × Step (text c) (c .before .loop .at) next
+further c next = (c .before .loop .n ≤ c .before .loop .at) × FieldStep (text c) (c .before .loop .at) next
 
 after-comma : (c : tie.After-f Inv-loop μ-loop) → further (c .before .before .before) (c .f .given .0 .0 + 1)
 after-comma c = let at-field = c .before .before .before in (at-field .before .loop .inv .few, step-comma _ _ _ (ends at-field (Comma _) (c .f .given .1)))

@@ -12,7 +12,7 @@ use Rattle.csv.specs.quoted.Closing.{FirstByte, ClosedAt}
 use Rattle.csv.specs.field.Answer.{FieldTo}
 use Rattle.arithmetic.specs.decides.Decides.{Decides, decided, refuted, decides-both}
 use Rattle.csv.proofs.rfc4180.Parts.{begins-lt}
-use Rattle.csv.proofs.field.Scan.{begun, two-bytes, no-stop}
+use Rattle.csv.proofs.field.Scan.{byte-first, two-bytes-first, no-stop}
 use Rattle.csv.proofs.field.Ends.{EndsAt, not-followed, plain-ends, quoted-ends, unclosed}
 use borrow.Author.Needs.{needs}
 use Rattle.csv.proofs.field.field_end.Statement.{statement}
@@ -85,7 +85,7 @@ byte-is-requires-2 c κs = search needs
 returns-3 : tie.Need-returns-3
 returns-3 c =
     let at-end = c .before .before .before in
-    (ends at-end .field, begun (text at-end) (at-end .if1 .end) COMMA (decided _ (c .if3 .taken) (c .before .byte-is2 .ensures)))
+    (ends at-end .field, byte-first (text at-end) (at-end .if1 .end) COMMA (decided _ (c .if3 .taken) (c .before .byte-is2 .ensures)))
 
 byte-is-requires-3 : tie.Need-byte-is-requires-3
 byte-is-requires-3 c κs = search needs
@@ -112,7 +112,7 @@ module _ (c : tie.After-byte-is4) where
 returns-4 : tie.Need-returns-4
 returns-4 c =
     let e = at-end (c .before) in
-    (ends e .field, two-bytes (text e) (e .if1 .end) CR LF (decided _ (c .if4 .taken) (row-end (c .before))))
+    (ends e .field, two-bytes-first (text e) (e .if1 .end) CR LF (decided _ (c .if4 .taken) (row-end (c .before))))
 
 returns-5 : tie.Need-returns-5
 returns-5 c =

@@ -12,7 +12,7 @@ use Rattle.debtarush.proofs.finding.Found.{the-type}
 use Rattle.debtarush.specs.declared.finding.Found.{Found}
 use Rattle.debtarush.specs.declared.finding.Found.the-variants.{There, Book, NoPlace}
 use Rattle.debtarush.proofs.finding.FoundAnswers.{book-there, nowhere-there}
-use Rattle.debtarush.proofs.finding.Placing.{Inside, inside, outside}
+use Rattle.debtarush.proofs.finding.Placing.{JobThere, job-there, outside}
 use denote.Ref.{now}
 use borrow.Author.Needs.{needs}
 use Rattle.debtarush.proofs.finding.job_at.Statement.{statement}
@@ -23,8 +23,8 @@ module _ (c : tie.After-enum-told) where
   abbrev at-book : tie.After-read-book
   at-book = c .before .before .before .before
 
-  job : Inside (now (at-book .before .before .args .book)) (at-book .read-book .result .jobs) (at-book .before .before .args .place)
-  job = inside (at-book .read-book .ensures) _ (c .before .before .before .found-at .ensures) (c .enum-told .given .1)
+  job : JobThere (now (at-book .before .before .args .book)) (at-book .read-book .result .jobs) (at-book .before .before .args .place)
+  job = job-there (at-book .read-book .ensures) _ (c .before .before .before .found-at .ensures) (c .enum-told .given .1)
 
 -- and one that has none, known by its place among what can be found
 none-there : (f : Found) → OneOf (1 ∷ 2 ∷ []) (tagOf the-type f) → f ≡ There → ⊥

@@ -8,12 +8,12 @@ use native.Mathlib.Omega.{arith}
 use borrow.Author.Needs.{needs}
 use lib.ListN.{length, getD}
 use Rattle.arithmetic.specs.decides.Decides.{decided, refuted}
-use Rattle.fields.proofs.digits.Numerals.{numeral-some, lengths, Digit, Passed, nothing, room, passed-all, passed-stops, digit, passed-more}
+use Rattle.fields.proofs.digits.Numerals.{numeral-some, lengths, Digit, DigitsRead, nothing, room, digits-all, digits-stop, digit, digits-more}
 use Rattle.fields.proofs.digits.digits_of.Statement.{statement}
 use Rattle.fields.proofs.digits.digits_of.Tie as tie
 
 abbrev Inv-loop : tie.InvT-loop
-Inv-loop content n worth₀ i₀ worth i = (1 ≤ n) × (n ≤ 9) × (i ≤ n) × Passed content i worth
+Inv-loop content n worth₀ i₀ worth i = (1 ≤ n) × (n ≤ 9) × (i ≤ n) × DigitsRead content i worth
 
 abbrev μ-loop : tie.MeasureT-loop
 μ-loop content n worth₀ i₀ worth i = n - i
@@ -41,7 +41,7 @@ cast-b c = omega (arith, c .shared-slice-known .given (c .before .before .loop .
 returns-2 : tie.Need-returns-2 Inv-loop μ-loop
 returns-2 c = λ n d.
     let at-loop = c .before .before .before in
-    passed-stops (at-loop .before .before .args .content .now) (at-loop .loop .i) (at-loop .loop .worth) (c .before .before .loop-test .taken) (at-loop .loop .inv .3) (c .if2 .taken) n (d .numeral)
+    digits-stop (at-loop .before .before .args .content .now) (at-loop .loop .i) (at-loop .loop .worth) (c .before .before .loop-test .taken) (at-loop .loop .inv .3) (c .if2 .taken) n (d .numeral)
 
 -- one more digit
 module _ (c : tie.Else2 Inv-loop μ-loop) where
@@ -78,12 +78,12 @@ loop-less c = search needs
 loop-again : tie.Need-loop-again Inv-loop μ-loop
 loop-again c =
     let inv = c .before .before .before .loop .inv in
-    (inv .0, inv .1, search needs, passed-more (s c) (i c) (worth c) (c .before .before .loop-test .taken) (c .if2 .left) (inv .3))
+    (inv .0, inv .1, search needs, digits-more (s c) (i c) (worth c) (c .before .before .loop-test .taken) (c .if2 .left) (inv .3))
 
 returns-3 : tie.Need-returns-3 Inv-loop μ-loop
 returns-3 c =
     let inv = c .before .loop .inv in
-    record { numeral = passed-all _ _ _ (inv .0) (c .loop-test .left) (inv .3); few = inv .1 }
+    record { numeral = digits-all _ _ _ (inv .0) (c .loop-test .left) (inv .3); few = inv .1 }
 
 pub digits-of-spec : {M : Type 1} → statement M
 digits-of-spec =

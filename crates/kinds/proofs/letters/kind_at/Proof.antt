@@ -11,12 +11,12 @@ use Rattle.kinds.specs.declared.Kind.{Kind}
 use Rattle.kinds.specs.declared.Kind.the-variants.{B, S, C, E, DL, EP, LL, LF, CF, WC, BU, TM, EX, WL, SF}
 use Rattle.kinds.specs.letters.Form.{KindAt}
 use Rattle.kinds.specs.declared.letters.KindRead.the-variants.{Known, Unknown}
-use Rattle.kinds.proofs.letters.Letters.{kind-field, coded, Passed, passed-none, room, passed-more, found, no-kind}
+use Rattle.kinds.proofs.letters.Letters.{kind-field, coded, LettersRead, letters-none, room, letters-more, found, no-kind}
 use Rattle.kinds.proofs.letters.kind_at.Statement.{statement}
 use Rattle.kinds.proofs.letters.kind_at.Tie as tie
 
 abbrev Inv-loop : tie.InvT-loop
-Inv-loop raw content code₀ i₀ code i = Passed content i code
+Inv-loop raw content code₀ i₀ code i = LettersRead content i code
 
 abbrev μ-loop : tie.MeasureT-loop
 μ-loop raw content code₀ i₀ code i = 3 - i
@@ -25,7 +25,7 @@ bare-requires : tie.Need-bare-requires Inv-loop μ-loop
 bare-requires c κs = search needs
 
 loop-holds : tie.Need-loop-holds Inv-loop μ-loop
-loop-holds c = passed-none (c .bare .result .now)
+loop-holds c = letters-none (c .bare .result .now)
 
 -- where a byte is read
 module _ (c : tie.In-loop Inv-loop μ-loop) where
@@ -66,7 +66,7 @@ loop-less c = let r = space (c .before) in search needs
 loop-again : tie.Need-loop-again Inv-loop μ-loop
 loop-again c =
     let at = c .before in
-    passed-more (content at) (i at) (code at) (at .before .loop .inv) (at .loop-test .taken) (byte c)
+    letters-more (content at) (i at) (code at) (at .before .loop .inv) (at .loop-test .taken) (byte c)
 
 -- where the bytes are read, by the number that they make
 module _ (c : tie.After-loop Inv-loop μ-loop) where

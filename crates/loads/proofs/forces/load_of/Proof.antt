@@ -10,14 +10,14 @@ use Rattle.earth.specs.table2.Table2.{table2-fill}
 use Rattle.earth.proofs.Bounds.{pressed-modest}
 use Rattle.earth.proofs.table2.Marks.{table2-small}
 use Rattle.kinds.specs.declared.Row.{Row}
-use Rattle.kinds.specs.declared.classes.Source.the-variants.{Earth, Written}
+use Rattle.kinds.specs.declared.classes.Source.the-variants.{Earth, Own}
 use Rattle.kinds.specs.classes.Classes.{source}
 use Rattle.kinds.specs.ranges.Range.{Ranged}
-use Rattle.kinds.proofs.classes.Sources.{absent-earth, written-earth}
+use Rattle.kinds.proofs.classes.Sources.{absent-earth, own-earth}
 use Rattle.sets.specs.declared.Load.{Load}
 use Rattle.loads.specs.forces.Exerts.{Forces}
 use Rattle.loads.specs.forces.Exerted.{LoadOf}
-use Rattle.loads.proofs.forces.Exerting.{written-columns, around-size, Kept, told-out, told-blank, told-push, told-load}
+use Rattle.loads.proofs.forces.Exerting.{own-columns, around-size, Kept, told-out, told-blank, told-push, told-load}
 use Rattle.loads.proofs.forces.load_of.Statement.{statement}
 use Rattle.loads.proofs.forces.load_of.Tie as tie
 
@@ -78,14 +78,14 @@ unfolding LoadOf
 returns c = refuted (c .before .is-ranged .result) (not-true _ (c .if1 .taken)) (c .before .is-ranged .ensures)
 
 -- past the test of its ranges a row that has its own numbers is in range
-is-written : (c : tie.After-is-ranged) → source (row (c .before .before .before) .kind) ≡ Written
-is-written c = sym (c .before .before .before .source-of .ensures) ∙ c .before .enum-told4 .given .1
+is-own : (c : tie.After-is-ranged) → source (row (c .before .before .before) .kind) ≡ Own
+is-own c = sym (c .before .before .before .source-of .ensures) ∙ c .before .enum-told4 .given .1
 
 in-range : (c : tie.Else1) → let r = row (c .before .before .before .before) in Ranged (r .kind) (r .numbers)
 in-range c = decided (c .before .is-ranged .result) (not-false _ (c .if1 .left)) (c .before .is-ranged .ensures)
 
 own-load-requires : tie.Need-own-load-requires
-own-load-requires c κs = let r = written-columns _ _ (is-written (c .before)) (in-range c) in (around-size 50000 _ (r .n3), r .n4 .to, r .n4 .plain)
+own-load-requires c κs = let r = own-columns _ _ (is-own (c .before)) (in-range c) in (around-size 50000 _ (r .n3), r .n4 .to, r .n4 .plain)
 
 enum-told-5 : tie.Need-enum-told-5
 enum-told-5 c = search needs
@@ -115,7 +115,7 @@ returns-6 : tie.Need-returns-6
 unfolding Forces
 returns-6 c =
     let at = c .before .before in
-    told-load table2-fill _ (is-written at) written-earth (in-range (c .before)) _ (kept (at .before .before .before) _ (c .own-load .ensures .0) (c .own-load .ensures .1)) (c .own-load .ensures .2)
+    told-load table2-fill _ (is-own at) own-earth (in-range (c .before)) _ (kept (at .before .before .before) _ (c .own-load .ensures .0) (c .own-load .ensures .1)) (c .own-load .ensures .2)
 
 returns-7 : tie.Need-returns-7
 unfolding Forces

@@ -8,12 +8,12 @@ use lib.Seq.{ext-getD}
 use borrow.Author.Needs.{needs}
 use borrow.Author.Count.{below-more}
 use Rattle.arithmetic.specs.decides.Decides.{decided, refuted}
-use Rattle.rows.proofs.keys.Same.{Alike, alike, alike-decides, alike-of, key-decides}
+use Rattle.rows.proofs.keys.Same.{SameLetters, same-letters, same-letters-decides, same-letters-of, key-decides}
 use Rattle.rows.proofs.keys.same_key.Statement.{statement}
 use Rattle.rows.proofs.keys.same_key.Tie as tie
 
 abbrev Inv-loop : tie.InvT-loop
-Inv-loop a b member other-member job other-job i₀ i = (i ≤ 12) × ((p : ℕ) → p < i → Alike a b p)
+Inv-loop a b member other-member job other-job i₀ i = (i ≤ 12) × ((p : ℕ) → p < i → SameLetters a b p)
 
 abbrev μ-loop : tie.MeasureT-loop
 μ-loop a b member other-member job other-job i₀ i = 12 - i
@@ -58,14 +58,14 @@ loop-again c =
     let at-loop = c .before .before in
     let args = at-loop .before .before .before .before .before .args in
     let i = at-loop .loop .i in
-    (omega arith, below-more _ _ (at-loop .loop .inv .1) (decided (alike (args .a) (args .b) i) (c .if1 .taken) (alike-decides (args .a) (args .b) i)))
+    (omega arith, below-more _ _ (at-loop .loop .inv .1) (decided (same-letters (args .a) (args .b) i) (c .if1 .taken) (same-letters-decides (args .a) (args .b) i)))
 
 returns : tie.Need-returns Inv-loop μ-loop
 returns c =
     let at-loop = c .before .before in
     let args = at-loop .before .before .before .before .before .args in
     let i = at-loop .loop .i in
-    λ e. refuted (alike (args .a) (args .b) i) (c .if1 .left) (alike-decides (args .a) (args .b) i) (alike-of (args .a) (args .b) i e)
+    λ e. refuted (same-letters (args .a) (args .b) i) (c .if1 .left) (same-letters-decides (args .a) (args .b) i) (same-letters-of (args .a) (args .b) i e)
 
 returns-2 : tie.Need-returns-2 Inv-loop μ-loop
 returns-2 c =

@@ -4,7 +4,7 @@ use Prim.Native.Nat.{ℕ, _+_, _-_, _/_, _≤_}
 use native.Mathlib.Nat.{lt-of-le-of-lt}
 use native.Mathlib.Omega.{arith}
 use lib.Dec.{lit<}
-use Rattle.scour.proofs.cubes.Cubes.{Bracket, started, raised, lowered, closed, square-small, cube-small}
+use Rattle.scour.proofs.cubes.Cubes.{Bracket, bracket-started, bracket-raised, bracket-lowered, bracket-closed, square-small, cube-small}
 use Rattle.scour.proofs.cubes.cube_up.Statement.{statement}
 use Rattle.scour.proofs.cubes.cube_up.Tie as tie
 
@@ -15,7 +15,7 @@ abbrev μ-loop : tie.MeasureT-loop
 μ-loop t low₀ high₀ low high = high - low
 
 loop-holds : tie.Need-loop-holds Inv-loop μ-loop
-loop-holds c = started (c .pre)
+loop-holds c = bracket-started (c .pre)
 
 sub-middle : tie.Need-sub-middle Inv-loop μ-loop
 sub-middle c = omega arith
@@ -43,16 +43,16 @@ loop-less : tie.Need-loop-less Inv-loop μ-loop
 loop-less c = omega arith
 
 loop-again : tie.Need-loop-again Inv-loop μ-loop
-loop-again c = raised (middle (c .before)) (c .before .before .loop .inv) (omega arith) (c .if1 .taken)
+loop-again c = bracket-raised (middle (c .before)) (c .before .before .loop .inv) (omega arith) (c .if1 .taken)
 
 loop-less-2 : tie.Need-loop-less-2 Inv-loop μ-loop
 loop-less-2 c = omega arith
 
 loop-again-2 : tie.Need-loop-again-2 Inv-loop μ-loop
-loop-again-2 c = lowered (middle (c .before)) (c .before .before .loop .inv) (omega arith) (omega arith) (c .if1 .left)
+loop-again-2 c = bracket-lowered (middle (c .before)) (c .before .before .loop .inv) (omega arith) (omega arith) (c .if1 .left)
 
 returns : tie.Need-returns Inv-loop μ-loop
-returns c = closed (c .before .loop .inv) (c .loop-test .left)
+returns c = bracket-closed (c .before .loop .inv) (c .loop-test .left)
 
 pub cube-up-spec : {M : Type 1} → statement M
 cube-up-spec =

@@ -15,7 +15,7 @@ use Rattle.sets.specs.declared.Sums.{Sums}
 use Rattle.sets.specs.steps.Sums.{sums-of}
 use Rattle.sets.specs.steps.Deciding.{Admits, Arises, RowFits}
 use Rattle.sets.specs.Sets.{Permitted, row, bit}
-use Rattle.sets.proofs.Bits.{bit-is, next-bits, no-rest, rest-none}
+use Rattle.sets.proofs.Bits.{bit-is, next-bits, no-rest, no-bits-left}
 use Rattle.sets.proofs.Occasions.{permitted-arises}
 use Rattle.sets.proofs.admission.Permits.{Fit, permitted-fits, decides-permitted}
 use Rattle.sums.proofs.permitted.permitted.Statement.{statement}
@@ -35,7 +35,7 @@ module _ (combination : Combination) (loads : Loads) (set : ℕ) where
   unfolding Fit
   all-rows i rest fits l m e d =
       decides-same (fits && eqb rest 0) (λ p. (no-rest set (loads .count) i rest l m e (p .1), λ j h. p .0 j (omega arith)))
-      (λ f. (λ j h. f .1 j (omega arith), rest-none set (loads .count) i rest l m e (f .0)))
+      (λ f. (λ j h. f .1 j (omega arith), no-bits-left set (loads .count) i rest l m e (f .0)))
       (decides-both (Fitting i) (rest ≡ 0) fits (eqb rest 0) d (decides-equal rest 0))
 
   permitted-by : (fit arises admitted : Bool) → Decides fit (Fit 0 loads set combination) → Decides arises (Arises combination loads)

@@ -6,7 +6,7 @@ use Prim.Native.Nat.{_<_}
 use lib.Dec.{eqb, ltb}
 use Rattle.arithmetic.specs.decides.Decides.{Decides, decided, refuted, decides-same, decides-either, decides-below, decides-equal}
 use Rattle.weighing.specs.steps.Ranked.{place, weight-of}
-use Rattle.weighing.proofs.ranked.Weights.{First, first-weighs, last-weighs, worse-of-new, worse-of-old}
+use Rattle.weighing.proofs.ranked.Weights.{Leads, leads-weighs, follows-weighs, worse-of-new, worse-of-old}
 use Rattle.weighing.proofs.ranked.worse.Statement.{statement}
 use Rattle.weighing.proofs.ranked.worse.Tie as tie
 
@@ -22,7 +22,7 @@ module _ (c : tie.Joined1) where
       (λ w. subst⁻¹ (λ (r : Bool). Decides r Tied) (w .1) (decides-same (eqb (a .rank) (a .worst .rank)) (λ e. absurd (w .0 .left e)) (λ h. h .0) (decides-equal (a .rank) (a .worst .rank))))
       (c .if1 .came)
 
-  first : let a = c .before .before .args in Decides (c .if1 .first-of-tie || ltb (a .rank) (a .worst .rank)) (First (a .rank) (a .worst .rank) (a .set) (a .worst .set))
+  first : let a = c .before .before .args in Decides (c .if1 .first-of-tie || ltb (a .rank) (a .worst .rank)) (Leads (a .rank) (a .worst .rank) (a .set) (a .worst .set))
   first =
       let a = c .before .before .args in
       decides-either Tied (a .rank < a .worst .rank) (c .if1 .first-of-tie) (ltb (a .rank) (a .worst .rank)) first-of-tie (decides-below (a .rank) (a .worst .rank))
@@ -34,13 +34,13 @@ returns : tie.Need-returns
 unfolding weight-of
 returns c =
     let start = c .before .before .before .before in
-    worse-of-new _ _ _ (first-weighs _ _ _ _ (start .pre .1) (start .pre .2) (decided _ (c .if2 .taken) (first (c .before .before))))
+    worse-of-new _ _ _ (leads-weighs _ _ _ _ (start .pre .1) (start .pre .2) (decided _ (c .if2 .taken) (first (c .before .before))))
 
 returns-2 : tie.Need-returns-2
 unfolding weight-of
 returns-2 c =
     let start = c .before .before .before .before in
-    worse-of-old _ _ _ (last-weighs _ _ _ _ (start .pre .1) (start .pre .2) (refuted _ (c .if2 .left) (first (c .before .before))))
+    worse-of-old _ _ _ (follows-weighs _ _ _ _ (start .pre .1) (start .pre .2) (refuted _ (c .if2 .left) (first (c .before .before))))
 
 pub worse-spec : {M : Type 1} → statement M
 worse-spec = tie.close (tie.spec fewer-requires returns returns-2)

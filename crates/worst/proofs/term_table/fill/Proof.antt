@@ -1,5 +1,5 @@
--- The table of the rows passed: a row in no set leaves it as it is, one in every set adds to the fixed sums alone, and a free one is written
--- behind the free rows before it, which stay.
+-- The table of the rows passed: a row in no set leaves it as it is, one in every set adds to the fixed sums alone, and a choosable one is written
+-- behind the choosable rows before it, which stay.
 use borrow.Author.Needs.{needs}
 use native.Mathlib.Omega.{arith}
 use mathlib.Core.Path.{_≡_, refl, _∙_, ap, subst, subst⁻¹}
@@ -13,25 +13,25 @@ use Rattle.sets.proofs.Adding.{room-more, low-place}
 use Rattle.worst.specs.steps.Stance.{stance-at, row-terms}
 use Rattle.worst.specs.steps.Table.{Puts}
 use Rattle.worst.specs.steps.Filling.{TableIs}
-use Rattle.worst.proofs.choices.Choices.{free-room}
-use Rattle.worst.proofs.term_table.Filling.{Grows, filled-none, filled-more, grows-never, grows-always, grows-free, terms-room, fixed-room}
+use Rattle.worst.proofs.choices.Choices.{choosable-room}
+use Rattle.worst.proofs.term_table.Filling.{Grows, filled-none, filled-more, grows-never, grows-always, grows-choosable, terms-room, fixed-room}
 use Rattle.worst.proofs.term_table.fill.Statement.{statement}
 use Rattle.worst.proofs.term_table.fill.Tie as tie
 
 abbrev Inv-loop : tie.InvT-loop
-Inv-loop combination width loads count terms₀ free₀ fixed₀ place₀ i₀ terms free fixed place i = (i ≤ count) × (place ≡ 2 ^ i)
-    × TableIs combination width loads i (record { terms = terms; free = free; fixed = fixed })
+Inv-loop combination width loads count terms₀ choosable₀ fixed₀ place₀ i₀ terms choosable fixed place i = (i ≤ count) × (place ≡ 2 ^ i)
+    × TableIs combination width loads i (record { terms = terms; choosable = choosable; fixed = fixed })
 
 abbrev μ-loop : tie.MeasureT-loop
-μ-loop combination width loads count terms₀ free₀ fixed₀ place₀ i₀ terms free fixed place i = count - i
+μ-loop combination width loads count terms₀ choosable₀ fixed₀ place₀ i₀ terms choosable fixed place i = count - i
 
 -- there is room for one row more
 module _ (c : tie.After-terms-of Inv-loop μ-loop) where
-  unfilled : c .before .before .before .before .loop .free < 16
+  unfilled : c .before .before .before .before .loop .choosable < 16
   unfilled =
       let e = c .before .before .before .before .before .before in
       let i = c .before .before .before .before .loop .i in
-      omega (arith, e .pre .1 .count, c .before .before .before .loop-test .taken, c .before .before .before .before .loop .inv .2 .count, free-room (stance-at (e .args .combination) (e .args .t3)) i)
+      omega (arith, e .pre .1 .count, c .before .before .before .loop-test .taken, c .before .before .before .before .loop .inv .2 .count, choosable-room (stance-at (e .args .combination) (e .args .t3)) i)
 
   fixed-fits : Room 64 (c .before .before .before .before .loop .fixed)
   fixed-fits =
@@ -50,12 +50,12 @@ module _ (c : tie.After-terms-of Inv-loop μ-loop) where
 -- the table with the row, whichever way it stands
 grows : (c : tie.At-match-came Inv-loop μ-loop)
     → let l = c .before .before .before .before .before .loop in
-    Grows (record { terms = l .terms; free = l .free; fixed = l .fixed }) (c .before .before .stance-of .result) (c .before .terms-of .result) (record { terms = c .match .terms; free = c .match .free; fixed = c .match .fixed })
+    Grows (record { terms = l .terms; choosable = l .choosable; fixed = l .fixed }) (c .before .before .stance-of .result) (c .before .terms-of .result) (record { terms = c .match .terms; choosable = c .match .choosable; fixed = c .match .fixed })
 grows c =
     let l = c .before .before .before .before .before .loop in
     ⊎-elim (λ w. grows-never _ _ _ (w .1 .given .1) (w .2) (w .3) (w .4))
     (⊎-elim (λ w. grows-always _ _ _ (w .1 .given .1) (w .3) (w .4) (w .5 ∙ w .2 .ensures))
-    (λ w. grows-free _ _ _ (w .1 .given .1) (subst⁻¹ (Puts (l .terms) (l .free) (c .before .terms-of .result)) (w .3) (w .2 .ensures)) (w .4) (w .5))) (c .match .came)
+    (λ w. grows-choosable _ _ _ (w .1 .given .1) (subst⁻¹ (Puts (l .terms) (l .choosable) (c .before .terms-of .result)) (w .3) (w .2 .ensures)) (w .4) (w .5))) (c .match .came)
 
 no-sums-requires : tie.Need-no-sums-requires Inv-loop μ-loop
 no-sums-requires c κs = search needs
@@ -93,8 +93,8 @@ enum-told-3 c = search needs
 put-terms-requires : tie.Need-put-terms-requires Inv-loop μ-loop
 put-terms-requires c κs = unfilled (c .before .before)
 
-add-free : tie.Need-add-free Inv-loop μ-loop
-add-free c = omega (arith, unfilled (c .before .before .before))
+add-choosable : tie.Need-add-choosable Inv-loop μ-loop
+add-choosable c = omega (arith, unfilled (c .before .before .before))
 
 mul-place : tie.Need-mul-place Inv-loop μ-loop
 mul-place c =
@@ -121,7 +121,7 @@ returns : tie.Need-returns Inv-loop μ-loop
 returns c =
     let l = c .before .loop in
     let e = c .before .before .before .args in
-    subst (λ (n : ℕ). TableIs (e .combination) (e .width) (e .t3) n (record { terms = l .terms; free = l .free; fixed = l .fixed })) (le-antisymm (l .inv .0) (c .loop-test .left)) (l .inv .2)
+    subst (λ (n : ℕ). TableIs (e .combination) (e .width) (e .t3) n (record { terms = l .terms; choosable = l .choosable; fixed = l .fixed })) (le-antisymm (l .inv .0) (c .loop-test .left)) (l .inv .2)
 
 pub fill-spec : {M : Type 1} → statement M
 fill-spec =
@@ -140,7 +140,7 @@ fill-spec =
     add-sums-requires
     enum-told-3
     put-terms-requires
-    add-free
+    add-choosable
     mul-place
     add-i
     loop-less
