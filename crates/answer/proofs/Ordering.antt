@@ -127,7 +127,7 @@ module _ (fill : ℕ → ℕ → Coefficient) (job : Job) (t : LoadsRead) (w : L
         let k = told-15 (w .says) (ap (λ a. loads-told-by a (t .loads)) e) in
         first fill job b (k .0) x 15 s (λ a p o. refuses-15 fill job a p o (k .1))
 
-    loads-16 : t .answer ≡ taking.TooMany → (x : RiverRead) → RiverSays job x → Refuses fill job (earlier x 16)
+    loads-16 : t .answer ≡ taking.TooManyOptional → (x : RiverRead) → RiverSays job x → Refuses fill job (earlier x 16)
     unfolding loads-told loads-told-by
     loads-16 e x s =
         let k = told-16 (w .says) (ap (λ a. loads-told-by a (t .loads)) e) in
@@ -167,14 +167,14 @@ refused-shown e = impossible cc
 pub first-given : (a : answering.LoadsAnswer) (x : RiverRead) {d c : RiverLine} → told-first a x ≡ river.Shown d c → (a ≡ taking.Given) × (x ≡ river.Shown d c)
 first-given taking.OutOfRange x e = absurd (refused-shown e)
 first-given taking.NoCoefficient x e = absurd (refused-shown e)
-first-given taking.TooMany x e = absurd (refused-shown e)
+first-given taking.TooManyOptional x e = absurd (refused-shown e)
 first-given taking.Given x e = (refl, e)
 
 module _ (fill : ℕ → ℕ → Coefficient) (job : Job) (t : LoadsRead) (w : LoadsAnswered fill (job .loads) (job .count) t) (b : Ranged B (job .base)) (x : RiverRead) (s : RiverSays job x) where
   by-loads : {n : ℕ} (a : answering.LoadsAnswer) → t .answer ≡ a → told-first a x ≡ river.Refused n → Refuses fill job n
   by-loads taking.OutOfRange e q = subst (Refuses fill job) (refused-number q) (loads-11 fill job t w e)
   by-loads taking.NoCoefficient e q = subst (Refuses fill job) (refused-number q) (loads-15 fill job t w b e x s)
-  by-loads taking.TooMany e q = subst (Refuses fill job) (refused-number q) (loads-16 fill job t w b e x s)
+  by-loads taking.TooManyOptional e q = subst (Refuses fill job) (refused-number q) (loads-16 fill job t w b e x s)
   by-loads taking.Given e q = river-refuses fill job t w b e (subst (RiverSays job) q s)
 
   pub first-refuses : {n : ℕ} → told-first (t .answer) x ≡ river.Refused n → Refuses fill job n

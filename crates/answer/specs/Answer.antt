@@ -75,5 +75,5 @@ earlier (river.Shown d c) other = other
 abbrev pub told-first : loads.LoadsAnswer → RiverRead → RiverRead
 told-first taking.OutOfRange x = river.Refused 11
 told-first taking.NoCoefficient x = river.Refused (earlier x 15)
-told-first taking.TooMany x = river.Refused (earlier x 16)
+told-first taking.TooManyOptional x = river.Refused (earlier x 16)
 told-first taking.Given x = x

@@ -69,7 +69,7 @@ fn first_told(told: loads::LoadsAnswer, river: RiverRead) -> RiverRead
     let other = match told {
         loads::LoadsAnswer::OutOfRange => return RiverRead::Refused(11),
         loads::LoadsAnswer::NoCoefficient => 15,
-        loads::LoadsAnswer::TooMany => 16,
+        loads::LoadsAnswer::TooManyOptional => 16,
         loads::LoadsAnswer::Given => return river,
     };
     match river {

@@ -28,7 +28,7 @@ use Rattle.book.specs.Says.{refused, Fault, formless, misplaced, surplus
 use Rattle.book.specs.walk.Ended.{EndedIs, missing, whole}
 use Rattle.rows.specs.refusals.Numbers.{refusal-number}
 use Rattle.rows.specs.declared.refusals.Refusal.{Refusal}
-use Rattle.rows.specs.declared.refusals.Refusal.the-variants.{TooLong, NotCsv, NoForm, NoPlace, TooMany, UsedKey}
+use Rattle.rows.specs.declared.refusals.Refusal.the-variants.{TooLong, NotCsv, NoForm, Misplaced, TooManyJobs, UsedKey}
 use Rattle.book.specs.step.Step.{RefusesRow}
 use Rattle.book.specs.declared.counted.Count.{Count}
 use Rattle.book.specs.declared.counted.Count.the-variants.{Given, Refused}
@@ -204,7 +204,7 @@ module _ {s : List ℕ} {last : Job} {jobs : List Job} {keys : List Key} {n row 
       -- a job that may not begin
       pub walk-barred : {b : Beginning} (why : Refusal) → beginning.BeginningIs keys n (next .key) b → b ≡ Barred why → BookSays s (refused (refusal-number why) row)
       walk-barred why (beginning.surplus m e) f =
-          let q : TooMany ≡ why = cc in
+          let q : TooManyJobs ≡ why = cc in
           subst (λ (x : Refusal). BookSays s (refused (refusal-number x) row)) q (walk-surplus m)
       walk-barred why (beginning.reused m a e) f =
           let q : UsedKey ≡ why = cc in
@@ -243,7 +243,7 @@ module _ {s : List ℕ} {last : Job} {jobs : List Job} {keys : List Key} {n row 
         pub walk-end : (b : Book) → EndedIs vs m (next .count) row b → BookIs s b
         walk-end b (missing e c v) =
             let z = reached-many (i .reached) (seen .rest) k in
-            refused-is b NoPlace (row + 1) (c, v)
+            refused-is b Misplaced (row + 1) (c, v)
             (unfinished (i .size) (i .reached .reading) (record { typed = _; jobs = w .grew; begins = all; missing = lacks (w .step) (sym (ap (λ (j : Job). j .count) (w .stands .job)) ∙ e) }) (ap (λ (m : ℕ). refused 4 (m + 1)) (sym z)))
         walk-end b (whole e c v) =
             given-is b m c (w .stands .many) (v ∙ w .stands .jobs)
@@ -255,6 +255,6 @@ module _ {s : List ℕ} {last : Job} {jobs : List Job} {keys : List Key} {n row 
   walk-refused TooLong w = absurd w
   walk-refused NotCsv w = absurd w
   walk-refused NoForm w = walk-formless i h w
-  walk-refused NoPlace w = walk-misplaced i h (w .0) (w .1)
-  walk-refused TooMany w = absurd w
+  walk-refused Misplaced w = walk-misplaced i h (w .0) (w .1)
+  walk-refused TooManyJobs w = absurd w
   walk-refused UsedKey w = absurd w

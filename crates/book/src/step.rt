@@ -38,7 +38,7 @@ pub(crate) fn step_at(s: &[u8], at: usize, mut job: Job) -> Step
         job = t.job;
         let answer = t.answer;
         match answer {
-            Took::OutOfPlace => way = Way::Refused(Refusal::NoPlace),
+            Took::OutOfPlace => way = Way::Refused(Refusal::Misplaced),
             Took::Joined => way = Way::Joined,
             Took::Started => way = Way::Started,
         }

@@ -24,7 +24,7 @@ fn ended(jobs: [Job; 64], n: usize, loads: usize, row: usize) -> Book
     ensures { λ r. ⌜ EndedIs jobs n loads row r ⌝ }
 {
     if loads == 0 {
-        return counted::refused(Refusal::NoPlace, row + 1);
+        return counted::refused(Refusal::Misplaced, row + 1);
     }
     Book {
         count: Count::Given(n),

@@ -84,7 +84,7 @@ fn figure_of_row(check: Check, numbers: Numbers) -> u64 {
     let told = taken.answer;
     let loads = taken.loads;
     match told {
-        LoadsAnswer::OutOfRange | LoadsAnswer::NoCoefficient | LoadsAnswer::TooMany => 0,
+        LoadsAnswer::OutOfRange | LoadsAnswer::NoCoefficient | LoadsAnswer::TooManyOptional => 0,
         LoadsAnswer::Given => figure_number(checks::set_figures::figure_of(
             check,
             example_base(),

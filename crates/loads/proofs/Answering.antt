@@ -16,7 +16,7 @@ use Rattle.loads.proofs.forces.Exerting.{exerts-bounded}
 use Rattle.loads.specs.LoadRows.{row-at, AllRanged, AreLoads}
 use Rattle.loads.proofs.Loaded.{loads-one}
 use Rattle.loads.specs.declared.LoadsAnswer.{LoadsAnswer}
-use Rattle.loads.specs.declared.LoadsAnswer.the-variants.{OutOfRange, NoCoefficient, TooMany, Given}
+use Rattle.loads.specs.declared.LoadsAnswer.the-variants.{OutOfRange, NoCoefficient, TooManyOptional, Given}
 use Rattle.loads.specs.declared.LoadsRead.{LoadsRead}
 use Rattle.loads.specs.Taken.{LoadsTold, given, loads-told, loads-told-by, LoadsSays, out-of-range, blank, too-many, loaded, row-count, Beside, LoadsAnswered}
 
@@ -45,19 +45,19 @@ back : (a b : LoadsAnswer) (l m : Loads) → loads-told-by a l ≡ loads-told-by
 unfolding loads-told-by Beside
 back OutOfRange OutOfRange l m e p q = (refl, p ∙ sym q)
 back OutOfRange NoCoefficient l m e p q = absurd (let z : _≡_ {A = ℕ} 11 15 = cc in omega arith)
-back OutOfRange TooMany l m e p q = absurd (let z : _≡_ {A = ℕ} 11 16 = cc in omega arith)
+back OutOfRange TooManyOptional l m e p q = absurd (let z : _≡_ {A = ℕ} 11 16 = cc in omega arith)
 back OutOfRange Given l m e p q = impossible cc
 back NoCoefficient OutOfRange l m e p q = absurd (let z : _≡_ {A = ℕ} 15 11 = cc in omega arith)
 back NoCoefficient NoCoefficient l m e p q = (refl, p ∙ sym q)
-back NoCoefficient TooMany l m e p q = absurd (let z : _≡_ {A = ℕ} 15 16 = cc in omega arith)
+back NoCoefficient TooManyOptional l m e p q = absurd (let z : _≡_ {A = ℕ} 15 16 = cc in omega arith)
 back NoCoefficient Given l m e p q = impossible cc
-back TooMany OutOfRange l m e p q = absurd (let z : _≡_ {A = ℕ} 16 11 = cc in omega arith)
-back TooMany NoCoefficient l m e p q = absurd (let z : _≡_ {A = ℕ} 16 15 = cc in omega arith)
-back TooMany TooMany l m e p q = (refl, p ∙ sym q)
-back TooMany Given l m e p q = impossible cc
+back TooManyOptional OutOfRange l m e p q = absurd (let z : _≡_ {A = ℕ} 16 11 = cc in omega arith)
+back TooManyOptional NoCoefficient l m e p q = absurd (let z : _≡_ {A = ℕ} 16 15 = cc in omega arith)
+back TooManyOptional TooManyOptional l m e p q = (refl, p ∙ sym q)
+back TooManyOptional Given l m e p q = impossible cc
 back Given OutOfRange l m e p q = impossible cc
 back Given NoCoefficient l m e p q = impossible cc
-back Given TooMany l m e p q = impossible cc
+back Given TooManyOptional l m e p q = impossible cc
 back Given Given l m e p q = (refl, cc)
 
 pub loads-of-one : (fill : ℕ → ℕ → Coefficient) (rows : List Row) (count : ℕ) (a b : LoadsRead) → LoadsAnswered fill rows count a → LoadsAnswered fill rows count b → a ≡ b

@@ -11,7 +11,7 @@ use Rattle.sets.specs.declared.Loads.{Loads}
 use Rattle.sets.specs.Sets.{no-load}
 use Rattle.loads.specs.LoadRows.{AllRanged, NoneBlank, optionals, AreLoads}
 use Rattle.loads.specs.declared.LoadsAnswer.{LoadsAnswer}
-use Rattle.loads.specs.declared.LoadsAnswer.the-variants.{OutOfRange, NoCoefficient, TooMany, Given}
+use Rattle.loads.specs.declared.LoadsAnswer.the-variants.{OutOfRange, NoCoefficient, TooManyOptional, Given}
 use Rattle.loads.specs.declared.LoadsRead.{LoadsRead}
 
 -- an answer in the paper's numbers
@@ -22,7 +22,7 @@ pub data LoadsTold : Type 0 where
 unfoldable pub loads-told-by : LoadsAnswer → Loads → LoadsTold
 loads-told-by OutOfRange loads = refused 11
 loads-told-by NoCoefficient loads = refused 15
-loads-told-by TooMany loads = refused 16
+loads-told-by TooManyOptional loads = refused 16
 loads-told-by Given loads = given loads
 
 unfoldable pub loads-told : LoadsRead → LoadsTold
@@ -46,7 +46,7 @@ no-loads = record { count = 0; loads = replicate 16 no-load }
 unfoldable pub Beside : LoadsAnswer → Loads → Type 0
 Beside OutOfRange loads = loads ≡ no-loads
 Beside NoCoefficient loads = loads ≡ no-loads
-Beside TooMany loads = loads ≡ no-loads
+Beside TooManyOptional loads = loads ≡ no-loads
 Beside Given loads = Unit {0}
 
 -- the whole answer

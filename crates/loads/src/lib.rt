@@ -18,7 +18,7 @@ ghost use Rattle.loads.specs.Asking.{AskedIs};
 pub enum LoadsAnswer {
     OutOfRange,
     NoCoefficient,
-    TooMany,
+    TooManyOptional,
     Given,
 }
 
@@ -109,7 +109,7 @@ pub fn loads_of(rows: [Row; 16], count: usize) -> LoadsRead
     }
     if 12 < asked.optional {
         return LoadsRead {
-            answer: LoadsAnswer::TooMany,
+            answer: LoadsAnswer::TooManyOptional,
             loads: none,
         };
     }

@@ -80,7 +80,7 @@ pub fn may_begin(keys: [Key; 64], n: usize, key: Key) -> Beginning
     ensures { λ r. ⌜ BeginningIs keys n key r ⌝ }
 {
     if 64 <= n {
-        return Beginning::Barred(Refusal::TooMany);
+        return Beginning::Barred(Refusal::TooManyJobs);
     }
     let mut i: usize = 0;
     while i < n {

@@ -7,8 +7,8 @@ pub enum Refusal {
     TooLong,
     NotCsv,
     NoForm,
-    NoPlace,
-    TooMany,
+    Misplaced,
+    TooManyJobs,
     UsedKey,
 }
 
@@ -20,8 +20,8 @@ pub fn number_of(why: Refusal) -> u8
         Refusal::TooLong => 1,
         Refusal::NotCsv => 2,
         Refusal::NoForm => 3,
-        Refusal::NoPlace => 4,
-        Refusal::TooMany => 5,
+        Refusal::Misplaced => 4,
+        Refusal::TooManyJobs => 5,
         Refusal::UsedKey => 6,
     }
 }

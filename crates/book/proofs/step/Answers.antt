@@ -7,7 +7,7 @@ use lib.ListN.{drop}
 use Rattle.arithmetic.proofs.Cases.{impossible}
 use Rattle.csv.specs.rfc4180.Rfc4180.{Readable}
 use Rattle.rows.specs.declared.refusals.Refusal.{Refusal}
-use Rattle.rows.specs.declared.refusals.Refusal.the-variants.{TooLong, NotCsv, NoForm, NoPlace, TooMany, UsedKey}
+use Rattle.rows.specs.declared.refusals.Refusal.the-variants.{TooLong, NotCsv, NoForm, Misplaced, TooManyJobs, UsedKey}
 use Rattle.rows.specs.declared.keys.Keyed.{Keyed}
 use Rattle.rows.specs.declared.RowRead.{RowRead}
 use Rattle.rows.proofs.Forms.{row-read-one}
@@ -22,27 +22,27 @@ module _ (j : Job) (good : Bool) (r : Keyed) where
   refuses-one : (a b : Refusal) → RefusesRow j good r a → RefusesRow j good r b → a ≡ b
   refuses-one TooLong b p q = absurd p
   refuses-one NotCsv b p q = absurd p
-  refuses-one TooMany b p q = absurd p
+  refuses-one TooManyJobs b p q = absurd p
   refuses-one UsedKey b p q = absurd p
   refuses-one NoForm TooLong p q = absurd q
   refuses-one NoForm NotCsv p q = absurd q
   refuses-one NoForm NoForm p q = refl
-  refuses-one NoForm NoPlace p q = let e = q .0 in impossible cc
-  refuses-one NoForm TooMany p q = absurd q
+  refuses-one NoForm Misplaced p q = let e = q .0 in impossible cc
+  refuses-one NoForm TooManyJobs p q = absurd q
   refuses-one NoForm UsedKey p q = absurd q
-  refuses-one NoPlace TooLong p q = absurd q
-  refuses-one NoPlace NotCsv p q = absurd q
-  refuses-one NoPlace NoForm p q = let e = p .0 in impossible cc
-  refuses-one NoPlace NoPlace p q = refl
-  refuses-one NoPlace TooMany p q = absurd q
-  refuses-one NoPlace UsedKey p q = absurd q
+  refuses-one Misplaced TooLong p q = absurd q
+  refuses-one Misplaced NotCsv p q = absurd q
+  refuses-one Misplaced NoForm p q = let e = p .0 in impossible cc
+  refuses-one Misplaced Misplaced p q = refl
+  refuses-one Misplaced TooManyJobs p q = absurd q
+  refuses-one Misplaced UsedKey p q = absurd q
 
   refused-not : (a : Refusal) → RefusesRow j good r a → good ≡ true → InPlace j r → ⊥
   refused-not TooLong p g i = p
   refused-not NotCsv p g i = p
   refused-not NoForm p g i = impossible cc
-  refused-not NoPlace p g i = p .1 i
-  refused-not TooMany p g i = p
+  refused-not Misplaced p g i = p .1 i
+  refused-not TooManyJobs p g i = p
   refused-not UsedKey p g i = p
 
   goes-one : (v w : Way) (m n : Job) → Goes j good r v m → Goes j good r w n → (v ≡ w) × (m ≡ n)

@@ -4,7 +4,7 @@ use mathlib.Core.Path.{_≡_}
 use mathlib.Core.Bool.{Bool, true, false}
 use mathlib.Core.List.{List}
 use Rattle.rows.specs.declared.refusals.Refusal.{Refusal}
-use Rattle.rows.specs.declared.refusals.Refusal.the-variants.{TooLong, NotCsv, NoForm, NoPlace, TooMany, UsedKey}
+use Rattle.rows.specs.declared.refusals.Refusal.the-variants.{TooLong, NotCsv, NoForm, Misplaced, TooManyJobs, UsedKey}
 use Rattle.rows.specs.Answer.{SeenAt}
 use Rattle.rows.specs.declared.keys.Keyed.{Keyed}
 use Rattle.jobs.specs.Place.{InPlace}
@@ -19,8 +19,8 @@ abbrev pub RefusesRow : Job → Bool → Keyed → Refusal → Type 0
 RefusesRow j good r TooLong = ⊥
 RefusesRow j good r NotCsv = ⊥
 RefusesRow j good r NoForm = good ≡ false
-RefusesRow j good r NoPlace = (good ≡ true) × (InPlace j r → ⊥)
-RefusesRow j good r TooMany = ⊥
+RefusesRow j good r Misplaced = (good ≡ true) × (InPlace j r → ⊥)
+RefusesRow j good r TooManyJobs = ⊥
 RefusesRow j good r UsedKey = ⊥
 
 -- exactly when, and the job that comes of it: refused, the job as it stood

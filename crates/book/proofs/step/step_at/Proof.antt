@@ -8,7 +8,7 @@ use Rattle.jobs.specs.declared.Took.the-variants.{OutOfPlace, Joined, Started}
 use Rattle.book.specs.step.Step.{Goes, StepIs}
 use Rattle.book.specs.declared.step.Way.{Way}
 use Rattle.book.specs.declared.step.Way.the-variants as way
-use Rattle.rows.specs.declared.refusals.Refusal.the-variants.{NoPlace}
+use Rattle.rows.specs.declared.refusals.Refusal.the-variants.{Misplaced}
 use denote.Ref.{now}
 use Rattle.book.proofs.step.step_at.Statement.{statement}
 use Rattle.book.proofs.step.step_at.Tie as tie
@@ -50,7 +50,7 @@ returns : tie.Need-returns
 returns c =
     let taken = c .before .before in
     let w = says taken OutOfPlace (c .enum-told .given .1) in
-    does taken (way.Refused NoPlace) ((good taken, w .1), w .2)
+    does taken (way.Refused Misplaced) ((good taken, w .1), w .2)
 
 returns-2 : tie.Need-returns-2
 returns-2 c = let taken = c .before .before in does taken way.Joined (good taken, says taken Joined (c .enum-told2 .given .1))
