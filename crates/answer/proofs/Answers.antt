@@ -9,18 +9,18 @@ use Rattle.sets.specs.declared.Combination.the-variants.{I, II, III, IV}
 use Rattle.sets.specs.declared.Loads.{Loads}
 use Rattle.lines.specs.declared.Lines.{Lines}
 use Rattle.worst.proofs.Naming.{lines-one}
-use Rattle.loads.specs.Taken.{row-count}
+use Rattle.loads.specs.Answer.{row-count}
 use Rattle.loads.proofs.Loaded.{loads-one}
 use Rattle.lines.specs.declared.Answer.{Answer}
 use Rattle.lines.proofs.verdicts.Answers.{Alike, alike-one}
 use Rattle.answer.proofs.river.Answers.{depth-one, clear-one}
-use Rattle.answer.specs.Answer.{base-of, LinesAre, Given, refusal, AnswerIs, refused, answered}
+use Rattle.answer.specs.Answer.{base-of, LinesAre, LinesGiven, refusal, AnswerIs, refused, answered}
 
 module _ (fill : ℕ → ℕ → Coefficient) (job : Job) where
   lines-same : (c : Combination) {s t : Loads} (l m : Lines) → s ≡ t → LinesAre c (base-of (job .base)) s l → LinesAre c (base-of (job .base)) t m → l ≡ m
   lines-same c {t = t} l m e x y = lines-one c (base-of (job .base)) t l m (subst (λ (s : Loads). LinesAre c (base-of (job .base)) s l) e x) y
 
-  given-one : (a b : Answer) → Given fill job a → Given fill job b → a ≡ b
+  given-one : (a b : Answer) → LinesGiven fill job a → LinesGiven fill job b → a ≡ b
   given-one a b p q =
       let e = loads-one fill (job .loads) (row-count (job .count)) (p .loads) (q .loads) (p .are) (q .are) in
       let k : Alike a b = record {

@@ -14,7 +14,7 @@ use Rattle.earth.specs.declared.table2.Coefficient.{Coefficient}
 use Rattle.sets.specs.declared.Loads.{Loads}
 use Rattle.checks.specs.Sized.{Sized}
 use Rattle.loads.specs.LoadRows.{AllRanged, NoneBlank, optionals, AreLoads}
-use Rattle.loads.specs.Taken.{row-count, LoadsTold, refused, given, loads-told, loads-told-by, LoadsSays, out-of-range, blank, too-many, loaded, LoadsAnswered}
+use Rattle.loads.specs.Answer.{row-count, LoadsTold, refused, given, loads-told, loads-told-by, LoadsSays, out-of-range, blank, too-many, loaded, LoadsAnswered}
 use Rattle.loads.specs.declared.LoadsAnswer as answering
 use Rattle.loads.specs.declared.LoadsAnswer.the-variants as taking
 use Rattle.loads.specs.declared.LoadsRead.{LoadsRead}
@@ -27,7 +27,7 @@ use Rattle.answer.specs.Rules.{AllInRange, AllFilled, When, Refuses}
 use Rattle.lines.specs.declared.Answer.{Answer}
 use Rattle.lines.specs.declared.RiverLine.{RiverLine}
 use Rattle.checks.specs.declared.Base.{Base}
-use Rattle.answer.specs.Answer.{base-of, Given, WholeIs, earlier, told-first}
+use Rattle.answer.specs.Answer.{base-of, LinesGiven, WholeIs, earlier, told-first}
 
 -- what the load rows are told
 module _ {fill : ℕ → ℕ → Coefficient} {rows : List Row} {n : ℕ} where
@@ -141,7 +141,7 @@ module _ (fill : ℕ → ℕ → Coefficient) (job : Job) (t : LoadsRead) (w : L
       river-refuses : {n : ℕ} → RiverSays job (river.Refused n) → Refuses fill job n
       river-refuses s = river-first fill job b (told-given .0) s
 
-      pub given-answer : {d c : RiverLine} {base : Base} {a : Answer} → RiverSays job (river.Shown d c) → base ≡ base-of (job .base) → WholeIs base (t .loads) d c a → Given fill job a
+      pub given-answer : {d c : RiverLine} {base : Base} {a : Answer} → RiverSays job (river.Shown d c) → base ≡ base-of (job .base) → WholeIs base (t .loads) d c a → LinesGiven fill job a
       given-answer {d} {c} {a = a} (shown r q k x y) e w =
           let v = subst (λ (b : Base). WholeIs b (t .loads) d c a) e w in
           record {

@@ -14,7 +14,7 @@ use Rattle.lines.specs.declared.Lines.{Lines}
 use Rattle.lines.specs.Lines.{no-lines}
 use Rattle.worst.specs.Lines as worst
 use Rattle.loads.specs.LoadRows.{AreLoads}
-use Rattle.loads.specs.Taken.{row-count}
+use Rattle.loads.specs.Answer.{row-count}
 use Rattle.loads.specs.declared.LoadsAnswer as loads
 use Rattle.loads.specs.declared.LoadsAnswer.the-variants as taking
 use Rattle.lines.specs.declared.Verdict.the-variants.{Refused}
@@ -36,7 +36,7 @@ abbrev pub LinesAre : Combination → Base → Loads → Lines → Type 0
 LinesAre combination base loads lines = (check : Check) → worst.LineSays combination check base loads (worst.line check lines)
 
 -- the lines of a job that is not refused
-pub record Given (fill : ℕ → ℕ → Coefficient) (job : Job) (a : Answer) : Type 0 where
+pub record LinesGiven (fill : ℕ → ℕ → Coefficient) (job : Job) (a : Answer) : Type 0 where
   pub unrefused : Unrefused fill job
   pub loads : Loads
   pub are : AreLoads fill (job .loads) (row-count (job .count)) loads
@@ -54,7 +54,7 @@ refusal n = record { verdict = Refused n; one = no-lines; two = no-lines; three 
 
 pub data AnswerIs (fill : ℕ → ℕ → Coefficient) (job : Job) (a : Answer) : Type 0 where
   refused : {n : ℕ} → Refuses fill job n → a ≡ refusal n → AnswerIs fill job a
-  answered : Given fill job a → AnswerIs fill job a
+  answered : LinesGiven fill job a → AnswerIs fill job a
 
 -- the lines of loads, beside those of the river: what the last step of the code answers
 pub record WholeIs (base : Base) (loads : Loads) (d c : RiverLine) (a : Answer) : Type 0 where

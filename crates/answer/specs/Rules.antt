@@ -4,7 +4,7 @@ use Rattle.arithmetic.specs.rounding.Least.{Least}
 use Rattle.jobs.specs.declared.Job.{Job}
 use Rattle.earth.specs.declared.table2.Coefficient.{Coefficient}
 use Rattle.loads.specs.LoadRows.{AllRanged, NoneBlank, optionals}
-use Rattle.loads.specs.Taken.{row-count}
+use Rattle.loads.specs.Answer.{row-count}
 use Rattle.jobs.specs.stages.Rows.{RowsRanged}
 use Rattle.answer.specs.river.River.{LargeCatchment, TooIntense, OverObstructed}
 

@@ -17,7 +17,7 @@ pub enum RiverRead {
     Shown(RiverLine, RiverLine),
 }
 
-// What one of them gives.
+// What an S or a C row gives.
 enum RowGives {
     Refused(u8),
     Line(RiverLine),

@@ -1,5 +1,5 @@
 // Whole numbers: what a yes-or-no answer says, quotients rounded up and down, and numbers with a sign. How a proof goes by cases stands in
-// `proofs/Cases.antt`. Every crate above uses them.
+// `proofs/Cases.antt`.
 mod decides;
 pub mod rounding;
 pub mod signed;

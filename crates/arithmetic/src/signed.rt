@@ -2,7 +2,7 @@
 //
 // Document 01's loads push up and down, forward and back. Its sums are of whole numbers; the code adds only natural
 // numbers, so every amount is taken apart into what lies above and what lies below zero, and the difference of two sums
-// comes last. What is hard is the bridge: that a product's two parts are made of the factors' parts.
+// comes last. A product's two parts are made of the factors' parts.
 ghost use mathlib.Core.Path.{_≡_};
 ghost use Prim.Native.Nat.{_+_, _-_};
 ghost use lib.IntN.{pos, _-ℤ_};

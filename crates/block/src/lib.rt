@@ -1,9 +1,9 @@
 // A text that grows in a page of 2,048 bytes, and the block that hands it on by value (the bytes of document 01, The printed
 // answer, are put together from it).
 //
-// Every function writes behind the text that a page holds already, and says by one equation what the page holds then. What is
-// hard is to need no room for that: a full page takes no more, and so says the equation, so that texts compose by one law and room
-// is counted once, by whoever knows the whole text.
+// Every function writes behind the text that a page holds already, and says by one equation what the page holds then. A full
+// page takes no more, and so says the equation, so that texts compose by one law and room is counted once, by whoever knows the whole
+// text.
 ghost use mathlib.Core.Path.{_≡_};
 ghost use mathlib.Core.List.{[], _∷_};
 ghost use Prim.Native.Nat.{_+_, _≤_};

@@ -1,2 +1,2 @@
--- A row does one thing. Other crates' proofs cite it.
+-- A row does one thing.
 pub mod Answers

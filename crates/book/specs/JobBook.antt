@@ -50,7 +50,7 @@ pub data Rivers (b : BookRow) : River → Type 0 where
   is-scoured : {s : BookRow} → IsA Scour s → SameKey b s → Rivers b (scoured s)
   is-crossed : {s c : BookRow} → IsA Scour s → SameKey b s → IsA Clearance c → SameKey b c → Rivers b (crossed s c)
 
--- a job that is being taken up: up to 16 load rows, none yet among them
+-- a job that is being taken up: at most 16 load rows, and perhaps none yet
 pub data GoodJob : WrittenJob → Type 0 where
   good : {b : BookRow} {v : River} {ls : List BookRow} → IsA Base b → Rivers b v → LoadRows b ls → length ls ≤ 16 → GoodJob (job b v ls)
 

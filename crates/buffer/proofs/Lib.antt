@@ -1,2 +1,2 @@
--- Laws of writing to a lent buffer. Other crates' proofs cite them.
+-- Laws of writing to a lent buffer.
 pub mod Buffer

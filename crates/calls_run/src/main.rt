@@ -38,7 +38,7 @@ fn call(book: &[u8], place: usize, lent: usize)
     let told = debtarush::job_lines(book, place, out);
     match told {
         Written::Length(n) => show_number(b": written ", n),
-        Written::Book(why, row) => put_refusal(rows::refusals::number_of(why) as usize, row),
+        Written::BookRefused(why, row) => put_refusal(rows::refusals::number_of(why) as usize, row),
         Written::NoPlace => put_refusal(10, 0),
         Written::TooShort => put_refusal(7, 0),
     }

@@ -9,7 +9,6 @@ fn has_ended() -> bool {
     libc::read(STDIN_FILENO, &mut more) == 0
 }
 
-// One byte past the limit is enough to refuse a book of any length.
 fn main() {
     if os::arg_count() > 1 {
         io::write_all(
@@ -18,6 +17,7 @@ fn main() {
         );
         return;
     }
+    // One byte past the limit is enough to refuse a book of any length.
     let mut text = [0u8; 65537];
     let len = io::read_full(STDIN_FILENO, &mut text);
     if len < 65537 {

@@ -63,4 +63,4 @@ ranks-one {s} one x y = sym (x .ranked) ∙ ap (rank s) (one (x .figure) (y .fig
 
 -- a rank of what holds where P does
 pub ranks-map : {s : Side} {P Q : Figure → Type 0} {r : ℕ} → ((v : Figure) → P v → Q v) → Ranks s P r → Ranks s Q r
-ranks-map f k = record { figure = k .figure; holds = f (k .figure) (k .holds); sound = k .sound; ranked = k .ranked }
+ranks-map f k = record { figure = k .figure; holds = f (k .figure) (k .holds); has-rank = k .has-rank; ranked = k .ranked }

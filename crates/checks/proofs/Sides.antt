@@ -4,7 +4,7 @@ use mathlib.Core.List.{List, [], _∷_, map}
 use lib.ListN.{getD}
 use types.Run.{OneOf}
 use denote.Enum.Declared.{tagOf}
-use Rattle.sets.proofs.Arms.{AllOf, arm}
+use Rattle.sets.proofs.Arms.{AllOf, variant-arm}
 use Rattle.checks.specs.declared.Check.{Check}
 use Rattle.checks.specs.declared.Check.the-variants.{OP, OM, SL, PR, RK}
 use Rattle.checks.specs.Order.{lowest, highest, side}
@@ -18,7 +18,7 @@ check-at PR = refl
 check-at RK = refl
 
 pub check-arm : (P : Check → Type 0) (js : List Check) (k : Check) → AllOf P js → OneOf (map (tagOf the-type) js) (tagOf the-type k) → P k
-check-arm = arm (tagOf the-type) (λ n. getD (OP ∷ OM ∷ SL ∷ PR ∷ RK ∷ []) n OP) check-at
+check-arm = variant-arm (tagOf the-type) (λ n. getD (OP ∷ OM ∷ SL ∷ PR ∷ RK ∷ []) n OP) check-at
 
 pub low-side : (k : Check) → OneOf (0 ∷ 1 ∷ 2 ∷ []) (tagOf the-type k) → side k ≡ lowest
 unfolding side

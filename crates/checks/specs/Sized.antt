@@ -1,8 +1,8 @@
--- Document 01, The job book: the ranges of a B row. Lengths are in mm, the allowable pressure in kN/m², the friction in thousandths.
+-- How large a base may be for every figure to fit a word; the ranges of a B row are within it. Lengths are in mm, the allowable pressure in
+-- kN/m², the friction in thousandths.
 use Prim.Native.Nat.{_≤_, _<_}
 use Rattle.checks.specs.declared.Base.{Base}
 
--- a base within the ranges of its row
 pub record Sized (base : Base) : Type 0 where
   pub wide : 0 < base .width
   pub width : base .width ≤ 30000

@@ -12,7 +12,8 @@ ghost use mathlib.Core.Path.{_≡_};
 ghost use Rattle.checks.specs.Order.{side};
 ghost use Rattle.checks.specs.steps.Ranks.{HasRank, rank};
 
-// The base: its width along the axis and its length in mm, the allowable pressure in kN/m², the friction in thousandths.
+// The base: its width along the axis and its length in mm, the allowable pressure in kN/m², the friction in thousandths, and whether it
+// stands on rock.
 pub struct Base {
     pub width: u64,
     pub length: u64,
@@ -21,6 +22,7 @@ pub struct Base {
     pub rock: bool,
 }
 
+// Overturning about the edge at +x and at -x, sliding, the greatest pressure, and on rock how far the load stands from the middle.
 pub enum Check {
     OP,
     OM,

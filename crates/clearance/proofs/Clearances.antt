@@ -9,9 +9,9 @@ use Rattle.arithmetic.specs.decides.Decides.{Decides, decides-at-most}
 use Rattle.arithmetic.proofs.rounding.Laws.{least-one}
 use Rattle.kinds.specs.declared.Numbers.{Numbers}
 use Rattle.clearance.proofs.afflux.Rules.{clearance-needed-one}
-use Rattle.clearance.specs.Told.{ClearanceTold, ClearanceAnswered}
+use Rattle.clearance.specs.ClearanceTold.{ClearanceTold, ClearanceAnswered}
 use Rattle.clearance.specs.declared.ClearanceAnswer.{ClearanceAnswer}
-use Rattle.clearance.proofs.Told.{clearance-told-one}
+use Rattle.clearance.proofs.ClearanceTold.{clearance-told-one}
 use Rattle.clearance.specs.Clear.{Cleared, over-obstructed, clear, ClearanceSays, out-of-range, in-range, AtLeast}
 
 module _ {v A a : ℕ} {underside flood : ℤ} {Q : ℕ} where

@@ -13,7 +13,7 @@ use Rattle.arithmetic.proofs.signed.Laws.{above-size, below-size, above-neg, be
 use Rattle.arithmetic.proofs.Cases.{impossible}
 use Rattle.fields.specs.declared.Entry.{Entry}
 use Rattle.kinds.specs.ranges.Range.{value}
-use Rattle.clearance.specs.Told.{given, ClearanceAnswered}
+use Rattle.clearance.specs.ClearanceTold.{given, ClearanceAnswered}
 use Rattle.clearance.specs.declared.ClearanceAnswer.the-variants.{Given}
 
 -- an amount is a level

@@ -1,3 +1,3 @@
--- The laws of the rules for clearance. Other crates' proofs cite them.
+-- The laws of the rules for clearance.
 pub mod Rules
 pub mod Bounds

@@ -7,7 +7,7 @@ use Rattle.kinds.specs.ranges.Range.{value, Ranged}
 use Rattle.kinds.specs.declared.Kind.the-variants.{C}
 use Rattle.kinds.specs.declared.Numbers.{Numbers}
 use Rattle.clearance.specs.afflux.Rules.{Afflux, ClearanceNeeded}
-use Rattle.clearance.specs.Told.{ClearanceTold, refused, given}
+use Rattle.clearance.specs.ClearanceTold.{ClearanceTold, refused, given}
 
 -- "14, a above A"; else underside - flood - afflux and the clearance needed
 pub data Cleared (v A a : ℕ) (underside flood : ℤ) (Q : ℕ) : ClearanceTold → Type 0 where

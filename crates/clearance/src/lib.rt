@@ -8,7 +8,7 @@ use arithmetic::signed::Amount;
 use fields::Entry;
 use kinds::Kind;
 use kinds::Numbers;
-ghost use Rattle.clearance.specs.Told.{ClearanceAnswered, given};
+ghost use Rattle.clearance.specs.ClearanceTold.{ClearanceAnswered, given};
 ghost use Rattle.clearance.specs.Clear.{ClearanceSays};
 ghost use mathlib.Core.Path.{_≡_};
 ghost use Prim.Native.Nat.{_≤_};

@@ -37,7 +37,7 @@ pub(crate) fn field_end(s: &[u8], at: usize) -> Ended
     let end = if quoted::byte_is(s, at, 0x22) {
         match quoted::closing(s, at + 1) {
             ClosingQuote::At(i) => i + 1,
-            ClosingQuote::Nothing => return Ended::Bad,
+            ClosingQuote::Unclosed => return Ended::Bad,
         }
     } else {
         plain_end(s, at)

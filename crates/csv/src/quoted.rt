@@ -11,10 +11,10 @@ ghost use Rattle.csv.specs.quoted.Closing.{FirstByte, ClosedAt};
 // Where a closing quote stands.
 pub enum ClosingQuote {
     At(usize),
-    Nothing,
+    Unclosed,
 }
 
-// TEXTDATA
+// Whether a byte is TEXTDATA.
 pub(crate) fn is_text(b: u8) -> bool
     ensures { λ r. ⌜ Decides r (Textdata b) ⌝ }
 {
@@ -48,8 +48,8 @@ pub(crate) fn closing(s: &[u8], at: usize) -> ClosingQuote
         } else if (b == 0x2C) | (b == 0x0D) | (b == 0x0A) | is_text(b) {
             i += 1;
         } else {
-            return ClosingQuote::Nothing;
+            return ClosingQuote::Unclosed;
         }
     }
-    ClosingQuote::Nothing
+    ClosingQuote::Unclosed
 }

@@ -9,7 +9,7 @@ use Rattle.book.proofs.Answers.{book-says-one, refused-none}
 use Rattle.earth.specs.declared.table2.Coefficient.{Coefficient}
 use Rattle.debtarush.proofs.finding.Answers.{job-one, job-there}
 use Rattle.debtarush.proofs.Texts.{text-one}
-use Rattle.debtarush.specs.Told.{CallTold, written, refused}
+use Rattle.debtarush.specs.CallTold.{CallTold, written, refused}
 use Rattle.debtarush.specs.Called.{Called, no-book, no-place, too-short, lines}
 
 -- a book's refusal as a call's

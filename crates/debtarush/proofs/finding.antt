@@ -1,5 +1,5 @@
--- Laws of the job at a place. Other crates' proofs cite them.
+-- Laws of the job at a place.
 pub mod Finding
-mod Placing
+mod Locating
 pub mod Answers
 pub mod FoundAnswers

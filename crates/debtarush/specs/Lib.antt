@@ -1,4 +1,4 @@
 pub mod Lines
 pub mod Called
 pub mod finding
-pub mod Told
+pub mod CallTold

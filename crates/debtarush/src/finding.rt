@@ -17,7 +17,7 @@ pub struct JobFound {
 // There is a job; or the refusal of the book with its row, or of the place.
 pub enum Found {
     There,
-    Book(Refusal, usize),
+    BookRefused(Refusal, usize),
     NoPlace,
 }
 
@@ -41,7 +41,7 @@ fn found_at(count: Count, place: usize) -> Found
     ensures { λ r. ⌜ FoundIs count place r ⌝ }
 {
     match count {
-        Count::Refused(why, row) => Found::Book(why, row),
+        Count::Refused(why, row) => Found::BookRefused(why, row),
         Count::Given(n) => {
             if place == 0 {
                 return Found::NoPlace;

@@ -13,13 +13,13 @@ use jobs::Job;
 use rows::refusals::Refusal;
 ghost use Rattle.earth.specs.table2.Table2.{table2-fill};
 ghost use Rattle.debtarush.specs.Lines.{LinesIn};
-ghost use Rattle.debtarush.specs.Told.{call-told};
+ghost use Rattle.debtarush.specs.CallTold.{call-told};
 ghost use Rattle.debtarush.specs.Called.{Called};
 
 // The length written; or the refusal of the book with its row, of the place, or of the buffer.
 pub enum Written {
     Length(usize),
-    Book(Refusal, usize),
+    BookRefused(Refusal, usize),
     NoPlace,
     TooShort,
 }
@@ -40,7 +40,7 @@ pub fn job_lines(book: &[u8], place: usize, out: &mut [u8]) -> Written
     let at = finding::job_at(book, place);
     let found = at.found;
     match found {
-        Found::Book(why, row) => Written::Book(why, row),
+        Found::BookRefused(why, row) => Written::BookRefused(why, row),
         Found::NoPlace => Written::NoPlace,
         Found::There => {
             let block = lines_of(at.job);

@@ -17,7 +17,7 @@ use Rattle.answer.specs.Rules.{Refuses}
 use Rattle.answer.specs.Answer as answer
 use Rattle.printing.specs.Text.{line-text, texts, text}
 use Rattle.debtarush.specs.Lines.{TextOf}
-use Rattle.debtarush.specs.Told.{written, refused}
+use Rattle.debtarush.specs.CallTold.{written, refused}
 use Rattle.debtarush.specs.Called.{Called, no-book, no-place, too-short, lines}
 use Rattle.debtarush.proofs.Texts.{text-one}
 use Rattle.debtarush.proofs.Answers.{called-one}

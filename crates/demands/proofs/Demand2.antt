@@ -16,7 +16,7 @@ use Rattle.sets.specs.Sets.{Permitted}
 use Rattle.checks.specs.declared.Check.{Check}
 use Rattle.checks.specs.service.Service.{HasCheck}
 use Rattle.loads.specs.LoadRows.{AreLoads}
-use Rattle.loads.specs.Taken.{row-count}
+use Rattle.loads.specs.Answer.{row-count}
 use Rattle.lines.specs.declared.Verdict.{Verdict}
 use Rattle.lines.specs.declared.Verdict.the-variants.{Accepted, NotAccepted, Refused}
 use Rattle.lines.specs.Lines.{PrintedLine, check, accepted, not-accepted, number, verdict-value, verdict-line, unless-refused, later-lines, lines-of}
@@ -24,7 +24,7 @@ use Rattle.answer.specs.Rules.{Unrefused}
 use Rattle.answer.specs.Answer.{base-of}
 use Rattle.printing.specs.Text.{line-text, texts, text}
 use Rattle.printing.proofs.Injective.{line-injective, texts-injective}
-use Rattle.debtarush.specs.Told.{written}
+use Rattle.debtarush.specs.CallTold.{written}
 use Rattle.debtarush.specs.Called.{Called}
 use Rattle.demands.specs.Words.{StartsWith, Tells, LinesOf, Sound, NamesSet}
 use Rattle.demands.specs.Demand2.{Demand2}

@@ -12,7 +12,7 @@ use Rattle.csv.specs.notes.Notes.{RowIn}
 use Rattle.book.proofs.Answers as read
 use Rattle.book.proofs.Same.{same-value}
 use Rattle.earth.specs.declared.table2.Coefficient.{Coefficient}
-use Rattle.debtarush.specs.Told.{CallTold, written, refused}
+use Rattle.debtarush.specs.CallTold.{CallTold, written, refused}
 use Rattle.debtarush.specs.Called.{Called, no-book, no-place, too-short, lines}
 use Rattle.debtarush.proofs.Texts.{text-one}
 use Rattle.demands.specs.Words.{listed}

@@ -17,7 +17,7 @@ use Rattle.lines.specs.declared.Lines.{Lines}
 use Rattle.checks.specs.service.Service.{HasCheck}
 use Rattle.worst.specs.Lines as worst
 use Rattle.loads.specs.LoadRows.{AreLoads}
-use Rattle.loads.specs.Taken.{row-count}
+use Rattle.loads.specs.Answer.{row-count}
 use Rattle.loads.proofs.Loaded.{loads-one}
 use Rattle.lines.specs.declared.Verdict.{Verdict}
 use Rattle.lines.specs.declared.Verdict.the-variants.{Accepted, NotAccepted, Refused}
@@ -27,7 +27,7 @@ use Rattle.lines.specs.declared.Answer.{Answer}
 use Rattle.lines.specs.Lines.{LineName, PrintedLine, VERDICT, check, SC, CL, verdict-line, check-line, combination-lines, river-line, later-lines, unless-refused, lines-of}
 use Rattle.answer.specs.Rules.{Unrefused}
 use Rattle.lines.specs.verdicts.Verdict.{VerdictIs}
-use Rattle.answer.specs.Answer.{base-of, LinesAre, Given, refusal, AnswerIs, refused, answered}
+use Rattle.answer.specs.Answer.{base-of, LinesAre, LinesGiven, refusal, AnswerIs, refused, answered}
 use Rattle.csv.specs.notes.Notes.{RowIn}
 use Rattle.demands.specs.Words.{NamesSet}
 use Rattle.demands.proofs.All as all
@@ -76,7 +76,7 @@ module _ (fill : ℕ → ℕ → Coefficient) (job : Job) where
   unless-named NotAccepted p = p
   unless-named (Refused n) p = all.none
 
-  given-named : (a : Answer) → Given fill job a → all.All IsNamed (lines-of a)
+  given-named : (a : Answer) → LinesGiven fill job a → all.All IsNamed (lines-of a)
   unfolding lines-of later-lines
   given-named a g =
       all.more (verdict-named (a .verdict))
@@ -122,7 +122,7 @@ module _ (fill : ℕ → ℕ → Coefficient) (job : Job) (loads : Loads) (are :
         (all.some-behind (check-line c OM (l .om))
         (all.some-behind (check-line c SL (l .sl)) (all.some-behind (check-line c PR (l .pr)) (check-shown RK (l .rk) (p RK) h))))
 
-  later-shown : (c : Combination) (k : Check) (set : ℕ) → Permitted c loads set → HasCheck c k (base-of (job .base)) → (a : Answer) (g : Given fill job a) → g .loads ≡ loads → all.Some (IsOf c k) (later-lines a)
+  later-shown : (c : Combination) (k : Check) (set : ℕ) → Permitted c loads set → HasCheck c k (base-of (job .base)) → (a : Answer) (g : LinesGiven fill job a) → g .loads ≡ loads → all.Some (IsOf c k) (later-lines a)
   unfolding later-lines
   later-shown I k set p h a g e = all.some-front _ (lines-shown I set p k (a .one) (subst (λ (l : Loads). LinesAre I (base-of (job .base)) l (a .one)) e (g .one)) h)
   later-shown II k set p h a g e =

@@ -27,7 +27,7 @@ use Rattle.checks.specs.passing.Passing.{Passes}
 use Rattle.checks.proofs.limits.Limiting.{limit-one}
 use Rattle.worst.specs.Lines as worst
 use Rattle.worst.proofs.Naming.{worst-decides}
-use Rattle.loads.specs.Taken.{row-count}
+use Rattle.loads.specs.Answer.{row-count}
 use Rattle.loads.proofs.Loaded.{loads-one}
 use Rattle.lines.specs.declared.Verdict.{Verdict}
 use Rattle.lines.specs.declared.Verdict.the-variants.{Accepted, NotAccepted, Refused}
@@ -38,7 +38,7 @@ use Rattle.jobs.specs.stages.Rows.{HasClearance}
 use Rattle.answer.specs.river.River.{Founded, DepthIs, ClearIs}
 use Rattle.answer.proofs.river.Answers.{clear-one}
 use Rattle.lines.specs.verdicts.Verdict.{LineYes, LinesYes, RiverYes, AllYes, VerdictIs}
-use Rattle.answer.specs.Answer.{base-of, LinesAre, Given, AnswerIs, refused, answered}
+use Rattle.answer.specs.Answer.{base-of, LinesAre, LinesGiven, AnswerIs, refused, answered}
 use Rattle.demands.specs.Words.{Bears, Deep, Clear, Sound}
 
 -- a combination that has a limit for a check has the check
@@ -131,14 +131,14 @@ module _ (job : Job) where
       z
 
 module _ (fill : ℕ → ℕ → Coefficient) (job : Job) (a : Answer) where
-  given-bears : (g : Given fill job a) → AllYes a → Bears (base-of (job .base)) (g .loads)
+  given-bears : (g : LinesGiven fill job a) → AllYes a → Bears (base-of (job .base)) (g .loads)
   unfolding AllPass
   given-bears g y I check = lines-hold I _ (g .loads) (a .one) (g .one) (y .one) check
   given-bears g y II check = lines-hold II _ (g .loads) (a .two) (g .two) (y .two) check
   given-bears g y III check = lines-hold III _ (g .loads) (a .three) (g .three) (y .three) check
   given-bears g y IV check = lines-hold IV _ (g .loads) (a .four) (g .four) (y .four) check
 
-  yes-sound : Given fill job a → AllYes a → Sound fill job
+  yes-sound : LinesGiven fill job a → AllYes a → Sound fill job
   yes-sound g y = record {
     unrefused = g .unrefused;
     loads = g .loads;
@@ -148,7 +148,7 @@ module _ (fill : ℕ → ℕ → Coefficient) (job : Job) (a : Answer) where
     clear = clear-clears job (a .clear) (g .clear) (y .clear);
   }
 
-  sound-yes : Given fill job a → Sound fill job → AllYes a
+  sound-yes : LinesGiven fill job a → Sound fill job → AllYes a
   unfolding AllPass
   sound-yes g s =
       let e = loads-one fill (job .loads) (row-count (job .count)) (s .loads) (g .loads) (s .are) (g .are) in
@@ -162,7 +162,7 @@ module _ (fill : ℕ → ℕ → Coefficient) (job : Job) (a : Answer) where
         clear = clears-clear job (a .clear) (g .clear) (s .clear);
       }
 
-  verdict-accepted : (v : Verdict) → Given fill job a → Sound fill job → VerdictIs v a → v ≡ Accepted
+  verdict-accepted : (v : Verdict) → LinesGiven fill job a → Sound fill job → VerdictIs v a → v ≡ Accepted
   verdict-accepted Accepted g s p = refl
   verdict-accepted NotAccepted g s p = absurd (p (sound-yes g s))
   verdict-accepted (Refused n) g s p = absurd p

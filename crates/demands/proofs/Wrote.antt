@@ -13,7 +13,7 @@ use Rattle.book.proofs.Answers.{refused-none, book-one}
 use Rattle.csv.proofs.notes.Answers.{row-one}
 use Rattle.earth.specs.declared.table2.Coefficient.{Coefficient}
 use Rattle.debtarush.specs.Lines.{TextOf}
-use Rattle.debtarush.specs.Told.{CallTold, written, refused}
+use Rattle.debtarush.specs.CallTold.{CallTold, written, refused}
 use Rattle.debtarush.specs.Called.{Called, no-book, no-place, too-short, lines}
 
 pub data CallOnJob (fill : ℕ → ℕ → Coefficient) (job : Job) (before after : List ℕ) (t : CallTold) : Type 0 where

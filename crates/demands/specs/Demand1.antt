@@ -16,7 +16,7 @@ use Rattle.lines.specs.Lines.{verdict-line}
 use Rattle.answer.specs.Rules.{Refuses}
 use Rattle.printing.specs.Text.{line-text}
 use Rattle.debtarush.specs.Lines.{TextOf}
-use Rattle.debtarush.specs.Told.{CallTold, written, refused}
+use Rattle.debtarush.specs.CallTold.{CallTold, written, refused}
 use Rattle.debtarush.specs.Called.{Called}
 
 pub record Demand1 (fill : ℕ → ℕ → Coefficient) : Type 0 where

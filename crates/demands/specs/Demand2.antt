@@ -15,13 +15,13 @@ use Rattle.sets.specs.Sets.{Permitted}
 use Rattle.checks.specs.declared.Check.{Check}
 use Rattle.checks.specs.service.Service.{HasCheck}
 use Rattle.loads.specs.LoadRows.{AreLoads}
-use Rattle.loads.specs.Taken.{row-count}
+use Rattle.loads.specs.Answer.{row-count}
 use Rattle.lines.specs.declared.Verdict.the-variants.{Accepted}
 use Rattle.lines.specs.Lines.{PrintedLine, check, verdict-line}
 use Rattle.answer.specs.Rules.{Unrefused}
 use Rattle.answer.specs.Answer.{base-of}
 use Rattle.printing.specs.Text.{line-text}
-use Rattle.debtarush.specs.Told.{written}
+use Rattle.debtarush.specs.CallTold.{written}
 use Rattle.debtarush.specs.Called.{Called}
 use Rattle.demands.specs.Words.{StartsWith, Tells, LinesOf, Sound, NamesSet}
 

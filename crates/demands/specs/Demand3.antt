@@ -7,7 +7,7 @@ use Rattle.book.specs.JobBook.{WrittenJob, Jobs, JobBook}
 use Rattle.book.specs.Values.{SameJob}
 use Rattle.earth.specs.declared.table2.Coefficient.{Coefficient}
 use Rattle.csv.specs.notes.Notes.{RowIn}
-use Rattle.debtarush.specs.Told.{CallTold, written, refused}
+use Rattle.debtarush.specs.CallTold.{CallTold, written, refused}
 use Rattle.debtarush.specs.Called.{Called}
 use Rattle.demands.specs.Words.{listed}
 

@@ -9,7 +9,7 @@ use Rattle.jobs.specs.declared.Job.{Job}
 use Rattle.book.specs.JobBook.{WrittenJob, Jobs, none, _and_}
 use Rattle.scour.specs.Scour as scour
 use Rattle.arithmetic.specs.signed.Whole.{signed}
-use Rattle.clearance.specs.Told.{given}
+use Rattle.clearance.specs.ClearanceTold.{given}
 use Rattle.clearance.specs.Clear.{Cleared, AtLeast}
 use Rattle.earth.specs.declared.table2.Coefficient.{Coefficient}
 use Rattle.sets.specs.declared.Combination.{Combination}
@@ -24,7 +24,7 @@ use Rattle.checks.specs.limits.Limits.{Limit}
 use Rattle.checks.specs.passing.Passing.{Passes}
 use Rattle.worst.specs.Lines.{Printed}
 use Rattle.loads.specs.LoadRows.{AreLoads}
-use Rattle.loads.specs.Taken.{row-count}
+use Rattle.loads.specs.Answer.{row-count}
 use Rattle.lines.specs.declared.Answer.{Answer}
 use Rattle.lines.specs.Lines.{PrintedLine, check, holds, value-of, mark-of, lines-of}
 use Rattle.jobs.specs.stages.Rows.{HasClearance}

@@ -5,7 +5,7 @@ use native.Mathlib.Omega.{arith}
 use lib.Dec.{lit≤}
 use Rattle.kinds.specs.declared.Numbers.{Numbers}
 use Rattle.earth.specs.table2.Table2.{LowCoefficient}
-use Rattle.earth.specs.Earth.{push, Pushed, value, Pressed, in-range}
+use Rattle.earth.specs.Earth.{push, Pushed, has-coefficient, Pressed, in-range}
 use Rattle.earth.specs.declared.table2.Coefficient.{Coefficient}
 
 pub record Modest (H y : ℕ) : Type 0 where
@@ -14,7 +14,7 @@ pub record Modest (H y : ℕ) : Type 0 where
   pub moment : H * y ≤ 3 * 10 ^ 9
 
 pushed-modest : {height length : ℕ} {k : Coefficient} {H y : ℕ} → height ≤ 15000 → length ≤ 60000 → LowCoefficient k → Pushed height length k (push H y) → Modest H y
-pushed-modest high long small (value u v) =
+pushed-modest high long small (has-coefficient u v) =
     let h = u .least 300000 (le-trans (mul-le-mul (mul-le-mul small (pow-le-pow-left high 2)) long) (lit≤ tt)) in
     let y = v .least 5000 (omega arith) in
     record { thrust = h; arm = y; moment = le-trans (mul-le-mul h y) (lit≤ tt) }

@@ -5,14 +5,14 @@ use Prim.Native.Nat.{ℕ}
 use lib.Dec.{eqb}
 use Rattle.arithmetic.proofs.rounding.Laws.{least-one}
 use Rattle.kinds.specs.declared.Numbers.{Numbers}
-use Rattle.earth.specs.Earth.{EarthTold, refused, push, earth-told, Pushed, blank, value, Pressed, out-of-range, in-range}
+use Rattle.earth.specs.Earth.{EarthTold, refused, push, earth-told, Pushed, blank, has-coefficient, Pressed, out-of-range, in-range}
 use Rattle.earth.specs.declared.table2.Coefficient.{Coefficient}
 use Rattle.earth.specs.declared.EarthAnswer.{EarthAnswer}
 use Rattle.earth.specs.declared.EarthAnswer.the-variants.{OutOfRange, NoCoefficient, Push}
 
 pushed-one : {height length : ℕ} {k : Coefficient} {t u : EarthTold} → Pushed height length k t → Pushed height length k u → t ≡ u
 pushed-one blank blank = refl
-pushed-one (value h y) (value i z) =
+pushed-one (has-coefficient h y) (has-coefficient i z) =
     let thrust = least-one h i in
     let arm = least-one y z in
     cc

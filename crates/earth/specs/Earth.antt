@@ -23,7 +23,7 @@ earth-told (Push thrust arm) = push thrust arm
 -- "15, Table 2 is blank there"; else H and y, by the coefficient that is held
 pub data Pushed (height length : ℕ) : Coefficient → EarthTold → Type 0 where
   blank : Pushed height length Blank (refused 15)
-  value : {K H y : ℕ} → Thrust K height length H → Arm height y → Pushed height length (Value K) (push H y)
+  has-coefficient : {K H y : ℕ} → Thrust K height length H → Arm height y → Pushed height length (Value K) (push H y)
 
 -- "11, a number out of range"; else what is held for the row's soil and slope gives with its height and length
 pub data Pressed (fill : ℕ → ℕ → Coefficient) (row : Numbers) : EarthTold → Type 0 where

@@ -1,3 +1,3 @@
--- Laws of names. Other crates' proofs cite them.
+-- Laws of names.
 pub mod Names
 pub mod Answers

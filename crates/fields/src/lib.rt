@@ -10,7 +10,7 @@ use digits::Digits;
 ghost use mathlib.Core.Path.{_≡_};
 ghost use Rattle.fields.specs.Numbers.{IsNumber, IsEmpty, absent, EntryAt};
 
-// What a number field holds: nothing, or a number by its sign and size, and never a minus zero.
+// What a number field holds: nothing, or a number by its sign and size. No field gives a minus zero.
 pub struct Entry {
     pub filled: bool,
     pub minus: bool,

@@ -3,16 +3,16 @@ use native.Mathlib.Nat.{not-le-of-lt}
 use lib.Dec.{lit<, lit≤}
 use Rattle.arithmetic.proofs.rounding.Compute.{up-test, cube-test, cube-test′}
 use Rattle.scour.specs.discharge.Discharge.{to-500, to-5000, to-25000}
-use Rattle.earth.specs.Earth.{value}
+use Rattle.earth.specs.Earth.{has-coefficient}
 use Rattle.arithmetic.specs.signed.Whole.{worth, amount, above, below}
 use Rattle.sets.specs.Sets.{bit, row}
-use Rattle.sets.specs.Totals.{counted, sum, arm, upright, push, resists, overturns, resisting, overturning}
+use Rattle.sets.specs.Totals.{counted, sum, arm, v-moment, h-moment, resists, overturns, resisting, overturning}
 use Rattle.checks.specs.ranks.Figures.{Presses}
 use Rattle.figures.specs.Figures.{needed, pressure, pressure-either, AllHold, none, more, starred}
 use Rattle.figures.proofs.Loaded.{overturns-test}
 
 pub figures : AllHold starred
-unfolding worth amount bit row sum counted resists overturns upright push arm above below resisting overturning Presses
+unfolding worth amount bit row sum counted resists overturns v-moment h-moment arm above below resisting overturning Presses
 figures =
     more (to-500 (lit≤ tt) (up-test _ _ _ tt))
     (more (to-5000 (lit< tt) (lit≤ tt) (up-test _ _ _ tt))
@@ -24,7 +24,7 @@ figures =
     (more (cube-test′ _ _ _ tt)
     (more (cube-test′ _ _ _ tt)
     (more (up-test _ _ _ tt)
-    (more (value (up-test _ _ _ tt) (up-test _ _ _ tt))
+    (more (has-coefficient (up-test _ _ _ tt) (up-test _ _ _ tt))
     (more (overturns-test _ _ _ _ _ _ tt tt)
     (more (overturns-test _ _ _ _ _ _ tt tt)
     (more {x = pressure _ _ _ _ _} (lit< tt, lit< tt, (λ h. absurd (not-le-of-lt (lit< tt) h)), λ h. up-test _ _ _ tt)

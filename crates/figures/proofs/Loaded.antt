@@ -20,7 +20,7 @@ use Rattle.checks.specs.ranks.Figures.{Tips}
 use Rattle.checks.specs.set_figures.Figures.{Shows}
 use Rattle.kinds.specs.classes.Classes.{class-of, source}
 use Rattle.loads.specs.forces.Exerts.{Forces, Exerts}
-use Rattle.loads.specs.LoadRows.{row-at, AreLoads}
+use Rattle.loads.specs.LoadRows.{load-row, AreLoads}
 use Rattle.loads.proofs.Laying.{all-no-load}
 use Rattle.figures.specs.Figures.{dead-load, Overturns}
 
@@ -44,10 +44,10 @@ module _ (v x h y : ℕ) where
   exerts = record { class = refl; phase = refl; forces = record { v = refl; x = refl; h = refl; twist = refl } }
 
   are-loads : AreLoads table2-fill (dead-load v x h y ∷ []) 1 alone
-  unfolding row row-at
+  unfolding row load-row
   are-loads = record { count = refl; whole = refl; each = each; rest = rest }
     where
-      each : (i : ℕ) → i < 1 → Exerts table2-fill (row-at (dead-load v x h y ∷ []) i) (row alone i)
+      each : (i : ℕ) → i < 1 → Exerts table2-fill (load-row (dead-load v x h y ∷ []) i) (row alone i)
       each zero h = exerts
       each (suc i) h = absurd (omega arith)
 

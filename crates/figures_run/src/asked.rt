@@ -1,4 +1,4 @@
-// Lines of the programs that run document 01's figures: what was asked, what came and what 01 says.
+// Lines of the program that runs document 01's figures: what was asked, what came and what 01 says.
 //
 // What is written no contract can say; how many figures agree is said.
 use libc::STDOUT_FILENO;

@@ -113,7 +113,7 @@ fn pressed(n: u64, m: u64) -> u64
     figure_number(checks::figure_at(Check::PR, rank))
 }
 
-// All of them.
+// Earth pressure, OP and PR, figure by figure: how many agree.
 pub(crate) fn borne(agree: u64) -> u64 {
     let a = overturning(overturning(pushed(agree), 10_000, 200), 10_001, 199);
     let past = pressed(1000, 2_000_000);

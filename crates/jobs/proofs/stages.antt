@@ -1,3 +1,3 @@
--- Laws of a row's place in its job. Other crates' proofs cite them.
-pub mod Placing
+-- Laws of a row's place in its job.
+pub mod Fitting
 pub mod Rows

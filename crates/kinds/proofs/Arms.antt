@@ -33,7 +33,7 @@ at-place SF = refl
 one-place : (j k : Kind) → tagOf the-type k ≡ tagOf the-type j → j ≡ k
 one-place j k e = sym (at-place j) ∙ ap kind-at (sym e) ∙ at-place k
 
-pub arm : {A : Type 0} (answer : Kind → A) (a : A) (js : List Kind) (k : Kind) → map answer js ≡ map (λ _. a) js → OneOf (map (tagOf the-type) js) (tagOf the-type k) → a ≡ answer k
-arm answer a [] k all h = absurd h
-arm answer a (j ∷ []) k all h = let e = one-place j k h in cc
-arm answer a (i ∷ j ∷ js) k all h = ⊎-elim (λ e. let q = one-place i k e in cc) (arm answer a (j ∷ js) k cc) h
+pub kind-arm : {A : Type 0} (answer : Kind → A) (a : A) (js : List Kind) (k : Kind) → map answer js ≡ map (λ _. a) js → OneOf (map (tagOf the-type) js) (tagOf the-type k) → a ≡ answer k
+kind-arm answer a [] k all h = absurd h
+kind-arm answer a (j ∷ []) k all h = let e = one-place j k h in cc
+kind-arm answer a (i ∷ j ∷ js) k all h = ⊎-elim (λ e. let q = one-place i k e in cc) (kind-arm answer a (j ∷ js) k cc) h

@@ -1,2 +1,2 @@
--- Laws of ranges. Other crates' proofs cite them.
+-- Laws of ranges.
 pub mod Ranges

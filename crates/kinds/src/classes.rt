@@ -1,6 +1,4 @@
 // What a row of a kind is to a combination, and where its forces come from (document 01, the job book and Load sets).
-//
-// A kind of load that is added joins its group in each of the two tables here, which name all 15 kinds.
 use crate::Kind;
 use sets::Class;
 ghost use mathlib.Core.Path.{_≡_};

@@ -1,7 +1,8 @@
 // Document 01's table of kinds, as data: the form (refusal 3) and the ranges (refusal 11) of a row's numbers.
 //
-// What the kinds decide is stated in one table (`specs/Table.antt`): which columns are filled and in what range, what a row of the kind is
-// to its job, and where its phase stands. The code's copy of it is shown to be the definition's.
+// Which columns are filled and in what range, what a row of the kind is to its job, and where its phase stands, is stated in one table
+// (`specs/Table.antt`); its letters stand with `letters`, its class and the source of its forces with `classes`. A kind that is added joins
+// each of these. The code's copies are shown to be the definitions'.
 pub mod classes;
 pub mod letters;
 pub mod ranges;
@@ -162,7 +163,7 @@ pub fn role_of(kind: Kind) -> Role
     }
 }
 
-// The phase of a load row, which stands where its kind has it.
+// The phase of a load row, by its kind: every kind of 01 has it in n5.
 pub fn phase_of(row: Row) -> u32
     ensures { λ r. ⌜ r ≡ phase (row .kind) (row .numbers) ⌝ }
 {

@@ -13,12 +13,12 @@ use Rattle.earth.specs.table2.Table2.{LowCoefficient}
 use Rattle.sets.specs.declared.Loads.{Loads}
 use Rattle.sets.specs.Sets.{Bounded}
 use Rattle.loads.proofs.forces.Exerting.{exerts-bounded}
-use Rattle.loads.specs.LoadRows.{row-at, AllRanged, AreLoads}
+use Rattle.loads.specs.LoadRows.{load-row, AllRanged, AreLoads}
 use Rattle.loads.proofs.Loaded.{loads-one}
 use Rattle.loads.specs.declared.LoadsAnswer.{LoadsAnswer}
 use Rattle.loads.specs.declared.LoadsAnswer.the-variants.{OutOfRange, NoCoefficient, TooManyOptional, Given}
 use Rattle.loads.specs.declared.LoadsRead.{LoadsRead}
-use Rattle.loads.specs.Taken.{LoadsTold, given, loads-told, loads-told-by, LoadsSays, out-of-range, blank, too-many, loaded, row-count, Beside, LoadsAnswered}
+use Rattle.loads.specs.Answer.{LoadsTold, given, loads-told, loads-told-by, LoadsSays, out-of-range, blank, too-many, loaded, row-count, Beside, LoadsAnswered}
 
 -- ---- the rows are told one answer
 module _ (fill : ℕ → ℕ → Coefficient) (rows : List Row) (n : ℕ) where
@@ -89,5 +89,5 @@ given-bounded fill small rows count taken a e =
     record {
       count = subst⁻¹ (λ (m : ℕ). m ≤ 16) (w .1 .count) (rows-few count);
       each = λ i h. let k : i < row-count count = subst (λ (m : ℕ). i < m) (w .1 .count) h in
-          exerts-bounded fill small (row-at rows i) _ (w .0 i k) (w .1 .each i k);
+          exerts-bounded fill small (load-row rows i) _ (w .0 i k) (w .1 .each i k);
     }

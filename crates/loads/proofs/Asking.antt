@@ -20,7 +20,7 @@ use Rattle.sets.specs.Sets.{no-load}
 use Rattle.loads.specs.forces.Blank.{BlankThere}
 use Rattle.loads.specs.forces.Exerted.{LoadOf}
 use Rattle.loads.specs.declared.forces.RowLoad.the-variants.{OutOfRange, NoCoefficient, Exerted}
-use Rattle.loads.specs.LoadRows.{row-at, AllRanged, NoneBlank, optionals}
+use Rattle.loads.specs.LoadRows.{load-row, AllRanged, NoneBlank, optionals}
 use Rattle.loads.specs.Asking.{AskedIs}
 use Rattle.loads.proofs.forces.Exerting.{blank-ranged}
 use Rattle.loads.proofs.Laying.{Laid, laid-none, laid-more, laid-all}
@@ -54,38 +54,38 @@ module _ (fill : ℕ → ℕ → Coefficient) (rows : List Row) where
       record { size = l .0; ranged = λ i h. absurd (omega arith); filled = λ i h. absurd (omega arith); optional = λ _ _. refl; laid = λ _ _. l }
 
   module _ (n : ℕ) {ranged filled : Bool} {count : ℕ} {loads : List Load} (p : RowsAsked fill rows n ranged filled count loads) where
-    pub asked-out : LoadOf fill (row-at rows n) OutOfRange → RowsAsked fill rows (n + 1) false filled count loads
+    pub asked-out : LoadOf fill (load-row rows n) OutOfRange → RowsAsked fill rows (n + 1) false filled count loads
     unfolding LoadOf AllRanged NoneBlank
     asked-out t =
         record {
           size = p .size;
-          ranged = not-more (λ i. Ranged ((row-at rows i) .kind) ((row-at rows i) .numbers)) n t;
-          filled = decides-more (λ i. BlankThere fill (row-at rows i) → ⊥) n filled (p .filled) (λ b. t (blank-ranged fill (row-at rows n) b));
+          ranged = not-more (λ i. Ranged ((load-row rows i) .kind) ((load-row rows i) .numbers)) n t;
+          filled = decides-more (λ i. BlankThere fill (load-row rows i) → ⊥) n filled (p .filled) (λ b. t (blank-ranged fill (load-row rows n) b));
           optional = λ e _. impossible cc;
           laid = λ e _. impossible cc;
         }
 
-    pub asked-blank : LoadOf fill (row-at rows n) NoCoefficient → RowsAsked fill rows (n + 1) ranged false count loads
+    pub asked-blank : LoadOf fill (load-row rows n) NoCoefficient → RowsAsked fill rows (n + 1) ranged false count loads
     unfolding LoadOf AllRanged NoneBlank
     asked-blank t =
         record {
           size = p .size;
-          ranged = decides-more (λ i. Ranged ((row-at rows i) .kind) ((row-at rows i) .numbers)) n ranged (p .ranged) (t .0);
-          filled = not-more (λ i. BlankThere fill (row-at rows i) → ⊥) n (λ h. h (t .1));
+          ranged = decides-more (λ i. Ranged ((load-row rows i) .kind) ((load-row rows i) .numbers)) n ranged (p .ranged) (t .0);
+          filled = not-more (λ i. BlankThere fill (load-row rows i) → ⊥) n (λ h. h (t .1));
           optional = λ _ e. impossible cc;
           laid = λ _ e. impossible cc;
         }
 
-    pub asked-load : (load : Load) → n < 16 → LoadOf fill (row-at rows n) (Exerted load) → RowsAsked fill rows (n + 1) ranged filled (count + optional (load .class)) (set loads n load)
+    pub asked-load : (load : Load) → n < 16 → LoadOf fill (load-row rows n) (Exerted load) → RowsAsked fill rows (n + 1) ranged filled (count + optional (load .class)) (set loads n load)
     unfolding LoadOf AllRanged NoneBlank optionals
     asked-load load h t =
         record {
           size = length-set loads n load ∙ p .size;
-          ranged = decides-more (λ i. Ranged ((row-at rows i) .kind) ((row-at rows i) .numbers)) n ranged (p .ranged) (t .0);
-          filled = decides-more (λ i. BlankThere fill (row-at rows i) → ⊥) n filled (p .filled) (t .1);
+          ranged = decides-more (λ i. Ranged ((load-row rows i) .kind) ((load-row rows i) .numbers)) n ranged (p .ranged) (t .0);
+          filled = decides-more (λ i. BlankThere fill (load-row rows i) → ⊥) n filled (p .filled) (t .1);
           optional = λ e f. ap₂ (λ (x y : ℕ). x + y) (p .optional e f) (ap optional (t .2 .class)) ∙ next;
           laid = λ e f. laid-more fill rows n loads h (p .laid e f) (t .2);
         }
       where
-        next : optionals rows n + optional (class-of ((row-at rows n) .kind)) ≡ optionals rows (n + 1)
+        next : optionals rows n + optional (class-of ((load-row rows n) .kind)) ≡ optionals rows (n + 1)
         next = rw add-one

@@ -11,7 +11,7 @@ use Rattle.earth.specs.declared.table2.Coefficient.{Coefficient}
 use Rattle.sets.specs.declared.Load.{Load}
 use Rattle.sets.specs.Sets.{no-load, row}
 use Rattle.loads.specs.forces.Exerts.{Exerts}
-use Rattle.loads.specs.LoadRows.{row-at, AreLoads}
+use Rattle.loads.specs.LoadRows.{load-row, AreLoads}
 
 pub all-no-load : (n j : ℕ) → getD (replicate n no-load) j no-load ≡ no-load
 all-no-load zero j = refl
@@ -20,19 +20,19 @@ all-no-load (suc n) (suc j) = all-no-load n j
 
 module _ (fill : ℕ → ℕ → Coefficient) (rows : List Row) where
   unfoldable pub Laid : ℕ → List Load → Type 0
-  Laid n loads = (length loads ≡ 16) × ((j : ℕ) → j < n → Exerts fill (row-at rows j) (getD loads j no-load)) × ((j : ℕ) → n ≤ j → getD loads j no-load ≡ no-load)
+  Laid n loads = (length loads ≡ 16) × ((j : ℕ) → j < n → Exerts fill (load-row rows j) (getD loads j no-load)) × ((j : ℕ) → n ≤ j → getD loads j no-load ≡ no-load)
 
   pub laid-none : {x : Load} → x ≡ no-load → Laid 0 (replicate 16 x)
   unfolding Laid
   laid-none {x} e =
       (length-replicate 16 x, (λ j h. absurd (omega arith)), λ j h. ap (λ (y : Load). getD (replicate 16 y) j no-load) e ∙ all-no-load 16 j)
 
-  pub laid-more : (n : ℕ) (loads : List Load) {load : Load} → n < 16 → Laid n loads → Exerts fill (row-at rows n) load → Laid (n + 1) (set loads n load)
+  pub laid-more : (n : ℕ) (loads : List Load) {load : Load} → n < 16 → Laid n loads → Exerts fill (load-row rows n) load → Laid (n + 1) (set loads n load)
   unfolding Laid
   laid-more n loads {load} h l e = (
     length-set loads n load ∙ l .0,
-    below-more _ n (λ j k. subst⁻¹ (Exerts fill (row-at rows j)) (getD-set-other loads n j load no-load (λ d. omega arith)) (l .1 j k))
-        (subst⁻¹ (Exerts fill (row-at rows n)) (getD-set-same loads n load no-load (omega (arith, l .0))) e),
+    below-more _ n (λ j k. subst⁻¹ (Exerts fill (load-row rows j)) (getD-set-other loads n j load no-load (λ d. omega arith)) (l .1 j k))
+        (subst⁻¹ (Exerts fill (load-row rows n)) (getD-set-same loads n load no-load (omega (arith, l .0))) e),
     λ j k. getD-set-other loads n j load no-load (λ d. omega arith) ∙ l .2 j (omega arith),
   )
 

@@ -18,7 +18,7 @@ use Rattle.kinds.specs.declared.classes.Source.the-variants.{Absent, Earth, Own
 use Rattle.kinds.specs.classes.Classes.{source}
 use Rattle.loads.specs.forces.Exerts.{EarthLoad, Forces, Exerts}
 use Rattle.loads.proofs.forces.Exerting.{same-load}
-use Rattle.loads.specs.LoadRows.{row-at, AreLoads}
+use Rattle.loads.specs.LoadRows.{load-row, AreLoads}
 
 -- ---- a row exerts one load
 same-push : {H y G z : ℕ} → earth.push H y ≡ earth.push G z → (H ≡ G) × (y ≡ z)
@@ -49,5 +49,5 @@ module _ (fill : ℕ → ℕ → Coefficient) (rows : List Row) (n : ℕ) where
   loads-one a b p q =
       ap₂ (λ (m : ℕ) (l : List Load). record { count = m; loads = l }) (p .count ∙ sym (q .count))
       (ext-getD no-load (a .loads) (b .loads) (p .whole ∙ sym (q .whole)) (λ i _. by-cases (decLt i n)
-      (λ h. exerts-one fill (row-at rows i) _ _ (p .each i h) (q .each i h))
+      (λ h. exerts-one fill (load-row rows i) _ _ (p .each i h) (q .each i h))
       (λ h. p .rest i (omega arith) ∙ sym (q .rest i (omega arith)))))

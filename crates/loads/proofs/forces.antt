@@ -1,3 +1,3 @@
--- The laws of what a load row exerts. Other crates' proofs cite them.
+-- The laws of what a load row exerts.
 pub mod Amounts
 pub mod Exerting

@@ -1,4 +1,4 @@
-pub mod Taken
+pub mod Answer
 pub mod LoadRows
 pub mod Asking
 pub mod forces

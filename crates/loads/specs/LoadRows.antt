@@ -15,25 +15,25 @@ use Rattle.loads.specs.forces.Blank.{BlankThere}
 use Rattle.loads.specs.forces.Exerts.{Exerts}
 
 -- row i, from 0, of the job's load rows; past the last an empty one
-unfoldable pub row-at : List Row → ℕ → Row
-row-at rows i = getD rows i (record { kind = B; numbers = blank-numbers })
+unfoldable pub load-row : List Row → ℕ → Row
+load-row rows i = getD rows i (record { kind = B; numbers = blank-numbers })
 
--- 11, a number out of range
+-- what 11 asks: no number is out of range
 unfoldable pub AllRanged : List Row → ℕ → Type 0
-AllRanged rows n = (i : ℕ) → i < n → Ranged ((row-at rows i) .kind) ((row-at rows i) .numbers)
+AllRanged rows n = (i : ℕ) → i < n → Ranged ((load-row rows i) .kind) ((load-row rows i) .numbers)
 
--- 15, Table 2 is blank there
+-- what 15 asks: Table 2 is blank at none
 unfoldable pub NoneBlank : (ℕ → ℕ → Coefficient) → List Row → ℕ → Type 0
-NoneBlank fill rows n = (i : ℕ) → i < n → BlankThere fill (row-at rows i) → ⊥
+NoneBlank fill rows n = (i : ℕ) → i < n → BlankThere fill (load-row rows i) → ⊥
 
--- 16, more than 12 optional load rows
+-- what 16 counts: the optional load rows
 unfoldable pub optionals : List Row → ℕ → ℕ
 optionals rows zero = 0
-optionals rows (suc n) = optionals rows n + optional (class-of ((row-at rows n) .kind))
+optionals rows (suc n) = optionals rows n + optional (class-of ((load-row rows n) .kind))
 
 -- the loads of the first n rows, and no others
 pub record AreLoads (fill : ℕ → ℕ → Coefficient) (rows : List Row) (n : ℕ) (loads : Loads) : Type 0 where
   pub count : loads .count ≡ n
   pub whole : length (loads .loads) ≡ 16
-  pub each : (i : ℕ) → i < n → Exerts fill (row-at rows i) (row loads i)
+  pub each : (i : ℕ) → i < n → Exerts fill (load-row rows i) (row loads i)
   pub rest : (i : ℕ) → n ≤ i → row loads i ≡ no-load

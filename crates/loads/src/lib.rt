@@ -10,7 +10,7 @@ use sets::Loads;
 ghost use mathlib.Core.Path.{_≡_};
 ghost use Prim.Native.Nat.{_≤_};
 ghost use Rattle.earth.specs.table2.Table2.{table2-fill};
-ghost use Rattle.loads.specs.Taken.{no-loads, row-count, LoadsAnswered};
+ghost use Rattle.loads.specs.Answer.{no-loads, row-count, LoadsAnswered};
 ghost use Rattle.loads.specs.Asking.{AskedIs};
 
 // What the load rows are told: refusal 11 (a number out of range), 15 (Table 2 blank) or 16 (more than 12 optional rows), in that
@@ -47,7 +47,7 @@ fn no_loads() -> Loads
 }
 
 // The count of load rows that is looked at: the count given, at most the 16 that a job may have (document 01, the job book).
-fn rows_of(count: usize) -> usize
+fn row_count(count: usize) -> usize
     ensures { λ r. ⌜ (r ≡ row-count count) × (r ≤ 16) ⌝ }
 {
     if 16 < count {
@@ -93,7 +93,7 @@ fn asked_of(rows: [Row; 16], n: usize) -> Asked
 pub fn loads_of(rows: [Row; 16], count: usize) -> LoadsRead
     ensures { λ r. ⌜ LoadsAnswered table2-fill rows count r ⌝ }
 {
-    let asked = asked_of(rows, rows_of(count));
+    let asked = asked_of(rows, row_count(count));
     let none = no_loads();
     if !asked.ranged {
         return LoadsRead {

@@ -1,4 +1,4 @@
-// The values of a printed line that stand in one line each (document 01, The printed answer): that of VERDICT and that of CL.
+// The values of a printed line that no check has (document 01, The printed answer): that of VERDICT, and those of SC and CL.
 //
 // Each function puts one field behind the text that a page holds, as the definition of that field's text has it, and says how many
 // bytes it has at most. The text of every field behind the key is defined here. Both are said of every value, those that no
@@ -8,7 +8,7 @@ ghost use Rattle.lines.specs.Lines.{signed-value, verdict-value};
 ghost use Rattle.block.specs.Block.{field, Adds};
 ghost use Rattle.printing.specs.line_fields.Text.{value-text};
 
-// The value of CL.
+// The value of SC and of CL.
 pub(crate) fn put_signed(out: &mut [u8; 2048], at: usize, minus: bool, size: u64) -> usize
     ensures { λ r. ⌜ Adds (now (out .entry)) at (field (value-text (signed-value minus size))) 22 (now (out .exit)) r ⌝ }
 {

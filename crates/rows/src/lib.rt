@@ -1,7 +1,7 @@
 // A row of a job book by what its ten cells mean (document 01, the job book; refusal 3).
 //
-// The text is known to be RFC 4180, and the row has one reading. What is hard is to say that of the cells that the
-// reading has, and not of whatever the code looks at: each promise here speaks of every reading of the text.
+// The text is known to be RFC 4180, and the row has one reading. Each promise here speaks of every reading of the text, and not of the
+// cells that the code looks at.
 pub mod keys;
 pub mod refusals;
 

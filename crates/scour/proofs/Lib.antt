@@ -1,3 +1,3 @@
 -- The laws of what the numbers of an S row give. Other crates' proofs cite them.
 pub mod Scours
-pub mod River
+pub mod ScourRow

@@ -1,3 +1,3 @@
--- The laws of the discharge of a foundation. Other crates' proofs cite them.
+-- The laws of the discharge of a foundation.
 pub mod Rules
 pub mod Bounds

@@ -1,2 +1,2 @@
--- The laws of the rules for scour. Other crates' proofs cite them.
+-- The laws of the rules for scour.
 pub mod Rules

@@ -1,4 +1,4 @@
 pub mod Scour
 pub mod discharge
 pub mod lacey
-pub mod River
+pub mod ScourRow

@@ -11,7 +11,7 @@ use kinds::Numbers;
 ghost use Prim.Native.Nat.{_≤_};
 ghost use Rattle.scour.specs.Scour as scour;
 ghost use Rattle.scour.specs.Scour.{scour-told};
-ghost use Rattle.scour.specs.River.{ScourSays};
+ghost use Rattle.scour.specs.ScourRow.{ScourSays};
 
 // What an S row is told: the depth needed in mm, or a refusal.
 pub enum ScourAnswer {

@@ -18,8 +18,8 @@ use Rattle.sets.specs.declared.Load.{Load}
 use Rattle.sets.specs.declared.Loads.{Loads}
 use Rattle.sets.specs.declared.Sums.{Sums}
 use Rattle.sets.specs.Sets.{bit, row, Bounded, BoundedLoad}
-use Rattle.sets.specs.Totals.{countedℤ, counted, sumℤ, sum, N, H, M, moment, plus, minus, arm, upright, push, resists, overturns, resisting, overturning}
-use Rattle.sets.specs.steps.Sums.{parts-sum, balance-sum, no-sums, add, add-if, balance-of, is-wind, is-quake, moment-of, terms-of, sums-to, sums-of, arm-by, balance-by, moment-by, Room}
+use Rattle.sets.specs.Totals.{countedℤ, counted, sumℤ, sum, N, H, M, moment, plus, minus, arm, v-moment, h-moment, resists, overturns, resisting, overturning}
+use Rattle.sets.specs.steps.Sums.{parts-sum, balance-sum, no-sums, add, add-if, balance-of, is-wind, is-earthquake, moment-of, terms-of, sums-to, sums-of, arm-by, balance-by, moment-by, Room}
 
 -- ---- equal sums
 pub same-balance : {a b : Balance} → a .resisting ≡ b .resisting → a .overturning ≡ b .overturning → a ≡ b
@@ -32,12 +32,12 @@ pub record SameSums (a b : Sums) : Type 0 where
   pub plus : a .plus ≡ b .plus
   pub minus : a .minus ≡ b .minus
   pub winds : a .winds ≡ b .winds
-  pub quakes : a .quakes ≡ b .quakes
+  pub earthquakes : a .earthquakes ≡ b .earthquakes
   pub set : a .set ≡ b .set
 
 pub same-sums : {a b : Sums} → SameSums a b → a ≡ b
 same-sums e =
-    λ i. record { v = e .v i; h = e .h i; m = e .m i; plus = e .plus i; minus = e .minus i; winds = e .winds i; quakes = e .quakes i; set = e .set i }
+    λ i. record { v = e .v i; h = e .h i; m = e .m i; plus = e .plus i; minus = e .minus i; winds = e .winds i; earthquakes = e .earthquakes i; set = e .set i }
 
 -- ---- sums are added in any order
 module _ (a b c : Parts) where
@@ -60,7 +60,7 @@ add-swap a b c =
       plus = balance-swap (a .plus) (b .plus) (c .plus);
       minus = balance-swap (a .minus) (b .minus) (c .minus);
       winds = omega arith;
-      quakes = omega arith;
+      earthquakes = omega arith;
       set = omega arith;
     })
 
@@ -153,9 +153,9 @@ module _ (width : ℕ) (loads : Loads) (set : ℕ) where
   unfolding sums-of no-sums add terms-of
   winds-is = field-is width loads set (λ s. s .winds) (λ load. is-wind (load .class)) refl (λ a b. refl) (λ load place. refl) (loads .count)
 
-  pub quakes-is : (sums-of width loads set) .quakes ≡ sum (λ load. is-quake (load .class)) loads set (loads .count)
+  pub earthquakes-is : (sums-of width loads set) .earthquakes ≡ sum (λ load. is-earthquake (load .class)) loads set (loads .count)
   unfolding sums-of no-sums add terms-of
-  quakes-is = field-is width loads set (λ s. s .quakes) (λ load. is-quake (load .class)) refl (λ a b. refl) (λ load place. refl) (loads .count)
+  earthquakes-is = field-is width loads set (λ s. s .earthquakes) (λ load. is-earthquake (load .class)) refl (λ a b. refl) (λ load place. refl) (loads .count)
 
 -- ---- one row, in natural numbers
 pub arm-plus : (width : ℕ) (x : ℤ) → arm-by width (above x) (below x) ≡ parts-of (arm plus width x)
@@ -168,7 +168,7 @@ arm-minus width x = same-parts (sym (above-more width x)) (sym (below-more width
 
 pub balance-plus : (width : ℕ) (load : Load)
     → balance-by (parts-of (worth (load .v))) (parts-of (arm plus width (worth (load .x)))) (below (worth (load .twist))) (above (worth (load .twist))) ≡ balance-of plus width load
-unfolding balance-by balance-of resists overturns upright push times parts-of
+unfolding balance-by balance-of resists overturns v-moment h-moment times parts-of
 balance-plus width load =
     let t = worth (load .twist) in
     same-balance
@@ -177,7 +177,7 @@ balance-plus width load =
 
 pub balance-minus : (width : ℕ) (load : Load)
     → balance-by (parts-of (worth (load .v))) (parts-of (arm minus width (worth (load .x)))) (above (worth (load .twist))) (below (worth (load .twist))) ≡ balance-of minus width load
-unfolding balance-by balance-of resists overturns upright push times parts-of
+unfolding balance-by balance-of resists overturns v-moment h-moment times parts-of
 balance-minus width load =
     let t = worth (load .twist) in
     same-balance
@@ -248,8 +248,8 @@ product-room : (p q : Parts) (m n : ℕ) → p .above ≤ m → p .below ≤ m �
 unfolding times
 product-room p q m n a b c d = (omega (arith, mul-le-mul a c, mul-le-mul b d), omega (arith, mul-le-mul a d, mul-le-mul b c))
 
-class-room : (c : Class) → (is-wind c ≤ 1) × (is-quake c ≤ 1)
-unfolding is-wind is-quake
+class-room : (c : Class) → (is-wind c ≤ 1) × (is-earthquake c ≤ 1)
+unfolding is-wind is-earthquake
 class-room Permanent = (omega arith, omega arith)
 class-room Free = (omega arith, omega arith)
 class-room Wind = (omega arith, omega arith)
@@ -320,7 +320,7 @@ module _ (width : ℕ) (load : Load) (wide : width ≤ 30000) (b : BoundedLoad l
         resisting-minus = omega (arith, n .0);
         overturning-minus = omega (arith, n .1);
         winds = c .0;
-        quakes = c .1;
+        earthquakes = c .1;
         set = omega arith;
       }
 

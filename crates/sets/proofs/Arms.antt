@@ -24,10 +24,10 @@ module _ {A : Type 0} (place : A → ℕ) (at : ℕ → A) (at-place : (k : A) �
   here : (j k : A) → P j → place k ≡ place j → P k
   here j k p e = subst P (sym (at-place j) ∙ ap at (sym e) ∙ at-place k) p
 
-  pub arm : (js : List A) (k : A) → AllOf P js → OneOf (map place js) (place k) → P k
-  arm [] k all h = absurd h
-  arm (j ∷ []) k all h = here j k all h
-  arm (i ∷ j ∷ js) k all h = ⊎-elim (here i k (all .0)) (arm (j ∷ js) k (all .1)) h
+  pub variant-arm : (js : List A) (k : A) → AllOf P js → OneOf (map place js) (place k) → P k
+  variant-arm [] k all h = absurd h
+  variant-arm (j ∷ []) k all h = here j k all h
+  variant-arm (i ∷ j ∷ js) k all h = ⊎-elim (here i k (all .0)) (variant-arm (j ∷ js) k (all .1)) h
 
 combination-at : (k : Combination) → getD (I ∷ II ∷ III ∷ IV ∷ []) (tagOf combinations.the-type k) I ≡ k
 combination-at I = refl
@@ -36,7 +36,7 @@ combination-at III = refl
 combination-at IV = refl
 
 pub combination-arm : (P : Combination → Type 0) (js : List Combination) (k : Combination) → AllOf P js → OneOf (map (tagOf combinations.the-type) js) (tagOf combinations.the-type k) → P k
-combination-arm = arm (tagOf combinations.the-type) (λ n. getD (I ∷ II ∷ III ∷ IV ∷ []) n I) combination-at
+combination-arm = variant-arm (tagOf combinations.the-type) (λ n. getD (I ∷ II ∷ III ∷ IV ∷ []) n I) combination-at
 
 class-at : (k : Class) → getD (Permanent ∷ Free ∷ Wind ∷ Earthquake ∷ []) (tagOf classes.the-type k) Permanent ≡ k
 class-at Permanent = refl
@@ -45,4 +45,4 @@ class-at Wind = refl
 class-at Earthquake = refl
 
 pub class-arm : (P : Class → Type 0) (js : List Class) (k : Class) → AllOf P js → OneOf (map (tagOf classes.the-type) js) (tagOf classes.the-type k) → P k
-class-arm = arm (tagOf classes.the-type) (λ n. getD (Permanent ∷ Free ∷ Wind ∷ Earthquake ∷ []) n Permanent) class-at
+class-arm = variant-arm (tagOf classes.the-type) (λ n. getD (Permanent ∷ Free ∷ Wind ∷ Earthquake ∷ []) n Permanent) class-at

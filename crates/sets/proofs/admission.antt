@@ -1,2 +1,2 @@
 -- The laws of permitted sets. Other crates' proofs cite them.
-pub mod Permits
+pub mod Admitted

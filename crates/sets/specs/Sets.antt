@@ -66,7 +66,7 @@ pub record Permitted (combination : Combination) (loads : Loads) (set : ℕ) : T
   -- IV, only if some row has phase 1.
   pub erection : combination ≡ IV → Erected loads
 
--- How large a load may be: |V| in kN, |x| in mm, |H| in kN, |H y| in kN mm.
+-- How large a load may be for every sum to fit a word; what 01's rows exert is within it. |V| in kN, |x| in mm, |H| in kN, |H y| in kN mm.
 pub record BoundedLoad (load : Load) : Type 0 where
   pub v : load .v .size ≤ 50000
   pub x : load .x .size ≤ 32000

@@ -50,19 +50,19 @@ unfoldable pub arm : Edge → ℕ → ℤ → ℤ
 arm plus width x = pos width -ℤ pos 2 *ℤ x
 arm minus width x = pos width +ℤ pos 2 *ℤ x
 
-unfoldable pub upright : Edge → ℕ → Load → ℤ
-upright edge width load = worth (load .v) *ℤ arm edge width (worth (load .x))
+unfoldable pub v-moment : Edge → ℕ → Load → ℤ
+v-moment edge width load = worth (load .v) *ℤ arm edge width (worth (load .x))
 
-unfoldable pub push : Edge → Load → ℤ
-push plus load = negℤ (pos 2 *ℤ worth (load .twist))
-push minus load = pos 2 *ℤ worth (load .twist)
+unfoldable pub h-moment : Edge → Load → ℤ
+h-moment plus load = negℤ (pos 2 *ℤ worth (load .twist))
+h-moment minus load = pos 2 *ℤ worth (load .twist)
 
 -- Each of the two resists if positive and overturns if negative.
 unfoldable pub resists : Edge → ℕ → Load → ℕ
-resists edge width load = above (upright edge width load) + above (push edge load)
+resists edge width load = above (v-moment edge width load) + above (h-moment edge load)
 
 unfoldable pub overturns : Edge → ℕ → Load → ℕ
-overturns edge width load = below (upright edge width load) + below (push edge load)
+overturns edge width load = below (v-moment edge width load) + below (h-moment edge load)
 
 unfoldable pub resisting : Edge → ℕ → Loads → ℕ → ℕ
 resisting edge width loads set = sum (resists edge width) loads set (loads .count)

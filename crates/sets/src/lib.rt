@@ -60,7 +60,7 @@ pub struct Sums {
     pub plus: Balance,
     pub minus: Balance,
     pub winds: u64,
-    pub quakes: u64,
+    pub earthquakes: u64,
     pub set: u64,
 }
 
@@ -107,7 +107,7 @@ pub fn no_sums() -> Sums
         plus: even,
         minus: even,
         winds: 0,
-        quakes: 0,
+        earthquakes: 0,
         set: 0,
     }
 }
@@ -140,7 +140,7 @@ pub fn add_sums(a: Sums, b: Sums) -> Sums
             overturning: a.minus.overturning + b.minus.overturning,
         },
         winds: a.winds + b.winds,
-        quakes: a.quakes + b.quakes,
+        earthquakes: a.earthquakes + b.earthquakes,
         set: a.set + b.set,
     }
 }

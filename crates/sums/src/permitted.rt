@@ -24,6 +24,6 @@ pub fn permitted(combination: Combination, loads: Loads, set: u64) -> bool
     }
     let arises = sets::arising::arises(combination, loads);
     let sums = crate::set_sums::sums_of(0, loads, set);
-    let admitted = sets::admission::admits(combination, sums.winds, sums.quakes, set);
+    let admitted = sets::admission::admits(combination, sums.winds, sums.earthquakes, set);
     fits & (rest == 0) & arises & admitted
 }

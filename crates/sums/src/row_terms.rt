@@ -14,7 +14,7 @@ ghost use Rattle.sets.specs.steps.Sums.{arm-by, balance-by, terms-of};
 
 // What one row gives at an edge of a base of this width, where V stands so far toward the edge or so far away from it. The arm is taken
 // twice, as x is in M; of the twist one part holds back and one pushes over.
-fn balance_of(width: u64, v: Parts, toward: u64, away: u64, holds: u64, pushes: u64) -> Balance
+fn balance_by(width: u64, v: Parts, toward: u64, away: u64, holds: u64, pushes: u64) -> Balance
     requires { ⌜ Small v ⌝ }
     requires { ⌜ (width ≤ 30000) × (toward ≤ 32000) × (away ≤ 32000) ⌝ }
     requires { ⌜ (holds ≤ 3000000000) × (pushes ≤ 3000000000) ⌝ }
@@ -49,13 +49,13 @@ pub fn terms_of(width: u64, load: Load, place: u64) -> Sums
         above: 2 * (turned.above + twist.above),
         below: 2 * (turned.below + twist.below),
     };
-    let plus = balance_of(width, v, x.above, x.below, twist.below, twist.above);
-    let minus = balance_of(width, v, x.below, x.above, twist.above, twist.below);
+    let plus = balance_by(width, v, x.above, x.below, twist.below, twist.above);
+    let minus = balance_by(width, v, x.below, x.above, twist.above, twist.below);
     let winds = match class {
         Class::Wind => 1,
         Class::Permanent | Class::Free | Class::Earthquake => 0,
     };
-    let quakes = match class {
+    let earthquakes = match class {
         Class::Earthquake => 1,
         Class::Permanent | Class::Free | Class::Wind => 0,
     };
@@ -66,7 +66,7 @@ pub fn terms_of(width: u64, load: Load, place: u64) -> Sums
         plus,
         minus,
         winds,
-        quakes,
+        earthquakes,
         set: place,
     }
 }

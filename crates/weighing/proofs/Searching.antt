@@ -10,8 +10,8 @@ use Rattle.checks.specs.Order.{Side}
 use Rattle.checks.specs.steps.Ranks.{HasRank, rank, Ranks}
 use Rattle.checks.proofs.Ranking.{rank-worse, rank-low, rank-one}
 use Rattle.weighing.specs.declared.ranked.RankedSet.{RankedSet}
-use Rattle.weighing.specs.steps.Ranked.{place, weight, weight-of, Offered}
-use Rattle.weighing.proofs.ranked.Weights.{place-none, place-some, place-low, some-low}
+use Rattle.weighing.specs.steps.Ranked.{tie-order, weight, weight-of, Offered}
+use Rattle.weighing.proofs.ranked.Weights.{tie-order-none, tie-order-some, tie-order-low, some-low}
 use Rattle.weighing.specs.Named.{Named}
 
 -- ---- from the worst so far to the worst of it and of a family of sets
@@ -81,19 +81,19 @@ module _ (s : Side) (P : ℕ → Type 0) (Shown : ℕ → Figure → Type 0) whe
 
         start : r ≡ b → ⊥
         start d =
-            let p : place (r .set) ≡ 17 * 65536 = ap place e ∙ place-none in
+            let p : tie-order (r .set) ≡ 17 * 65536 = ap tie-order e ∙ tie-order-none in
             let q : r .rank ≡ 2 ^ 64 - 1 = ap (λ (m : RankedSet). m .rank) d ∙ last in
-            let n : w .rank < 2 ^ 64 = subst (λ (x : ℕ). x < 2 ^ 64) (w .ranks .ranked) (rank-low s (w .ranks .figure) (w .ranks .sound)) in
+            let n : w .rank < 2 ^ 64 = subst (λ (x : ℕ). x < 2 ^ 64) (w .ranks .ranked) (rank-low s (w .ranks .figure) (w .ranks .has-rank)) in
             omega (arith, w .weighs, some-low t (some t h) (rows t h))
 
     -- and else the one that the tie rule names.
-    module _ (v : Figure) (sound : HasRank s v) (ranked : rank s v ≡ r .rank) (found : r .set ≡ 0 → ⊥) where
+    module _ (v : Figure) (has-rank : HasRank s v) (ranked : rank s v ≡ r .rank) (found : r .set ≡ 0 → ⊥) where
       reached : Reached r
       reached = ⊎-elim (λ d. absurd (found (ap (λ (m : RankedSet). m .set) d ∙ none))) (λ k. k) (all .from)
 
       shown : Shown (r .set) v
       shown =
-          subst (Shown (r .set)) (rank-one s (reached .ranks .figure) v (reached .ranks .sound) sound (reached .ranks .ranked ∙ sym ranked)) (reached .ranks .holds)
+          subst (Shown (r .set)) (rank-one s (reached .ranks .figure) v (reached .ranks .has-rank) has-rank (reached .ranks .ranked ∙ sym ranked)) (reached .ranks .holds)
 
       before : (t : ℕ) → P t → NotAfter r t
       before t h = all .first t (whole t h) h
@@ -101,17 +101,17 @@ module _ (s : Side) (P : ℕ → Type 0) (Shown : ℕ → Figure → Type 0) whe
       at : (t : ℕ) (w : Figure) (h : P t) → Shown t w → rank s w ≡ before t h .rank
       at t w h k = ap (rank s) (one t w (before t h .ranks .figure) k (before t h .ranks .holds)) ∙ before t h .ranks .ranked
 
-      sound-at : (t : ℕ) (w : Figure) (h : P t) → Shown t w → HasRank s w
-      sound-at t w h k = subst (HasRank s) (sym (one t w (before t h .ranks .figure) k (before t h .ranks .holds))) (before t h .ranks .sound)
+      has-rank-at : (t : ℕ) (w : Figure) (h : P t) → Shown t w → HasRank s w
+      has-rank-at t w h k = subst (HasRank s) (sym (one t w (before t h .ranks .figure) k (before t h .ranks .holds))) (before t h .ranks .has-rank)
 
       low : r .set < 65536
       low = rows (r .set) (reached .permitted)
 
-      -- a set with the same figure has no earlier place
+      -- a set with the same figure does not come earlier
       no-earlier : (t : ℕ) → P t → Shown t v → ones (r .set) * 65536 + r .set ≤ ones t * 65536 + t
       unfolding weight-of weight
       no-earlier t h k =
-          omega (arith, before t h .weighs, at t v h k, place-some (r .set) (some (r .set) (reached .permitted)), place-some t (some t h))
+          omega (arith, before t h .weighs, at t v h k, tie-order-some (r .set) (some (r .set) (reached .permitted)), tie-order-some t (some t h))
 
       pub ends-named : Named s P Shown v (r .set)
       unfolding weight-of weight
@@ -119,7 +119,7 @@ module _ (s : Side) (P : ℕ → Type 0) (Shown : ℕ → Figure → Type 0) whe
           record {
             permitted = reached .permitted;
             reaches = shown;
-            no-worse = λ t w h k x. omega (arith, before t h .weighs, at t w h k, rank-worse s w v (sound-at t w h k) sound x, place-low (r .set) low, place-low t (rows t h));
+            no-worse = λ t w h k x. omega (arith, before t h .weighs, at t w h k, rank-worse s w v (has-rank-at t w h k) has-rank x, tie-order-low (r .set) low, tie-order-low t (rows t h));
             fewest = λ t h k. omega (arith, no-earlier t h k, low, rows t h);
             smallest = λ t h k e. omega (arith, no-earlier t h k);
           }

@@ -1,2 +1,2 @@
--- The laws of ranked sets. Other crates' proofs cite them.
+-- The laws of ranked sets.
 pub mod Weights

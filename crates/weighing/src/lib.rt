@@ -110,7 +110,7 @@ fn weigh(serves: bool, base: Base, sums: Sums, worst: Worst) -> Worst
     Worst { op, om, sl, pr, rk }
 }
 
-// The worst so far with one set more: the one place that decides whether its set is permitted.
+// The worst so far with one set more, where its wind and earthquake rows may act together.
 pub fn visit(combination: Combination, serves: bool, base: Base, sums: Sums, worst: Worst) -> Worst
     requires { ⌜ Sized base ⌝ }
     requires { ⌜ Room 16 sums ⌝ }
@@ -118,7 +118,7 @@ pub fn visit(combination: Combination, serves: bool, base: Base, sums: Sums, wor
     requires { ⌜ Low worst ⌝ }
     ensures { λ r. ⌜ Visits combination serves base sums worst r ⌝ }
 {
-    if !sets::admission::admits(combination, sums.winds, sums.quakes, sums.set) {
+    if !sets::admission::admits(combination, sums.winds, sums.earthquakes, sums.set) {
         return worst;
     }
     weigh(serves, base, sums, worst)

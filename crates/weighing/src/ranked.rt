@@ -4,7 +4,7 @@
 // order and that of the figures are one order of one number, the weight, so that the worse of two is one.
 ghost use Prim.Native.Nat.{_<_};
 ghost use Rattle.arithmetic.specs.decides.Decides.{Decides};
-ghost use Rattle.weighing.specs.steps.Ranked.{place, WorseOf};
+ghost use Rattle.weighing.specs.steps.Ranked.{tie-order, WorseOf};
 
 // The worst so far of a check: the rank of its figure, and its set; set 0 where there is none yet.
 pub struct RankedSet {
@@ -15,7 +15,7 @@ pub struct RankedSet {
 // Of two sets with the same figure, whether s comes before t: it has fewer rows, or as many and the smaller number.
 fn fewer(s: u64, t: u64) -> bool
     requires { ⌜ (0 < s) × (s < 65536) × (t < 65536) ⌝ }
-    ensures { λ r. ⌜ Decides r (place s < place t) ⌝ }
+    ensures { λ r. ⌜ Decides r (tie-order s < tie-order t) ⌝ }
 {
     let p = u64::count_ones(s);
     let q = u64::count_ones(t);

@@ -15,7 +15,7 @@ use Rattle.sets.specs.declared.Sums.{Sums}
 use Rattle.sets.specs.Sets.{row, Bounded, Permitted}
 use Rattle.sets.specs.steps.Deciding.{Arises, Admits, RowFits}
 use Rattle.sets.specs.steps.Sums.{sums-of}
-use Rattle.sets.proofs.admission.Permits.{Fit, permits, admitted}
+use Rattle.sets.proofs.admission.Admitted.{Fit, admitted-permitted, admitted}
 use Rattle.checks.specs.declared.Base.{Base}
 use Rattle.checks.specs.declared.Check.{Check}
 use Rattle.checks.specs.declared.Check.the-variants.{OP, OM, SL, PR, RK}
@@ -28,12 +28,12 @@ use Rattle.checks.proofs.Ranking.{ranks-map}
 use Rattle.checks.proofs.set_figures.Showing.{by-sums-shows, shows-one}
 use Rattle.weighing.specs.declared.Worst.{Worst}
 use Rattle.weighing.specs.declared.ranked.RankedSet.{RankedSet}
-use Rattle.worst.specs.declared.term_table.Table.{Table}
+use Rattle.worst.specs.declared.term_table.TermTable.{TermTable}
 use Rattle.weighing.specs.steps.Ranked.{Offered}
 use Rattle.worst.specs.steps.Stance.{choosable, pick, chosen, stance-at}
 use Rattle.weighing.specs.steps.Weighs.{ranked-of, Weighed, Weighs, Visits}
-use Rattle.worst.specs.steps.Table.{terms-at}
-use Rattle.worst.specs.steps.Filling.{TableIs}
+use Rattle.worst.specs.steps.Terms.{terms-at}
+use Rattle.worst.specs.steps.TermTable.{TableIs}
 use Rattle.worst.specs.steps.Search.{Walked}
 use Rattle.weighing.proofs.Searching.{Extends, nothing-yet, offer, skip, ends-named, ends-empty}
 use Rattle.worst.proofs.choices.Choices.{pick-low, pick-bit, KeepsStances, Made, made, sums-number, Tabled, pick-sums}
@@ -48,8 +48,8 @@ unfoldable pub GoneThrough : Combination → Loads → ℕ → ℕ → Type 0
 GoneThrough combination loads n t = (k : ℕ) × (k < n) × (t ≡ set-of combination loads k)
 
 -- the worst so far, check by check, after the first n choices
-unfoldable pub So-far : Combination → Base → Loads → Bool → ℕ → RankedSet → Worst → Type 0
-So-far combination base loads serves n none worst =
+unfoldable pub SoFar : Combination → Base → Loads → Bool → ℕ → RankedSet → Worst → Type 0
+SoFar combination base loads serves n none worst =
     (check : Check) → Weighed serves base check → Extends (side check) (Permitted combination loads) (Shows check base loads) (GoneThrough combination loads n) none (ranked-of check worst)
 
 module _ (combination : Combination) (base : Base) (loads : Loads) (bounded : Bounded loads) (arises : Arises combination loads) where
@@ -66,7 +66,7 @@ module _ (combination : Combination) (base : Base) (loads : Loads) (bounded : Bo
   )
 
   -- the sums of a choice are those of its set
-  pub choice-sums : (table : Table) (k : ℕ) → TableIs combination (base .width) loads (loads .count) table
+  pub choice-sums : (table : TermTable) (k : ℕ) → TableIs combination (base .width) loads (loads .count) table
       → chosen (table .fixed) (terms-at (table .terms)) k (table .choosable) ≡ sums-of (base .width) loads (set-of combination loads k)
   unfolding set-of sums-of Tabled
   choice-sums table k f =
@@ -83,22 +83,22 @@ module _ (combination : Combination) (base : Base) (loads : Loads) (bounded : Bo
       by-cases (decLt (w .0) n) (λ h. inl (w .0, h, w .2)) (λ h. let e : w .0 ≡ n = omega (arith, w .1) in inr (w .2 ∙ ap (set-of combination loads) e))
 
   pub one-choice : (serves : Bool) (n : ℕ) (none : RankedSet) {sums : Sums} {b r : Worst} → sums ≡ sums-of (base .width) loads (set-of combination loads n) → Visits combination serves base sums b r
-      → So-far combination base loads serves n none b → So-far combination base loads serves (n + 1) none r
-  unfolding So-far
+      → SoFar combination base loads serves n none b → SoFar combination base loads serves (n + 1) none r
+  unfolding SoFar
   one-choice serves n none {sums} {b} {r} e v so check on = ⊎-elim inside outside (v .came)
     where
       number : sums .set ≡ set-of combination loads n
       number = ap (λ (s : Sums). s .set) e ∙ set-number n
 
-      admits : Admits combination (sums .winds) (sums .quakes) (sums .set) ≡ Admits combination ((sums-of (base .width) loads (set-of combination loads n)) .winds) ((sums-of (base .width) loads (set-of combination loads n)) .quakes) (set-of combination loads n)
-      admits = (λ i. Admits combination ((e i) .winds) ((e i) .quakes) (number i))
+      admits : Admits combination (sums .winds) (sums .earthquakes) (sums .set) ≡ Admits combination ((sums-of (base .width) loads (set-of combination loads n)) .winds) ((sums-of (base .width) loads (set-of combination loads n)) .earthquakes) (set-of combination loads n)
+      admits = (λ i. Admits combination ((e i) .winds) ((e i) .earthquakes) (number i))
 
-      inside : Admits combination (sums .winds) (sums .quakes) (sums .set)
+      inside : Admits combination (sums .winds) (sums .earthquakes) (sums .set)
           × Weighs serves base sums b r
           → Extends (side check) (Permitted combination loads) (Shows check base loads) (GoneThrough combination loads (n + 1)) none (ranked-of check r)
       inside w =
           offer (side check) (Permitted combination loads) (Shows check base loads) (set-of combination loads n) (so check on) (gone-through-more n)
-          (permits (base .width) loads (set-of combination loads n) combination (fits n) arises (subst (λ (A : Type 0). A) admits (w .0)))
+          (admitted-permitted (base .width) loads (set-of combination loads n) combination (fits n) arises (subst (λ (A : Type 0). A) admits (w .0)))
           (shown (w .1 .offered check on))
         where
           shown : Offered (side check) (ShowsBySums check base sums) (ranked-of check b) (sums .set) (ranked-of check r) → Offered (side check) (Shows check base loads (set-of combination loads n)) (ranked-of check b) (set-of combination loads n) (ranked-of check r)
@@ -110,7 +110,7 @@ module _ (combination : Combination) (base : Base) (loads : Loads) (bounded : Bo
                 worse = o .worse;
               })
 
-      outside : (Admits combination (sums .winds) (sums .quakes) (sums .set) → ⊥) × (r ≡ b)
+      outside : (Admits combination (sums .winds) (sums .earthquakes) (sums .set) → ⊥) × (r ≡ b)
           → Extends (side check) (Permitted combination loads) (Shows check base loads) (GoneThrough combination loads (n + 1)) none (ranked-of check r)
       outside w =
           subst⁻¹ (λ (x : Worst). Extends (side check) (Permitted combination loads) (Shows check base loads) (GoneThrough combination loads (n + 1)) none (ranked-of check x)) (w .1)
@@ -125,11 +125,11 @@ module _ (combination : Combination) (base : Base) (loads : Loads) (bounded : Bo
       (m .0, m .1, sym (m .2))
 
   pub all-found : (serves : Bool) (n : ℕ) (none : RankedSet) (worst : Worst) → n ≡ 2 ^ choosable (stance-at combination loads) (loads .count) → none .set ≡ 0 → none .rank ≡ 2 ^ 64 - 1
-      → Decides serves (Service combination) → So-far combination base loads serves n none worst → Walked combination base loads worst
-  unfolding Walked So-far Weighed HasCheck
+      → Decides serves (Service combination) → SoFar combination base loads serves n none worst → Walked combination base loads worst
+  unfolding Walked SoFar Weighed HasCheck
   all-found serves n none worst e z l d so check has =
       record {
-        named = λ found v sound ranked. ends-named _ _ _ over every some rows one z l v sound ranked found;
+        named = λ found v has-rank ranked. ends-named _ _ _ over every some rows one z l v has-rank ranked found;
         none = λ empty. ends-empty _ _ _ over every some rows one z l empty;
       }
     where
@@ -156,8 +156,8 @@ module _ (combination : Combination) (base : Base) (loads : Loads) (bounded : Bo
       one : (t : ℕ) (v w : Figure) → Shows check base loads t v → Shows check base loads t w → v ≡ w
       one t v w p q = shows-one check base loads t v w p q
 
-  pub nothing-passed : (serves : Bool) (none : RankedSet) (worst : Worst) → ((check : Check) → ranked-of check worst ≡ none) → So-far combination base loads serves 0 none worst
-  unfolding So-far GoneThrough
+  pub nothing-passed : (serves : Bool) (none : RankedSet) (worst : Worst) → ((check : Check) → ranked-of check worst ≡ none) → SoFar combination base loads serves 0 none worst
+  unfolding SoFar GoneThrough
   nothing-passed serves none worst e check on =
       subst⁻¹ (Extends (side check) (Permitted combination loads) (Shows check base loads) (GoneThrough combination loads 0) none) (e check)
       (nothing-yet (side check) (Permitted combination loads) (Shows check base loads) (λ t w. omega (arith, w .1)))

@@ -1,3 +1,3 @@
--- The laws of choices. Other crates' proofs cite them.
+-- The laws of choices.
 pub mod Choices
 pub mod Rows

@@ -1,4 +1,4 @@
--- The laws of a table's rows. Other crates' proofs cite them.
+-- The laws of a table's rows.
 pub mod Rows
 pub mod Tables
 pub mod Filling

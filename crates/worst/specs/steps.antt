@@ -1,4 +1,4 @@
 pub mod Stance
-pub mod Table
-pub mod Filling
+pub mod Terms
+pub mod TermTable
 pub mod Search

@@ -1,7 +1,7 @@
 // The choices among the rows of a combination, and the sets that they make (document 01, Load sets).
 //
-// What is hard is that every permitted set is a choice, and that the sums of a choice are those of its set. A search in any order of
-// the choices rests on these two laws.
+// What is hard is that every permitted set is a choice, and that the sums of a choice are those of its set. Not every choice
+// is a permitted set: which wind and earthquake rows act together is asked of each. A search in any order rests on these laws.
 use sets::Class;
 use sets::Combination;
 use sets::Load;
@@ -12,7 +12,7 @@ ghost use Rattle.worst.specs.steps.Stance.{stance-of};
 pub enum Stance {
     Never,
     Always,
-    Either,
+    Choosable,
 }
 
 // What a row is to the sets of a combination.
@@ -25,14 +25,14 @@ pub(crate) fn stance_of(combination: Combination, load: Load) -> Stance
     }
     match class {
         Class::Permanent => Stance::Always,
-        Class::Free => Stance::Either,
+        Class::Free => Stance::Choosable,
         Class::Wind => match combination {
             Combination::I | Combination::III => Stance::Never,
-            Combination::II | Combination::IV => Stance::Either,
+            Combination::II | Combination::IV => Stance::Choosable,
         },
         Class::Earthquake => match combination {
             Combination::I | Combination::II => Stance::Never,
-            Combination::III | Combination::IV => Stance::Either,
+            Combination::III | Combination::IV => Stance::Choosable,
         },
     }
 }

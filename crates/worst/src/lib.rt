@@ -1,8 +1,7 @@
 // The worst permitted set of a combination for each check, and the line that names it (document 01, Load sets).
 //
-// One walk goes through the choices of the combination's choosable rows and weighs all its checks at once. What is hard is that every
-// permitted set is a choice and no other, and that the promise of the walk names no order: it is only that no permitted set comes
-// before the one that is named.
+// One walk goes through the choices of the combination's choosable rows and weighs all its checks at once. What is hard is that the
+// promise of the walk names no order: it is only that no permitted set comes before the one that is named.
 mod choices;
 mod term_table;
 
@@ -33,7 +32,7 @@ fn walk(combination: Combination, base: Base, loads: Loads) -> Worst
     ensures { λ r. ⌜ Walked combination base loads r ⌝ }
 {
     let serves = checks::service::serves(combination);
-    let table = term_table::fill(combination, base.width, loads);
+    let table = term_table::table_of(combination, base.width, loads);
     let terms = table.terms;
     let choosable = table.choosable;
     let fixed = table.fixed;

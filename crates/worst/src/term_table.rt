@@ -10,15 +10,15 @@ use sets::Combination;
 use sets::Loads;
 use sets::Sums;
 ghost use Prim.Native.Nat.{_<_, ℕ, _+_, _≤_};
-ghost use Rattle.worst.specs.steps.Table.{Puts, terms-at, terms-from};
+ghost use Rattle.worst.specs.steps.Terms.{Puts, terms-at, terms-from};
 ghost use mathlib.Core.Path.{_≡_};
 ghost use Rattle.sets.specs.steps.Sums.{Room};
 ghost use Rattle.worst.specs.steps.Stance.{chosen};
 ghost use Rattle.sets.specs.Sets.{Bounded};
-ghost use Rattle.worst.specs.steps.Filling.{TableIs};
+ghost use Rattle.worst.specs.steps.TermTable.{TableIs};
 
 // The rows of a combination: the terms of its choosable rows, 13 numbers each, how many they are, and the sums of the rows in every set.
-pub struct Table {
+pub struct TermTable {
     pub terms: [u64; 208],
     pub choosable: usize,
     pub fixed: Sums,
@@ -41,7 +41,7 @@ fn put_terms(table: [u64; 208], j: usize, sums: Sums) -> [u64; 208]
         sums.minus.resisting,
         sums.minus.overturning,
         sums.winds,
-        sums.quakes,
+        sums.earthquakes,
         sums.set,
     ];
     let mut next = table;
@@ -86,7 +86,7 @@ fn terms_at(table: &[u64; 208], j: usize) -> Sums
         plus,
         minus,
         winds: table[i + 10],
-        quakes: table[i + 11],
+        earthquakes: table[i + 11],
         set: table[i + 12],
     }
 }
@@ -120,7 +120,7 @@ pub(crate) fn sums_at(
 }
 
 // The table of a combination.
-pub(crate) fn fill(combination: Combination, width: u64, loads: Loads) -> Table
+pub(crate) fn table_of(combination: Combination, width: u64, loads: Loads) -> TermTable
     requires { ⌜ width ≤ 30000 ⌝ }
     requires { ⌜ Bounded loads ⌝ }
     ensures { λ r. ⌜ TableIs combination width loads (loads .count) r ⌝ }
@@ -140,7 +140,7 @@ pub(crate) fn fill(combination: Combination, width: u64, loads: Loads) -> Table
             Stance::Always => {
                 fixed = sets::add_sums(fixed, sums);
             }
-            Stance::Either => {
+            Stance::Choosable => {
                 let next = put_terms(terms, choosable, sums);
                 terms = next;
                 choosable = choosable + 1;
@@ -149,7 +149,7 @@ pub(crate) fn fill(combination: Combination, width: u64, loads: Loads) -> Table
         place = 2 * place;
         i = i + 1;
     }
-    Table {
+    TermTable {
         terms,
         choosable,
         fixed,

@@ -1,4 +1,4 @@
--- A refused answer is its number and nothing else: all four combinations hold what `missing` gives, and that is no line.
+-- A refused answer is its number and nothing else: all four combinations hold what `no_lines` gives, and that is no line.
 use mathlib.Core.Path.{ap}
 use Rattle.lines.specs.declared.Lines.{Lines}
 use Rattle.lines.specs.declared.Verdict.the-variants.{Refused}

@@ -6,7 +6,7 @@ use Rattle.arithmetic.specs.decides.Decides.{Decides, decides-one}
 use Rattle.jobs.specs.declared.Job.{Job}
 use Rattle.clearance.specs.declared.ClearanceAnswer.the-variants as clearance
 use Rattle.scour.proofs.Scours.{scour-rule-one}
-use Rattle.clearance.proofs.Told.{clearance-told-one}
+use Rattle.clearance.proofs.ClearanceTold.{clearance-told-one}
 use Rattle.clearance.proofs.Clearances.{cleared-one}
 use Rattle.lines.specs.declared.RiverLine.{RiverLine}
 use Rattle.lines.specs.declared.RiverLine.the-variants as line

@@ -11,13 +11,13 @@ use Rattle.kinds.specs.declared.Kind.the-variants.{S, C}
 use Rattle.jobs.specs.declared.Job.{Job}
 use Rattle.jobs.specs.stages.Rows.{HasScour, HasClearance}
 use Rattle.scour.specs.Scour as scour
-use Rattle.scour.specs.River as river
+use Rattle.scour.specs.ScourRow as scour-row
 use Rattle.arithmetic.specs.signed.Whole.{signed}
-use Rattle.clearance.specs.Told as told
+use Rattle.clearance.specs.ClearanceTold as told
 use Rattle.clearance.specs.Clear as clearing
 use Rattle.clearance.specs.declared.ClearanceAnswer.{ClearanceAnswer}
 use Rattle.clearance.specs.declared.ClearanceAnswer.the-variants as clearance
-use Rattle.scour.proofs.River.{scour-says-one}
+use Rattle.scour.proofs.ScourRow.{scour-says-one}
 use Rattle.clearance.proofs.Clearances as clearances
 use Rattle.lines.specs.declared.RiverLine.{RiverLine}
 use Rattle.lines.specs.declared.RiverLine.the-variants as lines
@@ -29,22 +29,22 @@ use Rattle.answer.specs.declared.river.RowGives.the-variants.{Refused, L
 
 -- ---- what each row gives its job
 
-abbrev Depth-ranged : Job → Type 0
-Depth-ranged job = HasScour (job .stage) → Ranged S (job .scour)
+abbrev DepthRanged : Job → Type 0
+DepthRanged job = HasScour (job .stage) → Ranged S (job .scour)
 
-abbrev Clear-ranged : Job → Type 0
-Clear-ranged job = HasClearance (job .stage) → Ranged C (job .clearance)
+abbrev ClearRanged : Job → Type 0
+ClearRanged job = HasClearance (job .stage) → Ranged C (job .clearance)
 
 pub data DepthGives (job : Job) : RowGives → Type 0 where
-  out-of-range : (Depth-ranged job → ⊥) → DepthGives job (Refused 11)
-  large : Depth-ranged job → LargeCatchment job → DepthGives job (Refused 12)
-  intense : Depth-ranged job → (LargeCatchment job → ⊥) → TooIntense job → DepthGives job (Refused 13)
-  line : {l : RiverLine} → Depth-ranged job → ScourAllowed job → DepthIs job l → DepthGives job (Line l)
+  out-of-range : (DepthRanged job → ⊥) → DepthGives job (Refused 11)
+  large : DepthRanged job → LargeCatchment job → DepthGives job (Refused 12)
+  intense : DepthRanged job → (LargeCatchment job → ⊥) → TooIntense job → DepthGives job (Refused 13)
+  line : {l : RiverLine} → DepthRanged job → ScourAllowed job → DepthIs job l → DepthGives job (Line l)
 
 pub data ClearGives (job : Job) : RowGives → Type 0 where
-  unranged : (Clear-ranged job → ⊥) → ClearGives job (Refused 11)
-  obstructed : Clear-ranged job → OverObstructed job → ClearGives job (Refused 14)
-  clear : {l : RiverLine} → Clear-ranged job → (OverObstructed job → ⊥) → ClearIs job l → ClearGives job (Line l)
+  unranged : (ClearRanged job → ⊥) → ClearGives job (Refused 11)
+  obstructed : ClearRanged job → OverObstructed job → ClearGives job (Refused 14)
+  clear : {l : RiverLine} → ClearRanged job → (OverObstructed job → ⊥) → ClearIs job l → ClearGives job (Line l)
 
 module _ (job : Job) where
   -- a row that is not there
@@ -71,24 +71,24 @@ module _ (job : Job) where
     depth-number : {m n : ℕ} → scour.refused m ≡ scour.refused n → DepthGives job (Refused m) → DepthGives job (Refused n)
     depth-number {m} {n} e = subst (λ (k : ℕ). DepthGives job (Refused k)) (cc)
 
-    pub depth-gives : {t : scour.ScourTold} → river.ScourSays (job .scour) t → (r : RowGives) → DepthGiven rock (job .scour .n6 .size) t r → DepthGives job r
-    depth-gives (river.out-of-range h) (Refused n) e = depth-number e (out-of-range (λ r. h (r has)))
-    depth-gives (river.out-of-range h) (Line l) w = let e = w .1 in impossible cc
-    depth-gives (river.in-range k (scour.large-catchment h)) (Refused n) e = depth-number e (large (λ _. k) (record { has = has; above = h }))
-    depth-gives (river.in-range k (scour.large-catchment h)) (Line l) w = let e = w .1 in impossible cc
-    depth-gives (river.in-range k (scour.too-intense {q} c h)) (Refused n) e =
+    pub depth-gives : {t : scour.ScourTold} → scour-row.ScourSays (job .scour) t → (r : RowGives) → DepthGiven rock (job .scour .n6 .size) t r → DepthGives job r
+    depth-gives (scour-row.out-of-range h) (Refused n) e = depth-number e (out-of-range (λ r. h (r has)))
+    depth-gives (scour-row.out-of-range h) (Line l) w = let e = w .1 in impossible cc
+    depth-gives (scour-row.in-range k (scour.large-catchment h)) (Refused n) e = depth-number e (large (λ _. k) (record { has = has; above = h }))
+    depth-gives (scour-row.in-range k (scour.large-catchment h)) (Line l) w = let e = w .1 in impossible cc
+    depth-gives (scour-row.in-range k (scour.too-intense {q} c h)) (Refused n) e =
         depth-number e (intense (λ _. k)
-        (λ l. let d = scour-says-one (river.in-range k (scour.large-catchment (l .above))) (river.in-range k (scour.too-intense c h)) in let z : _≡_ {A = ℕ} 12 13 = cc in omega arith)
+        (λ l. let d = scour-says-one (scour-row.in-range k (scour.large-catchment (l .above))) (scour-row.in-range k (scour.too-intense c h)) in let z : _≡_ {A = ℕ} 12 13 = cc in omega arith)
         (record { has = has; q = q; constricted = c; above = h }))
-    depth-gives (river.in-range k (scour.too-intense c h)) (Line l) w = let e = w .1 in impossible cc
-    depth-gives (river.in-range k (scour.needed d n)) (Refused m) e = impossible cc
-    depth-gives (river.in-range k (scour.needed {depth = depth} d n)) (Line l) w =
-        let says = river.in-range k (scour.needed d n) in
+    depth-gives (scour-row.in-range k (scour.too-intense c h)) (Line l) w = let e = w .1 in impossible cc
+    depth-gives (scour-row.in-range k (scour.needed d n)) (Refused m) e = impossible cc
+    depth-gives (scour-row.in-range k (scour.needed {depth = depth} d n)) (Line l) w =
+        let says = scour-row.in-range k (scour.needed d n) in
         let e : depth ≡ w .0 = let f = w .1 in cc in
         line {l = l} (λ _. k)
         (record {
-          catchment = λ x. let f = scour-says-one (river.in-range k (scour.large-catchment (x .above))) says in impossible cc;
-          intensity = λ x. let f = scour-says-one (river.in-range k (scour.too-intense (x .constricted) (x .above))) says in impossible cc;
+          catchment = λ x. let f = scour-says-one (scour-row.in-range k (scour.large-catchment (x .above))) says in impossible cc;
+          intensity = λ x. let f = scour-says-one (scour-row.in-range k (scour.too-intense (x .constricted) (x .above))) says in impossible cc;
         })
         (depth-line depth l (scour.needed d n) (subst (λ (x : ℕ). DepthLineIs rock x (job .scour .n6 .size) l) (sym e) (w .2)))
 

@@ -10,7 +10,7 @@ use Rattle.jobs.specs.stages.Rows.{HasScour, HasClearance}
 use Rattle.scour.specs.Scour as scour
 use Rattle.clearance.specs.Clear as clearance
 use Rattle.arithmetic.specs.signed.Whole.{signed}
-use Rattle.clearance.specs.Told.{given}
+use Rattle.clearance.specs.ClearanceTold.{given}
 use Rattle.lines.specs.declared.RiverLine.{RiverLine}
 use Rattle.lines.specs.declared.RiverLine.the-variants as line
 use Rattle.answer.specs.declared.river.RiverRead.{RiverRead}

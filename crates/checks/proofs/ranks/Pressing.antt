@@ -29,7 +29,7 @@ presses-one b l n m Off Off p q = refl
 -- ---- the rank, by the tests
 pub press-off : (b l n m : ℕ) → n * b ≤ m → Ranks highest (Presses b l n m) 0
 unfolding Presses HasRank rank
-press-off b l n m h = record { figure = Off; holds = inr h; sound = tt; ranked = refl }
+press-off b l n m h = record { figure = Off; holds = inr h; has-rank = tt; ranked = refl }
 
 -- N is above 0 where N times B is more than something
 some-n : (n b : ℕ) {m : ℕ} → m < n * b → 0 < n
@@ -40,10 +40,10 @@ pub press-full : (b l n m : ℕ) {c : ℕ} → b ≤ 30000 → n ≤ 2 ^ 20 → 
     → Ranks highest (Presses b l n m) (2 ^ 64 - 1 - c)
 unfolding Presses HasRank rank
 press-full b l n m {c} w k z h t r =
-    record { figure = Number c; holds = (some-n n b h, h, λ _. r, λ x. absurd (omega arith)); sound = omega (arith, up-le z r, mul-le-mul k w); ranked = refl }
+    record { figure = Number c; holds = (some-n n b h, h, λ _. r, λ x. absurd (omega arith)); has-rank = omega (arith, up-le z r, mul-le-mul k w); ranked = refl }
 
 pub press-part : (b l n m : ℕ) {c : ℕ} → n ≤ 2 ^ 20 → 0 < 3 * l * (n * b - m) → m < n * b → n * b < 3 * m → RoundedUp (4000000 * (n * n)) (3 * l * (n * b - m)) c
     → Ranks highest (Presses b l n m) (2 ^ 64 - 1 - c)
 unfolding Presses HasRank rank
 press-part b l n m {c} k z h t r =
-    record { figure = Number c; holds = (some-n n b h, h, λ x. absurd (omega arith), λ _. r); sound = omega (arith, up-le z r, mul-le-mul k k); ranked = refl }
+    record { figure = Number c; holds = (some-n n b h, h, λ x. absurd (omega arith), λ _. r); has-rank = omega (arith, up-le z r, mul-le-mul k k); ranked = refl }

@@ -51,33 +51,33 @@ leans-one b n m Off Off p q = refl
 -- ---- the ranks, by the tests
 pub tip-none : (r o : ℕ) → o ≡ 0 → Ranks lowest (Tips r o) (2 ^ 64 - 1)
 unfolding Tips HasRank rank
-tip-none r o e = record { figure = Nothing; holds = e; sound = tt; ranked = refl }
+tip-none r o e = record { figure = Nothing; holds = e; has-rank = tt; ranked = refl }
 
 pub tip-some : (r o : ℕ) {c : ℕ} → r ≤ 2 ^ 40 → (o ≡ 0 → ⊥) → RoundedDown (100 * r) o c → Ranks lowest (Tips r o) c
 unfolding Tips HasRank rank
-tip-some r o {c} h n d = let k : 0 < o = omega arith in record { figure = Number c; holds = (k, d); sound = omega (arith, down-le k d); ranked = refl }
+tip-some r o {c} h n d = let k : 0 < o = omega arith in record { figure = Number c; holds = (k, d); has-rank = omega (arith, down-le k d); ranked = refl }
 
 pub slide-zero : (f n h : ℕ) → n ≡ 0 → Ranks lowest (Slides f n h) 0
 unfolding Slides HasRank rank
-slide-zero f n h e = record { figure = Number 0; holds = inl (e, refl); sound = lit< tt; ranked = refl }
+slide-zero f n h e = record { figure = Number 0; holds = inl (e, refl); has-rank = lit< tt; ranked = refl }
 
 pub slide-none : (f n h : ℕ) → (n ≡ 0 → ⊥) → h ≡ 0 → Ranks lowest (Slides f n h) (2 ^ 64 - 1)
 unfolding Slides HasRank rank
-slide-none f n h k e = record { figure = Nothing; holds = (omega arith, e); sound = tt; ranked = refl }
+slide-none f n h k e = record { figure = Nothing; holds = (omega arith, e); has-rank = tt; ranked = refl }
 
 pub slide-some : (f n h : ℕ) {c : ℕ} → f ≤ 1000 → n ≤ 2 ^ 20 → (n ≡ 0 → ⊥) → (h ≡ 0 → ⊥) → RoundedDown (f * n) (10 * h) c → Ranks lowest (Slides f n h) c
 unfolding Slides HasRank rank
 slide-some f n h {c} p q k l d =
     let z : 0 < 10 * h = omega arith in
-    record { figure = Number c; holds = inr (omega arith, omega arith, d); sound = omega (arith, down-le z d, mul-le-mul p q); ranked = refl }
+    record { figure = Number c; holds = inr (omega arith, omega arith, d); has-rank = omega (arith, down-le z d, mul-le-mul p q); ranked = refl }
 
 pub lean-off : (b n m : ℕ) → n ≡ 0 → Ranks highest (Leans b n m) 0
 unfolding Leans HasRank rank
-lean-off b n m e = record { figure = Off; holds = e; sound = tt; ranked = refl }
+lean-off b n m e = record { figure = Off; holds = e; has-rank = tt; ranked = refl }
 
 pub lean-some : (b n m : ℕ) {c : ℕ} → m ≤ 2 ^ 40 → 0 < 2 * (n * b) → (n ≡ 0 → ⊥) → RoundedUp (1000 * m) (2 * (n * b)) c → Ranks highest (Leans b n m) (2 ^ 64 - 1 - c)
 unfolding Leans HasRank rank
-lean-some b n m {c} k z e r = record { figure = Number c; holds = (omega arith, r); sound = omega (arith, up-le z r); ranked = refl }
+lean-some b n m {c} k z e r = record { figure = Number c; holds = (omega arith, r); has-rank = omega (arith, up-le z r); ranked = refl }
 
 -- ---- a figure that is plainly no worse than one so far, with no division
 lt-of-suc : {m n : ℕ} → m + 1 ≤ n → m < n

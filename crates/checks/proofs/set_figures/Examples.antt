@@ -11,7 +11,7 @@ use Rattle.arithmetic.specs.signed.Whole.{signed, worth, above, below}
 use Rattle.sets.specs.declared.Class.the-variants.{Permanent, Free}
 use Rattle.sets.specs.declared.Loads.{Loads}
 use Rattle.sets.specs.Sets.{bit, row}
-use Rattle.sets.specs.Totals.{counted, sum, minus, arm, upright, push, resists, overturns, resisting, overturning}
+use Rattle.sets.specs.Totals.{counted, sum, minus, arm, v-moment, h-moment, resists, overturns, resisting, overturning}
 use Rattle.checks.specs.declared.Base.{Base}
 use Rattle.checks.specs.declared.Check.the-variants.{OP, OM}
 use Rattle.checks.specs.declared.Figure.the-variants.{Nothing, Number}
@@ -40,5 +40,5 @@ tips r o v p q = (lit< p, down-test (100 * r) o v q)
 
 -- set 3 is both rows, and set 1 the first
 pub tipping : Shows OP base two 3 (Number 666) × Shows OM base two 1 Nothing
-unfolding base two plain Shows Tips resisting overturning resists overturns sum counted upright arm push bit row worth signed above below
+unfolding base two plain Shows Tips resisting overturning resists overturns sum counted v-moment arm h-moment bit row worth signed above below
 tipping = (tips 24000000 3600000 666 tt tt, refl)

@@ -29,9 +29,9 @@ module _ (base : Base) (loads : Loads) (set : ℕ) where
   unfolding sums
   weight = sym (ap above (n-is (base .width) loads set) ∙ above-diff _ _)
 
-  push : apart (sums .h) ≡ natAbs (H loads set)
+  sliding-force : apart (sums .h) ≡ natAbs (H loads set)
   unfolding sums apart
-  push = sym (ap natAbs (h-is (base .width) loads set) ∙ size-diff _ _)
+  sliding-force = sym (ap natAbs (h-is (base .width) loads set) ∙ size-diff _ _)
 
   turn : apart (sums .m) ≡ natAbs (M loads set)
   unfolding sums apart
@@ -41,7 +41,7 @@ module _ (base : Base) (loads : Loads) (set : ℕ) where
   unfolding sums ShowsBySums Shows
   same-figure OP v = ap (λ (b : Balance). Tips (b .resisting) (b .overturning) v) (plus-is (base .width) loads set)
   same-figure OM v = ap (λ (b : Balance). Tips (b .resisting) (b .overturning) v) (minus-is (base .width) loads set)
-  same-figure SL v = λ i. Slides (base .friction) (weight i) (push i) v
+  same-figure SL v = λ i. Slides (base .friction) (weight i) (sliding-force i) v
   same-figure PR v = λ i. Presses (base .width) (base .length) (weight i) (turn i) v
   same-figure RK v = λ i. Leans (base .width) (weight i) (turn i) v
 

@@ -7,13 +7,14 @@ use Rattle.checks.specs.declared.Base.{Base}
 use Rattle.checks.specs.declared.Check.{Check}
 use Rattle.checks.specs.declared.Check.the-variants.{OP, OM, SL, PR, RK}
 
--- the combination has the check
+-- I, II and III are of service, IV of erection
 unfoldable pub Service : Combination → Type 0
 Service I = Unit {0}
 Service II = Unit {0}
 Service III = Unit {0}
 Service IV = ⊥
 
+-- the combination has the check
 unfoldable pub HasCheck : Combination → Check → Base → Type 0
 HasCheck combination OP base = Service combination
 HasCheck combination OM base = Service combination

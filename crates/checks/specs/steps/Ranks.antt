@@ -26,5 +26,5 @@ rank highest Off = 0
 pub record Ranks (s : Side) (P : Figure → Type 0) (r : ℕ) : Type 0 where
   pub figure : Figure
   pub holds : P figure
-  pub sound : HasRank s figure
+  pub has-rank : HasRank s figure
   pub ranked : rank s figure ≡ r

@@ -7,7 +7,7 @@ use Rattle.kinds.specs.ranges.Range.{Ranged}
 use Rattle.kinds.specs.declared.Kind.the-variants.{C}
 use Rattle.clearance.proofs.afflux.Bounds.{afflux-most}
 use Rattle.clearance.specs.Clear.{out-of-range, in-range, over-obstructed, clear}
-use Rattle.clearance.proofs.Told.{told-exactly}
+use Rattle.clearance.proofs.ClearanceTold.{told-exactly}
 use Rattle.clearance.proofs.clearance.Statement.{statement}
 use Rattle.clearance.proofs.clearance.Tie as tie
 

@@ -7,7 +7,7 @@ use borrow.Author.Needs.{needs}
 use lib.IntN.{ℤ}
 use Rattle.fields.specs.declared.Entry.{Entry}
 use Rattle.arithmetic.specs.declared.signed.Amount.{Amount}
-use Rattle.clearance.specs.Told.{given, ClearanceAnswered}
+use Rattle.clearance.specs.ClearanceTold.{given, ClearanceAnswered}
 use Rattle.clearance.specs.declared.ClearanceAnswer.the-variants.{Given}
 use Rattle.clearance.proofs.Levels.{part-fits, side-fits, between-levels, amount-told}
 use Rattle.clearance.proofs.clearance_under.Statement.{statement}

@@ -11,7 +11,7 @@ use Rattle.csv.proofs.rfc4180.Unique.{EscapedHalts, closing-halts, esca
 use Rattle.csv.proofs.rfc4180.Parts.{part-rest}
 use Rattle.csv.specs.quoted.Closing.{EscapedTo, ClosedAt}
 use Rattle.csv.specs.declared.quoted.ClosingQuote.{ClosingQuote}
-use Rattle.csv.specs.declared.quoted.ClosingQuote.the-variants.{At, Nothing}
+use Rattle.csv.specs.declared.quoted.ClosingQuote.the-variants.{At, Unclosed}
 
 module _ (s : List ℕ) (at : ℕ) where
   pub part-length : (e : ℕ) → e ≤ length s → length (part at e s) ≡ e - at
@@ -34,11 +34,11 @@ module _ (s : List ℕ) (at : ℕ) where
       let n : e - at ≡ d - at = sym (part-length e (omega arith)) ∙ ap length (u .0) ∙ part-length d (omega arith) in
       omega arith
 
-  not-nothing : (e : ℕ) → EscapedTo s at e → ClosedAt s at Nothing → ⊥
-  not-nothing e p h = h (part at e s) (p .content) (drop (e + 1) s) (p .escaped) (p .alone) (closed e p)
+  not-unclosed : (e : ℕ) → EscapedTo s at e → ClosedAt s at Unclosed → ⊥
+  not-unclosed e p h = h (part at e s) (p .content) (drop (e + 1) s) (p .escaped) (p .alone) (closed e p)
 
   pub closing-one : (a b : ClosingQuote) → ClosedAt s at a → ClosedAt s at b → a ≡ b
   closing-one (At e) (At d) p q = ap At (one-quote e d p q)
-  closing-one (At e) Nothing p q = absurd (not-nothing e p q)
-  closing-one Nothing (At d) p q = absurd (not-nothing d q p)
-  closing-one Nothing Nothing p q = refl
+  closing-one (At e) Unclosed p q = absurd (not-unclosed e p q)
+  closing-one Unclosed (At d) p q = absurd (not-unclosed d q p)
+  closing-one Unclosed Unclosed p q = refl

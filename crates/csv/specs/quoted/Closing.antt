@@ -6,7 +6,7 @@ use lib.ListN.{length, drop}
 use Rattle.csv.specs.rfc4180.Part.{part}
 use Rattle.csv.specs.rfc4180.Rfc4180.{DQUOTE, Escaped}
 use Rattle.csv.specs.declared.quoted.ClosingQuote.{ClosingQuote}
-use Rattle.csv.specs.declared.quoted.ClosingQuote.the-variants.{At, Nothing}
+use Rattle.csv.specs.declared.quoted.ClosingQuote.the-variants.{At, Unclosed}
 
 -- the text begins with the byte b
 pub record FirstByte (b : ℕ) (t : List ℕ) : Type 0 where
@@ -25,5 +25,5 @@ pub record EscapedTo (s : List ℕ) (at e : ℕ) : Type 0 where
 -- the closing quote of what stands between quotes from `at` on
 abbrev pub ClosedAt : List ℕ → ℕ → ClosingQuote → Type 0
 ClosedAt s at (At e) = EscapedTo s at e
-ClosedAt s at Nothing =
+ClosedAt s at Unclosed =
     (r c t : List ℕ) → Escaped r c → (FirstByte DQUOTE t → ⊥) → drop at s ≡ r ++ DQUOTE ∷ t → ⊥

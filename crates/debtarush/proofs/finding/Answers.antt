@@ -11,13 +11,13 @@ use Rattle.book.specs.declared.counted.Count.the-variants.{Given, Refused}
 use Rattle.book.proofs.Answers.{book-says-one, book-told-one, refused-none, book-one}
 use Rattle.csv.proofs.notes.Answers.{row-one}
 use Rattle.debtarush.specs.finding.JobAt.{nothing, JobAt, no-book, no-place, there}
-use Rattle.debtarush.specs.declared.finding.Found.the-variants.{There, Book}
+use Rattle.debtarush.specs.declared.finding.Found.the-variants.{There, BookRefused}
 use Rattle.debtarush.specs.declared.finding.JobFound.{JobFound}
 
 -- the refusal of a book as that of a place in it
 job-refusal : Count → JobFound
 job-refusal (Given n) = nothing There
-job-refusal (Refused why row) = nothing (Book why row)
+job-refusal (Refused why row) = nothing (BookRefused why row)
 
 module _ {b : List ℕ} {place : ℕ} where
   -- the job at a place is one

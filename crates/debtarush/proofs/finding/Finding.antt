@@ -11,14 +11,14 @@ use Rattle.book.specs.Says as book
 use Rattle.csv.specs.notes.Notes.{RowIn}
 use Rattle.debtarush.specs.finding.JobAt.{nothing, JobAt, no-book, no-place, there}
 use Rattle.debtarush.specs.declared.finding.Found.{Found}
-use Rattle.debtarush.specs.declared.finding.Found.the-variants.{There, Book, NoPlace}
+use Rattle.debtarush.specs.declared.finding.Found.the-variants.{There, BookRefused, NoPlace}
 use Rattle.debtarush.proofs.finding.FoundAnswers.{book-there, book-nowhere, nowhere-there}
 use Rattle.debtarush.specs.declared.finding.JobFound.{JobFound}
 
 -- the refusal that is found, in the paper's number
 book-refusal : Found → book.BookTold
 book-refusal There = book.refused 0 0
-book-refusal (Book why row) = book.refused (refusal-number why) row
+book-refusal (BookRefused why row) = book.refused (refusal-number why) row
 book-refusal NoPlace = book.refused 0 0
 
 -- a job book that has no job at a place
@@ -37,7 +37,7 @@ found : {p : JobFound} {f : Found} → p ≡ nothing f → p .found ≡ f
 found e = ap (λ (x : JobFound). x .found) e
 
 module _ {s : List ℕ} {place : ℕ} {p : JobFound} where
-  pub refused-book : {why : Refusal} {row : ℕ} → JobAt s place p → p .found ≡ Book why row → book.BookSays s (book.refused (refusal-number why) row)
+  pub refused-book : {why : Refusal} {row : ℕ} → JobAt s place p → p .found ≡ BookRefused why row → book.BookSays s (book.refused (refusal-number why) row)
   unfolding book-refusal
   refused-book (no-book x e) f = subst (book.BookSays s) (ap book-refusal (sym (found e) ∙ f)) x
   refused-book (no-place x m e) f = absurd (book-nowhere f (found e))

@@ -8,13 +8,13 @@ use Rattle.book.specs.declared.counted.Count.{Count}
 use Rattle.book.specs.declared.counted.Count.the-variants.{Given, Refused}
 use Rattle.debtarush.specs.finding.FoundAt.{FoundIs, refused, at-none, past, within}
 use Rattle.debtarush.specs.declared.finding.Found.{Found}
-use Rattle.debtarush.specs.declared.finding.Found.the-variants.{There, Book, NoPlace}
+use Rattle.debtarush.specs.declared.finding.Found.the-variants.{There, BookRefused, NoPlace}
 
 module _ {f : Found} where
-  pub book-there : {why : Refusal} {row : ℕ} → f ≡ Book why row → f ≡ There → ⊥
+  pub book-there : {why : Refusal} {row : ℕ} → f ≡ BookRefused why row → f ≡ There → ⊥
   book-there p q = impossible cc
 
-  pub book-nowhere : {why : Refusal} {row : ℕ} → f ≡ Book why row → f ≡ NoPlace → ⊥
+  pub book-nowhere : {why : Refusal} {row : ℕ} → f ≡ BookRefused why row → f ≡ NoPlace → ⊥
   book-nowhere p q = impossible cc
 
   pub nowhere-there : f ≡ NoPlace → f ≡ There → ⊥

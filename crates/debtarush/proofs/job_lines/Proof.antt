@@ -5,7 +5,7 @@ use Rattle.buffer.specs.declared.Copied.{Copied}
 use Rattle.buffer.specs.Copying as buffer
 use Rattle.debtarush.proofs.finding.Finding.{refused-book, refused-place, found-job}
 use Rattle.debtarush.specs.Called.{no-book, no-place}
-use Rattle.debtarush.proofs.Placing.{as-told, call-delivered}
+use Rattle.debtarush.proofs.Delivering.{as-told, call-delivered}
 use borrow.Author.Needs.{needs}
 use Rattle.debtarush.proofs.job_lines.Statement.{statement}
 use Rattle.debtarush.proofs.job_lines.Tie as tie

@@ -7,7 +7,7 @@ use Rattle.arithmetic.specs.decides.Decides.{decided, refuted}
 use Rattle.kinds.specs.ranges.Range.{Ranged}
 use Rattle.kinds.specs.declared.Kind.the-variants.{E}
 use Rattle.earth.specs.table2.Table2.{LowCoefficient}
-use Rattle.earth.specs.Earth.{refused, push, Pushed, blank, value, out-of-range, in-range}
+use Rattle.earth.specs.Earth.{refused, push, Pushed, blank, has-coefficient, out-of-range, in-range}
 use Rattle.earth.specs.declared.table2.Coefficient.{Coefficient}
 use Rattle.earth.proofs.table2.Marks.{table2-small}
 use Rattle.earth.proofs.pressure.Statement.{statement}
@@ -68,7 +68,7 @@ returns-3 c =
     let row = found .before .before .before .args .row in
     in-range (ranged (found .before))
     (subst (λ (k : Coefficient). Pushed (row .n3 .size) (row .n4 .size) k (push (c .before .before .thrust-of .result) (c .arm-of .result))) (sym (known .k .given .1) ∙ found .look-up .ensures)
-    (value (c .before .before .thrust-of .ensures) (c .arm-of .ensures)))
+    (has-coefficient (c .before .before .thrust-of .ensures) (c .arm-of .ensures)))
 
 pub pressure-spec : {M : Type 1} → statement M
 pressure-spec =

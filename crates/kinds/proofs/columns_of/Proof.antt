@@ -1,10 +1,10 @@
--- B, S, C and E have columns of their own. The eleven kinds of the table's last line share theirs, which `arm` shows of their list.
+-- B, S, C and E have columns of their own. The eleven kinds of the table's last line share theirs, which `kind-arm` shows of their list.
 use mathlib.Core.Path.{refl, sym, ap}
 use mathlib.Core.List.{[], _∷_}
 use borrow.Author.Needs.{needs}
 use Rattle.kinds.specs.Table.{columns, load-columns}
 use Rattle.kinds.specs.declared.Kind.the-variants.{DL, EP, LL, LF, CF, WC, BU, TM, EX, WL, SF}
-use Rattle.kinds.proofs.Arms.{arm}
+use Rattle.kinds.proofs.Arms.{kind-arm}
 use Rattle.kinds.proofs.columns_of.Statement.{statement}
 use Rattle.kinds.proofs.columns_of.Tie as tie
 
@@ -33,7 +33,7 @@ returns-4 : tie.Need-returns-4
 returns-4 c = sym (ap columns (c .enum-told4 .given .1))
 
 returns-5 : tie.Need-returns-5
-returns-5 c = arm columns load-columns (DL ∷ EP ∷ LL ∷ LF ∷ CF ∷ WC ∷ BU ∷ TM ∷ EX ∷ WL ∷ SF ∷ []) (c .before .args .kind) refl (c .match .keys5)
+returns-5 c = kind-arm columns load-columns (DL ∷ EP ∷ LL ∷ LF ∷ CF ∷ WC ∷ BU ∷ TM ∷ EX ∷ WL ∷ SF ∷ []) (c .before .args .kind) refl (c .match .keys5)
 
 pub columns-of-spec : {M : Type 1} → statement M
 columns-of-spec = tie.close (tie.spec enum-told enum-told-2 enum-told-3 enum-told-4 returns returns-2 returns-3 returns-4 returns-5)

@@ -8,7 +8,7 @@ use Prim.Native.Nat.{ℕ, _+_, _-_, _≤_, _<_}
 use Rattle.earth.specs.table2.Table2.{table2-fill}
 use Rattle.loads.specs.forces.Exerted.{LoadOf}
 use Rattle.loads.specs.declared.forces.RowLoad.{RowLoad}
-use Rattle.loads.specs.LoadRows.{row-at}
+use Rattle.loads.specs.LoadRows.{load-row}
 use Rattle.loads.proofs.Laying.{laid-none, laid-all}
 use Rattle.loads.proofs.Asking.{optional-low, RowsAsked, asked-none, asked-out, asked-blank, asked-load}
 use Rattle.loads.proofs.asked_of.Statement.{statement}
@@ -65,9 +65,9 @@ loop-less : tie.Need-loop-less Inv-loop μ-loop
 loop-less c = omega arith
 
 -- what the row is told
-told : (c : tie.At-match-came Inv-loop μ-loop) {a : RowLoad} → c .before .load-of .result ≡ a → LoadOf table2-fill (row-at (c .before .before .before .before .before .before .args .t1) (c .before .before .before .before .loop .i)) a
-unfolding row-at
-told c e = subst (LoadOf table2-fill (row-at (c .before .before .before .before .before .before .args .t1) (c .before .before .before .before .loop .i))) e (c .before .load-of .ensures)
+told : (c : tie.At-match-came Inv-loop μ-loop) {a : RowLoad} → c .before .load-of .result ≡ a → LoadOf table2-fill (load-row (c .before .before .before .before .before .before .args .t1) (c .before .before .before .before .loop .i)) a
+unfolding load-row
+told c e = subst (LoadOf table2-fill (load-row (c .before .before .before .before .before .before .args .t1) (c .before .before .before .before .loop .i))) e (c .before .load-of .ensures)
 
 loop-again : tie.Need-loop-again Inv-loop μ-loop
 loop-again c =

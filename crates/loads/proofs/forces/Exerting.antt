@@ -81,7 +81,7 @@ around-size a e h = go (e .minus) refl
 -- ---- what a load row is told: by the push of its fill, or by its own numbers
 pushed-not : {height length : ℕ} {k : Coefficient} {t : EarthTold} → Pushed height length k t → t ≡ refused 11 → ⊥
 pushed-not blank e = let z : _≡_ {A = ℕ} 15 11 = cc in omega arith
-pushed-not (earth.value h y) e = impossible cc
+pushed-not (earth.has-coefficient h y) e = impossible cc
 
 out-of-range-not : {fill : ℕ → ℕ → Coefficient} {row : Numbers} {t : EarthTold} → Pressed fill row t → t ≡ refused 11 → Ranged E row → ⊥
 out-of-range-not (out-of-range h) e r = h r

@@ -9,16 +9,16 @@ use Rattle.arithmetic.specs.decides.Decides.{decided, refuted}
 use Rattle.earth.specs.table2.Table2.{table2-fill}
 use Rattle.kinds.specs.declared.Row.{Row}
 use Rattle.loads.specs.LoadRows.{AllRanged, NoneBlank, optionals}
-use Rattle.loads.specs.Taken.{LoadsTold, row-count, loads-told, loads-told-by, LoadsSays, out-of-range, blank, too-many, loaded, Beside}
+use Rattle.loads.specs.Answer.{LoadsTold, row-count, loads-told, loads-told-by, LoadsSays, out-of-range, blank, too-many, loaded, Beside}
 use Rattle.loads.specs.declared.Asked.{Asked}
 use Rattle.loads.proofs.loads_of.Statement.{statement}
 use Rattle.loads.proofs.loads_of.Tie as tie
 
-rows-of-requires : tie.Need-rows-of-requires
-rows-of-requires c κs = search needs
+row-count-requires : tie.Need-row-count-requires
+row-count-requires c κs = search needs
 
 asked-of-requires : tie.Need-asked-of-requires
-asked-of-requires c κs = c .rows-of .ensures .1
+asked-of-requires c κs = c .row-count .ensures .1
 
 no-loads-requires : tie.Need-no-loads-requires
 no-loads-requires c κs = search needs
@@ -26,7 +26,7 @@ no-loads-requires c κs = search needs
 -- what the rows were asked, at any step behind it
 module _ (a : tie.After-asked-of) where
   abbrev n : ℕ
-  n = a .before .rows-of .result
+  n = a .before .row-count .result
 
   abbrev rows : List Row
   rows = a .before .before .args .rows
@@ -45,7 +45,7 @@ module _ (a : tie.After-asked-of) where
   counted e f = a .asked-of .ensures .optional (not-false (asked .ranged) e) (not-false (asked .filled) f)
 
   says : {t : LoadsTold} → LoadsSays table2-fill rows n t → LoadsSays table2-fill rows (row-count (a .before .before .args .count)) t
-  says {t} = subst (λ (m : ℕ). LoadsSays table2-fill rows m t) (a .before .rows-of .ensures .0)
+  says {t} = subst (λ (m : ℕ). LoadsSays table2-fill rows m t) (a .before .row-count .ensures .0)
 
 returns : tie.Need-returns
 unfolding loads-told loads-told-by Beside
@@ -92,7 +92,7 @@ pub loads-of-spec : {M : Type 1} → statement M
 loads-of-spec =
     tie.close
     (tie.spec
-    rows-of-requires
+    row-count-requires
     asked-of-requires
     no-loads-requires
     returns

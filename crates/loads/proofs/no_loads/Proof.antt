@@ -1,7 +1,7 @@
 -- No loads: a count of 0, and in all 16 places the load that exerts nothing.
 use borrow.Author.Needs.{needs}
 use lib.ListN.{replicate}
-use Rattle.loads.specs.Taken.{no-loads}
+use Rattle.loads.specs.Answer.{no-loads}
 use Rattle.loads.proofs.no_loads.Statement.{statement}
 use Rattle.loads.proofs.no_loads.Tie as tie
 

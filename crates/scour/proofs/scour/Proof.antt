@@ -4,7 +4,7 @@ use borrow.Author.Needs.{needs}
 use Rattle.arithmetic.specs.decides.Decides.{decided, refuted}
 use Rattle.kinds.specs.ranges.Range.{Ranged}
 use Rattle.kinds.specs.declared.Kind.the-variants.{S}
-use Rattle.scour.specs.River.{out-of-range, in-range}
+use Rattle.scour.specs.ScourRow.{out-of-range, in-range}
 use Rattle.scour.proofs.scour.Statement.{statement}
 use Rattle.scour.proofs.scour.Tie as tie
 

@@ -28,7 +28,7 @@ reaches = 125 ∷ 150 ∷ 175 ∷ 200 ∷ 275 ∷ []
 abbrev pub GreatestScour : ℕ → ℕ → ℕ → Type 0
 GreatestScour D reach greatest = RoundedUp (getD reaches (reach - 1) 0 * D) 100 greatest
 
--- 6.9.1. "Depth needed: 1.33 times that, rounded up."
+-- "Depth needed: 1.33 times that (6.9.1), rounded up."
 pub record DepthNeeded (D reach needed : ℕ) : Type 0 where
   pub greatest : ℕ
   pub scour : GreatestScour D reach greatest

@@ -28,11 +28,11 @@ Arises combination loads = (i : ℕ) × (i < loads .count) × RaisedBy combinati
 
 -- so many wind and earthquake rows may act together, in a set that has a row
 unfoldable pub Together : Combination → ℕ → ℕ → Type 0
-Together I winds quakes = (winds ≡ 0) × (quakes ≡ 0)
-Together II winds quakes = (0 < winds) × (quakes ≡ 0)
-Together III winds quakes = (winds ≡ 0) × (0 < quakes)
-Together IV winds quakes = (winds ≡ 0) ⊎ (quakes ≡ 0)
+Together I winds earthquakes = (winds ≡ 0) × (earthquakes ≡ 0)
+Together II winds earthquakes = (0 < winds) × (earthquakes ≡ 0)
+Together III winds earthquakes = (winds ≡ 0) × (0 < earthquakes)
+Together IV winds earthquakes = (winds ≡ 0) ⊎ (earthquakes ≡ 0)
 
-pub record Admits (combination : Combination) (winds quakes set : ℕ) : Type 0 where
+pub record Admits (combination : Combination) (winds earthquakes set : ℕ) : Type 0 where
   pub some : 0 < set
-  pub together : Together combination winds quakes
+  pub together : Together combination winds earthquakes

@@ -29,7 +29,7 @@ no-sums =
       plus = record { resisting = 0; overturning = 0 };
       minus = record { resisting = 0; overturning = 0 };
       winds = 0;
-      quakes = 0;
+      earthquakes = 0;
       set = 0;
     }
 
@@ -43,7 +43,7 @@ add a b =
       plus = balance-sum (a .plus) (b .plus);
       minus = balance-sum (a .minus) (b .minus);
       winds = a .winds + b .winds;
-      quakes = a .quakes + b .quakes;
+      earthquakes = a .earthquakes + b .earthquakes;
       set = a .set + b .set;
     }
 
@@ -62,11 +62,11 @@ is-wind Free = 0
 is-wind Wind = 1
 is-wind Earthquake = 0
 
-unfoldable pub is-quake : Class → ℕ
-is-quake Permanent = 0
-is-quake Free = 0
-is-quake Wind = 0
-is-quake Earthquake = 1
+unfoldable pub is-earthquake : Class → ℕ
+is-earthquake Permanent = 0
+is-earthquake Free = 0
+is-earthquake Wind = 0
+is-earthquake Earthquake = 1
 
 unfoldable pub moment-of : Load → Parts
 unfolding parts-sum
@@ -81,7 +81,7 @@ terms-of width load place =
       plus = balance-of plus width load;
       minus = balance-of minus width load;
       winds = is-wind (load .class);
-      quakes = is-quake (load .class);
+      earthquakes = is-earthquake (load .class);
       set = place;
     }
 
@@ -120,5 +120,5 @@ pub record Room (n : ℕ) (sums : Sums) : Type 0 where
   pub resisting-minus : sums .minus .resisting ≤ n * 2 ^ 34
   pub overturning-minus : sums .minus .overturning ≤ n * 2 ^ 34
   pub winds : sums .winds ≤ n
-  pub quakes : sums .quakes ≤ n
+  pub earthquakes : sums .earthquakes ≤ n
   pub set : sums .set ≤ n * 2 ^ 34

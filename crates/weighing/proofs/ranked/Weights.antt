@@ -15,67 +15,67 @@ use Rattle.checks.specs.Order.{Side}
 use Rattle.checks.specs.steps.Ranks.{Ranks}
 use Rattle.checks.proofs.Ranking.{ranks-one}
 use Rattle.weighing.specs.declared.ranked.RankedSet.{RankedSet}
-use Rattle.weighing.specs.steps.Ranked.{place, weight, weight-of, WorseOf, Offered}
+use Rattle.weighing.specs.steps.Ranked.{tie-order, weight, weight-of, WorseOf, Offered}
 
--- ---- the place of a set
-pub place-none : place 0 ≡ 17 * 65536
-unfolding place
-place-none = refl
+-- ---- the order of sets with one figure
+pub tie-order-none : tie-order 0 ≡ 17 * 65536
+unfolding tie-order
+tie-order-none = refl
 
-pub place-some : (s : ℕ) → 0 < s → place s ≡ ones s * 65536 + s
-unfolding place
-place-some zero h = absurd (omega arith)
-place-some (suc s) h = refl
+pub tie-order-some : (s : ℕ) → 0 < s → tie-order s ≡ ones s * 65536 + s
+unfolding tie-order
+tie-order-some zero h = absurd (omega arith)
+tie-order-some (suc s) h = refl
 
-pub place-low : (s : ℕ) → s < 65536 → place s ≤ 17 * 65536
-unfolding place
-place-low zero h = le-refl _
-place-low (suc s) h = omega (arith, ones-le 16 (suc s) h)
+pub tie-order-low : (s : ℕ) → s < 65536 → tie-order s ≤ 17 * 65536
+unfolding tie-order
+tie-order-low zero h = le-refl _
+tie-order-low (suc s) h = omega (arith, ones-le 16 (suc s) h)
 
-pub some-low : (s : ℕ) → 0 < s → s < 65536 → place s < 17 * 65536
-some-low s p h = omega (arith, place-some s p, ones-le 16 s h)
+pub some-low : (s : ℕ) → 0 < s → s < 65536 → tie-order s < 17 * 65536
+some-low s p h = omega (arith, tie-order-some s p, ones-le 16 s h)
 
 -- ---- a rank that is less weighs less
 pub weight-rank : (m n s t : ℕ) → m < n → s < 65536 → t < 65536 → weight m s ≤ weight n t
 unfolding weight
-weight-rank m n s t h p q = omega (arith, place-low s p, place-low t q)
+weight-rank m n s t h p q = omega (arith, tie-order-low s p, tie-order-low t q)
 
-pub weight-place : (m n s t : ℕ) → m ≡ n → place s ≤ place t → weight m s ≤ weight n t
+pub weight-tie-order : (m n s t : ℕ) → m ≡ n → tie-order s ≤ tie-order t → weight m s ≤ weight n t
 unfolding weight
-weight-place m n s t e h = omega arith
+weight-tie-order m n s t e h = omega arith
 
 -- The set s comes before t: t is none, or s has fewer rows, or as many and the smaller number.
 abbrev Before : ℕ → ℕ → Type 0
 Before s t = ((t ≡ 0) ⊎ (ones s < ones t)) ⊎ ((ones s ≡ ones t) × (s < t))
 
 module _ (s : ℕ) (p : 0 < s) (h : s < 65536) where
-  earlier : (t : ℕ) → t < 65536 → Before s t → place s < place t
-  earlier zero k w = omega (arith, place-none, some-low s p h)
+  earlier : (t : ℕ) → t < 65536 → Before s t → tie-order s < tie-order t
+  earlier zero k w = omega (arith, tie-order-none, some-low s p h)
   earlier (suc t) k (inl (inl e)) = absurd (omega arith)
-  earlier (suc t) k (inl (inr e)) = omega (arith, place-some s p, place-some (suc t) (omega arith))
-  earlier (suc t) k (inr e) = omega (arith, place-some s p, place-some (suc t) (omega arith), e .0, e .1)
+  earlier (suc t) k (inl (inr e)) = omega (arith, tie-order-some s p, tie-order-some (suc t) (omega arith))
+  earlier (suc t) k (inr e) = omega (arith, tie-order-some s p, tie-order-some (suc t) (omega arith), e .0, e .1)
 
-  before : (t : ℕ) → t < 65536 → place s < place t → Before s t
+  before : (t : ℕ) → t < 65536 → tie-order s < tie-order t → Before s t
   before zero k l = inl (inl refl)
   before (suc t) k l =
-      let here = place-some s p in
-      let there = place-some (suc t) (omega arith) in
+      let here = tie-order-some s p in
+      let there = tie-order-some (suc t) (omega arith) in
       by-cases (decLe (suc (ones s)) (ones (suc t))) (λ f. inl (inr f)) (λ f. inr (omega (arith, here, there), omega (arith, here, there)))
 
-  pub before-decides : (t : ℕ) → t < 65536 → Decides ((eqb t 0 || ltb (ones s) (ones t)) || (eqb (ones s) (ones t) && ltb s t)) (place s < place t)
+  pub before-decides : (t : ℕ) → t < 65536 → Decides ((eqb t 0 || ltb (ones s) (ones t)) || (eqb (ones s) (ones t) && ltb s t)) (tie-order s < tie-order t)
   before-decides t k =
       let fewer = decides-either (t ≡ 0) (ones s < ones t) (eqb t 0) (ltb (ones s) (ones t)) (decides-equal t 0) (decides-below (ones s) (ones t)) in
       let tied = decides-both (ones s ≡ ones t) (s < t) (eqb (ones s) (ones t)) (ltb s t) (decides-equal (ones s) (ones t)) (decides-below s t) in
       decides-same ((eqb t 0 || ltb (ones s) (ones t)) || (eqb (ones s) (ones t) && ltb s t)) (earlier t k) (before t k)
       (decides-either ((t ≡ 0) ⊎ (ones s < ones t)) ((ones s ≡ ones t) × (s < t)) (eqb t 0 || ltb (ones s) (ones t)) (eqb (ones s) (ones t) && ltb s t) fewer tied)
 
--- The rank n with the set s comes before the rank m with the set t: by the place where the ranks are one, or by a lower rank.
+-- The rank n with the set s comes before the rank m with the set t: by the order of the sets where the ranks are one, or by a lower rank.
 abbrev pub Leads : ℕ → ℕ → ℕ → ℕ → Type 0
-Leads n m s t = ((n ≡ m) × (place s < place t)) ⊎ (n < m)
+Leads n m s t = ((n ≡ m) × (tie-order s < tie-order t)) ⊎ (n < m)
 
 module _ (n m s t : ℕ) (p : s < 65536) (q : t < 65536) where
   pub leads-weighs : Leads n m s t → weight n s ≤ weight m t
-  leads-weighs w = ⊎-elim (λ e. weight-place n m s t (e .0) (le-of-lt (e .1))) (λ h. weight-rank n m s t h p q) w
+  leads-weighs w = ⊎-elim (λ e. weight-tie-order n m s t (e .0) (le-of-lt (e .1))) (λ h. weight-rank n m s t h p q) w
 
   pub follows-weighs : (Leads n m s t → ⊥) → weight m t ≤ weight n s
   follows-weighs f =
@@ -83,8 +83,8 @@ module _ (n m s t : ℕ) (p : s < 65536) (q : t < 65536) where
       (λ h.
       let over : n < m → ⊥ = λ k. f (inr k) in
       let e : n ≡ m = omega (arith, over) in
-      let later : place s < place t → ⊥ = λ k. f (inl (e, k)) in
-      weight-place m n t s (sym e) (omega (arith, later)))
+      let later : tie-order s < tie-order t → ⊥ = λ k. f (inl (e, k)) in
+      weight-tie-order m n t s (sym e) (omega (arith, later)))
 
 -- ---- the worse of two
 pub worse-of-new : (b : RankedSet) (n s : ℕ) → weight n s ≤ weight-of b → WorseOf b n s (record { rank = n; set = s })
@@ -107,18 +107,18 @@ pub offered-low : {from : Side} {P : Figure → Type 0} {b r : RankedSet} {s : �
 offered-low p q o = worse-of-low p q (o .worse)
 
 -- ---- a weight tells its rank and its set
-place-one : (s t : ℕ) → s < 65536 → t < 65536 → place s ≡ place t → s ≡ t
-place-one zero zero p q e = refl
-place-one zero (suc t) p q e = absurd (omega (arith, place-none, some-low (suc t) (omega arith) q, e))
-place-one (suc s) zero p q e = absurd (omega (arith, place-none, some-low (suc s) (omega arith) p, e))
-place-one (suc s) (suc t) p q e = omega (arith, place-some (suc s) (omega arith), place-some (suc t) (omega arith), p, q, e)
+tie-order-one : (s t : ℕ) → s < 65536 → t < 65536 → tie-order s ≡ tie-order t → s ≡ t
+tie-order-one zero zero p q e = refl
+tie-order-one zero (suc t) p q e = absurd (omega (arith, tie-order-none, some-low (suc t) (omega arith) q, e))
+tie-order-one (suc s) zero p q e = absurd (omega (arith, tie-order-none, some-low (suc s) (omega arith) p, e))
+tie-order-one (suc s) (suc t) p q e = omega (arith, tie-order-some (suc s) (omega arith), tie-order-some (suc t) (omega arith), p, q, e)
 
 weight-one : (a b : RankedSet) → a .set < 65536 → b .set < 65536 → weight-of a ≡ weight-of b → a ≡ b
 unfolding weight-of weight
-weight-one a b p q e = λ i. record { rank = ranks i; set = place-one (a .set) (b .set) p q (omega (arith, e, ranks)) i }
+weight-one a b p q e = λ i. record { rank = ranks i; set = tie-order-one (a .set) (b .set) p q (omega (arith, e, ranks)) i }
   where
     ranks : a .rank ≡ b .rank
-    ranks = omega (arith, e, place-low (a .set) p, place-low (b .set) q)
+    ranks = omega (arith, e, tie-order-low (a .set) p, tie-order-low (b .set) q)
 
 module _ {b : RankedSet} {n s : ℕ} (p : b .set < 65536) (q : s < 65536) where
   lightest : {r t : RankedSet} → WorseOf b n s r → WorseOf b n s t → weight-of r ≤ weight-of t

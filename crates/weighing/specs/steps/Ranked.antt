@@ -1,4 +1,4 @@
--- What `worse` answers: the place of a ranked set in the order of sets, as one number, and what it is to be the worse of it and of one set more.
+-- What `worse` answers: the order of ranked sets, as one number, and what it is to be the worse of it and of one set more.
 use mathlib.Core.Path.{_≡_}
 use mathlib.Core.Logic.{_⊎_}
 use Prim.Native.Nat.{ℕ, zero, suc, _+_, _*_, _≤_}
@@ -8,14 +8,14 @@ use Rattle.checks.specs.Order.{Side}
 use Rattle.checks.specs.steps.Ranks.{Ranks}
 use Rattle.weighing.specs.declared.ranked.RankedSet.{RankedSet}
 
--- The place of a set among those with one figure: the fewest rows first, then the smallest number. 0 stands for no set, and comes last.
-unfoldable pub place : ℕ → ℕ
-place zero = 17 * 65536
-place (suc s) = ones (suc s) * 65536 + suc s
+-- The order of the sets with one figure: the fewest rows first, then the smallest number. 0 stands for no set, and comes last.
+unfoldable pub tie-order : ℕ → ℕ
+tie-order zero = 17 * 65536
+tie-order (suc s) = ones (suc s) * 65536 + suc s
 
 -- a rank and a set as one number: the worst figure first
 unfoldable pub weight : ℕ → ℕ → ℕ
-weight r s = r * (18 * 65536) + place s
+weight r s = r * (18 * 65536) + tie-order s
 
 unfoldable pub weight-of : RankedSet → ℕ
 weight-of m = weight (m .rank) (m .set)

@@ -41,8 +41,8 @@ pub record Weighs (serves : Bool) (base : Base) (sums : Sums) (b r : Worst) : Ty
   pub left : (check : Check) → (Weighed serves base check → ⊥) → ranked-of check r ≡ ranked-of check b
   pub low : Low r
 
--- the same of a set that counts only where the combination permits it
+-- the same of a set that counts only where its wind and earthquake rows may act together
 pub record Visits (combination : Combination) (serves : Bool) (base : Base) (sums : Sums) (b r : Worst) : Type 0 where
-  pub came : (Admits combination (sums .winds) (sums .quakes) (sums .set) × Weighs serves base sums b r)
-      ⊎ ((Admits combination (sums .winds) (sums .quakes) (sums .set) → ⊥) × (r ≡ b))
+  pub came : (Admits combination (sums .winds) (sums .earthquakes) (sums .set) × Weighs serves base sums b r)
+      ⊎ ((Admits combination (sums .winds) (sums .earthquakes) (sums .set) → ⊥) × (r ≡ b))
   pub low : Low r

@@ -16,7 +16,7 @@ use Rattle.sets.specs.steps.Sums.{no-sums, add, add-if, terms-of, sums-to, Room
 use Rattle.sets.proofs.Bits.{bit-two, bit-above, bit-own, bit-kept}
 use Rattle.sets.proofs.Adding.{add-swap, add-if-in, add-if-out, room-more, room-if}
 use Rattle.worst.specs.declared.choices.Stance.{Stance}
-use Rattle.worst.specs.declared.choices.Stance.the-variants.{Never, Always, Either}
+use Rattle.worst.specs.declared.choices.Stance.the-variants.{Never, Always, Choosable}
 use Rattle.worst.specs.steps.Stance.{held-by, next, choosable, join, pick, fixed-by, fixed, chosen, row-terms}
 
 -- ---- a set of n + 1 rows has its last row or has it not
@@ -32,13 +32,13 @@ pub next-le : (a : Stance) (m : ℕ) → m ≤ next a m
 unfolding next
 next-le Never m = omega arith
 next-le Always m = omega arith
-next-le Either m = omega arith
+next-le Choosable m = omega arith
 
 next-room : (a : Stance) (m : ℕ) → next a m ≤ suc m
 unfolding next
 next-room Never m = omega arith
 next-room Always m = omega arith
-next-room Either m = omega arith
+next-room Choosable m = omega arith
 
 pub choosable-room : (stance : ℕ → Stance) (n : ℕ) → choosable stance n ≤ n
 unfolding choosable
@@ -49,7 +49,7 @@ held-same : (a : Stance) (m : ℕ) {x y : ℕ} → (m < next a m → x ≡ y) �
 unfolding held-by next
 held-same Never m h = refl
 held-same Always m h = refl
-held-same Either m h = h (omega arith)
+held-same Choosable m h = h (omega arith)
 
 module _ (stance : ℕ → Stance) where
   -- ---- the set that a choice makes
@@ -67,7 +67,7 @@ module _ (stance : ℕ → Stance) where
   unfolding held-by
   held-two Never b h = omega arith
   held-two Always b h = omega arith
-  held-two Either b h = h
+  held-two Choosable b h = h
 
   join-own : (b s n : ℕ) → b < 2 → s < 2 ^ n → bit (join b s (2 ^ n)) n ≡ b
   unfolding join
@@ -116,14 +116,14 @@ module _ (stance : ℕ → Stance) where
   unfolding Made pick choosable held-by next join
   made-out t n h w Never e f = (w .0, rw e (w .1), rw e (w .2))
   made-out t n h w Always e f = absurd (omega (arith, f refl, bit-above t n h))
-  made-out t n h w Either e f =
+  made-out t n h w Choosable e f =
       (w .0, rw (e, pow-suc 2 (choosable stance n)) (omega (arith, w .1)), rw (e, bit-above (w .0) (choosable stance n) (w .1)) (w .2))
 
   made-in : (t r n : ℕ) → r < 2 ^ n → t ≡ r + 2 ^ n → Made r n → (a : Stance) → stance n ≡ a → (a ≡ Never → bit t n ≡ 0) → Made t (suc n)
   unfolding Made pick choosable held-by next join
   made-in t r n h d w Never e f = absurd (omega (arith, f refl, ap (λ (x : ℕ). bit x n) d, bit-own r n h))
   made-in t r n h d w Always e f = (w .0, rw e (w .1), rw e (ap (λ (x : ℕ). x + 2 ^ n) (w .2) ∙ sym d))
-  made-in t r n h d w Either e f =
+  made-in t r n h d w Choosable e f =
       let k = w .0 + 2 ^ choosable stance n in (
         k,
         rw (e, pow-suc 2 (choosable stance n)) (omega (arith, w .1)),
@@ -189,9 +189,9 @@ chosen-shift first t table k (suc m) =
 module _ (stance : ℕ → Stance) (width : ℕ) (loads : Loads) (table : ℕ → Sums) where
   -- the table holds the terms of the choosable rows, in order
   unfoldable pub Tabled : ℕ → Type 0
-  Tabled n = (i : ℕ) → i < n → stance i ≡ Either → table (choosable stance i) ≡ row-terms width loads i
+  Tabled n = (i : ℕ) → i < n → stance i ≡ Choosable → table (choosable stance i) ≡ row-terms width loads i
 
-  step : (n k : ℕ) (a : Stance) → stance n ≡ a → (a ≡ Either → table (choosable stance n) ≡ row-terms width loads n)
+  step : (n k : ℕ) (a : Stance) → stance n ≡ a → (a ≡ Choosable → table (choosable stance n) ≡ row-terms width loads n)
       → sums-to width loads (pick stance n k) n ≡ chosen (fixed stance (row-terms width loads) n) table k (choosable stance n)
       → sums-to width loads (pick stance (suc n) k) (suc n) ≡ chosen (fixed stance (row-terms width loads) (suc n)) table k (choosable stance (suc n))
   unfolding sums-to fixed choosable chosen next add-if held-by fixed-by row-terms
@@ -201,12 +201,12 @@ module _ (stance : ℕ → Stance) (width : ℕ) (loads : Loads) (table : ℕ �
       ∙ go a own
       ∙ ap (λ (y : Stance). chosen (fixed-by y (fixed stance (row-terms width loads) n) (row-terms width loads n)) table k (next y (choosable stance n))) (sym e)
     where
-      go : (a : Stance) → (a ≡ Either → table (choosable stance n) ≡ row-terms width loads n)
+      go : (a : Stance) → (a ≡ Choosable → table (choosable stance n) ≡ row-terms width loads n)
           → add-if (held-by a (bit k (choosable stance n))) (chosen (fixed stance (row-terms width loads) n) table k (choosable stance n)) (terms-of width (row loads n) (2 ^ n))
           ≡ chosen (fixed-by a (fixed stance (row-terms width loads) n) (row-terms width loads n)) table k (next a (choosable stance n))
       go Never f = refl
       go Always f = sym (chosen-shift (fixed stance (row-terms width loads) n) (row-terms width loads n) table k (choosable stance n))
-      go Either f = ap (λ (x : Sums). add-if (bit k (choosable stance n)) (chosen (fixed stance (row-terms width loads) n) table k (choosable stance n)) x) (sym (f refl))
+      go Choosable f = ap (λ (x : Sums). add-if (bit k (choosable stance n)) (chosen (fixed stance (row-terms width loads) n) table k (choosable stance n)) x) (sym (f refl))
 
   pub pick-sums : (n k : ℕ) → Tabled n → sums-to width loads (pick stance n k) n ≡ chosen (fixed stance (row-terms width loads) n) table k (choosable stance n)
   unfolding Tabled chosen sums-to choosable fixed

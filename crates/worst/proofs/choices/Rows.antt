@@ -17,7 +17,7 @@ use Rattle.sets.specs.Sets.{bit, row, own-phase, Acts, Has, Mixed, Permitted}
 use Rattle.sets.specs.steps.Deciding.{RowFits}
 use Rattle.sets.proofs.Bits.{bit-not-one}
 use Rattle.worst.specs.declared.choices.Stance.{Stance}
-use Rattle.worst.specs.declared.choices.Stance.the-variants.{Never, Always, Either}
+use Rattle.worst.specs.declared.choices.Stance.the-variants.{Never, Always, Choosable}
 use Rattle.worst.specs.steps.Stance.{by-class, acting, stance-of, held-by}
 
 -- ---- the test of the phase
@@ -53,7 +53,7 @@ acting-acts k p e = go (eqb p (own-phase k)) refl e
 unfoldable pub StanceSays : Combination → Load → Stance → Type 0
 StanceSays k load Never = (Acts k (load .phase) → ⊥) ⊎ (by-class k (load .class) ≡ Never)
 StanceSays k load Always = Acts k (load .phase) × (load .class ≡ Permanent)
-StanceSays k load Either = Acts k (load .phase) × (load .class ≡ Permanent → ⊥)
+StanceSays k load Choosable = Acts k (load .phase) × (load .class ≡ Permanent → ⊥)
 
 says-class : (k : Combination) (load : Load) (c : Class) → load .class ≡ c → Acts k (load .phase) → StanceSays k load (by-class k c)
 unfolding StanceSays by-class
@@ -115,4 +115,4 @@ stance-fits k load Never b s =
     permanent-never : load .class ≡ Permanent → by-class k (load .class) ≡ Never → ⊥
     permanent-never c n = let q : _≡_ {A = Stance} Always Never = sym (ap (by-class k) c) ∙ n in impossible cc
 stance-fits k load Always b s = record { acting = λ _. s .0; permanent = λ _ _. refl }
-stance-fits k load Either b s = record { acting = λ _. s .0; permanent = λ c. absurd (s .1 c) }
+stance-fits k load Choosable b s = record { acting = λ _. s .0; permanent = λ c. absurd (s .1 c) }

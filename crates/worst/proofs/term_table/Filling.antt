@@ -17,13 +17,13 @@ use Rattle.sets.specs.Sets.{row, Bounded}
 use Rattle.sets.specs.steps.Sums.{no-sums, add, Room}
 use Rattle.sets.proofs.Adding.{room-none, room-add, room-more, room-row, low-place}
 use Rattle.worst.specs.declared.choices.Stance.{Stance}
-use Rattle.worst.specs.declared.choices.Stance.the-variants.{Never, Always, Either}
+use Rattle.worst.specs.declared.choices.Stance.the-variants.{Never, Always, Choosable}
 use Rattle.worst.specs.steps.Stance.{next, choosable, fixed-by, fixed, row-terms, stance-at}
 use Rattle.worst.proofs.choices.Choices.{next-le, choosable-room}
-use Rattle.worst.specs.steps.Table.{terms-at, cells, Puts}
+use Rattle.worst.specs.steps.Terms.{terms-at, cells, Puts}
 use Rattle.worst.proofs.term_table.Rows.{puts-own, puts-others}
-use Rattle.worst.specs.declared.term_table.Table.{Table}
-use Rattle.worst.specs.steps.Filling.{TableIs}
+use Rattle.worst.specs.declared.term_table.TermTable.{TermTable}
+use Rattle.worst.specs.steps.TermTable.{TableIs}
 
 -- nothing but zeros
 zeros : (n i : ℕ) → _≡_ {A = ℕ} (getD (replicate n 0) i 0) 0
@@ -33,23 +33,23 @@ zeros (suc n) (suc i) = zeros n i
 
 -- ---- the table, one row more
 -- r is the table with one row more
-pub record Grows (table : Table) (stance : Stance) (sums : Sums) (r : Table) : Type 0 where
+pub record Grows (table : TermTable) (stance : Stance) (sums : Sums) (r : TermTable) : Type 0 where
   pub count : r .choosable ≡ next stance (table .choosable)
   pub always : r .fixed ≡ fixed-by stance (table .fixed) sums
-  pub own : stance ≡ Either → terms-at (r .terms) (table .choosable) ≡ sums
+  pub own : stance ≡ Choosable → terms-at (r .terms) (table .choosable) ≡ sums
   pub others : (i : ℕ) → i < table .choosable → terms-at (r .terms) i ≡ terms-at (table .terms) i
   pub rest : (i : ℕ) → 13 * r .choosable ≤ i → getD (r .terms) i 0 ≡ getD (table .terms) i 0
   pub size : length (r .terms) ≡ length (table .terms)
 
-never-not : _≡_ {A = Stance} Never Either → ⊥
+never-not : _≡_ {A = Stance} Never Choosable → ⊥
 never-not q = impossible cc
 
-always-not : _≡_ {A = Stance} Always Either → ⊥
+always-not : _≡_ {A = Stance} Always Choosable → ⊥
 always-not q = impossible cc
 
-module _ (table r : Table) (sums : Sums) {a : Stance} where
+module _ (table r : TermTable) (sums : Sums) {a : Stance} where
   -- a row that is not choosable writes no terms
-  unwritten : (b : Stance) → (b ≡ Either → ⊥) → a ≡ b → r .terms ≡ table .terms → r .choosable ≡ next b (table .choosable) → r .fixed ≡ fixed-by b (table .fixed) sums → Grows table a sums r
+  unwritten : (b : Stance) → (b ≡ Choosable → ⊥) → a ≡ b → r .terms ≡ table .terms → r .choosable ≡ next b (table .choosable) → r .fixed ≡ fixed-by b (table .fixed) sums → Grows table a sums r
   unwritten b n e t f s =
       record {
         count = f ∙ ap (λ (k : Stance). next k (table .choosable)) (sym e);
@@ -68,7 +68,7 @@ module _ (table r : Table) (sums : Sums) {a : Stance} where
   unfolding next fixed-by
   grows-always = unwritten Always always-not
 
-  pub grows-choosable : a ≡ Either → Puts (table .terms) (table .choosable) sums (r .terms) → r .choosable ≡ table .choosable + 1 → r .fixed ≡ table .fixed → Grows table a sums r
+  pub grows-choosable : a ≡ Choosable → Puts (table .terms) (table .choosable) sums (r .terms) → r .choosable ≡ table .choosable + 1 → r .fixed ≡ table .fixed → Grows table a sums r
   unfolding next fixed-by
   grows-choosable e p f s =
       record {
@@ -81,7 +81,7 @@ module _ (table r : Table) (sums : Sums) {a : Stance} where
       }
 
 module _ (combination : Combination) (width : ℕ) (loads : Loads) where
-  pub filled-none : (table : Table) → table .terms ≡ replicate 208 0 → table .choosable ≡ 0 → table .fixed ≡ no-sums → TableIs combination width loads 0 table
+  pub filled-none : (table : TermTable) → table .terms ≡ replicate 208 0 → table .choosable ≡ 0 → table .fixed ≡ no-sums → TableIs combination width loads 0 table
   unfolding choosable fixed
   filled-none table d e f =
       record {
@@ -92,18 +92,18 @@ module _ (combination : Combination) (width : ℕ) (loads : Loads) where
         size = ap length d ∙ length-replicate {A = ℕ} 208 0;
       }
 
-  choosable-step : (i n : ℕ) → i < n → stance-at combination loads i ≡ Either → choosable (stance-at combination loads) i < choosable (stance-at combination loads) n
+  choosable-step : (i n : ℕ) → i < n → stance-at combination loads i ≡ Choosable → choosable (stance-at combination loads) i < choosable (stance-at combination loads) n
   unfolding choosable next
   choosable-step i zero h e = absurd (omega arith)
   choosable-step i (suc n) h e =
       by-cases (decLt i n) (λ l. lt-of-lt-of-le (choosable-step i n l e) (next-le (stance-at combination loads n) (choosable (stance-at combination loads) n)))
       (λ l.
       let d : i ≡ n = omega arith in
-      let f : stance-at combination loads n ≡ Either = subst (λ (j : ℕ). stance-at combination loads j ≡ Either) d e in
+      let f : stance-at combination loads n ≡ Choosable = subst (λ (j : ℕ). stance-at combination loads j ≡ Choosable) d e in
       subst (λ (j : ℕ). choosable (stance-at combination loads) j < next (stance-at combination loads n) (choosable (stance-at combination loads) n)) (sym d)
       (subst⁻¹ (λ (a : Stance). choosable (stance-at combination loads) n < next a (choosable (stance-at combination loads) n)) f (omega arith)))
 
-  pub filled-more : (n : ℕ) {table r : Table} {a : Stance} {sums : Sums} → TableIs combination width loads n table → a ≡ stance-at combination loads n → sums ≡ row-terms width loads n
+  pub filled-more : (n : ℕ) {table r : TermTable} {a : Stance} {sums : Sums} → TableIs combination width loads n table → a ≡ stance-at combination loads n → sums ≡ row-terms width loads n
       → Grows table a sums r → TableIs combination width loads (n + 1) r
   unfolding choosable fixed
   filled-more n {table} {r} {a} {sums} f e d g =
@@ -116,12 +116,12 @@ module _ (combination : Combination) (width : ℕ) (loads : Loads) where
         size = g .size ∙ f .size;
       })
     where
-      go : (i : ℕ) → stance-at combination loads i ≡ Either → Dec (i < n) → i ≤ n → terms-at (r .terms) (choosable (stance-at combination loads) i) ≡ row-terms width loads i
+      go : (i : ℕ) → stance-at combination loads i ≡ Choosable → Dec (i < n) → i ≤ n → terms-at (r .terms) (choosable (stance-at combination loads) i) ≡ row-terms width loads i
       go i s (yes l) h = g .others (choosable (stance-at combination loads) i) (subst (λ (m : ℕ). choosable (stance-at combination loads) i < m) (sym (f .count)) (choosable-step i n l s)) ∙ f .rows i l s
       go i s (no l) h =
           let k : i ≡ n = omega arith in
           subst (λ (j : ℕ). terms-at (r .terms) (choosable (stance-at combination loads) j) ≡ row-terms width loads j) (sym k)
-          (ap (terms-at (r .terms)) (sym (f .count)) ∙ g .own (e ∙ subst (λ (j : ℕ). stance-at combination loads j ≡ Either) k s) ∙ d)
+          (ap (terms-at (r .terms)) (sym (f .count)) ∙ g .own (e ∙ subst (λ (j : ℕ). stance-at combination loads j ≡ Choosable) k s) ∙ d)
 
   -- ---- sizes
   module _ (wide : width ≤ 30000) (b : Bounded loads) where
@@ -133,7 +133,7 @@ module _ (combination : Combination) (width : ℕ) (loads : Loads) where
     unfolding fixed-by
     fixed-room-by Never n s t p q = room-more (omega arith) p
     fixed-room-by Always n s t p q = room-more (omega arith) (room-add p q)
-    fixed-room-by Either n s t p q = room-more (omega arith) p
+    fixed-room-by Choosable n s t p q = room-more (omega arith) p
 
     pub fixed-room : (n : ℕ) → n ≤ loads .count → Room n (fixed (stance-at combination loads) (row-terms width loads) n)
     unfolding fixed
@@ -142,32 +142,32 @@ module _ (combination : Combination) (width : ℕ) (loads : Loads) where
         fixed-room-by (stance-at combination loads n) n _ _ (fixed-room n (omega arith)) (terms-room n (omega arith))
 
 -- every place of the table that is in use is that of a choosable row
-choosable-onto : (stance : ℕ → Stance) (n j : ℕ) → j < choosable stance n → (i : ℕ) × (i < n) × (stance i ≡ Either) × (choosable stance i ≡ j)
+choosable-onto : (stance : ℕ → Stance) (n j : ℕ) → j < choosable stance n → (i : ℕ) × (i < n) × (stance i ≡ Choosable) × (choosable stance i ≡ j)
 unfolding choosable next
 choosable-onto stance zero j h = absurd (omega arith)
 choosable-onto stance (suc n) j h = go (stance n) refl (λ l. choosable-onto stance n j l) h
   where
-    Found-at : Type 0
-    Found-at = (i : ℕ) × (i < suc n) × (stance i ≡ Either) × (choosable stance i ≡ j)
+    FoundAt : Type 0
+    FoundAt = (i : ℕ) × (i < suc n) × (stance i ≡ Choosable) × (choosable stance i ≡ j)
 
-    below : ((i : ℕ) × (i < n) × (stance i ≡ Either) × (choosable stance i ≡ j)) → Found-at
+    below : ((i : ℕ) × (i < n) × (stance i ≡ Choosable) × (choosable stance i ≡ j)) → FoundAt
     below w = (w .0, omega (arith, w .1), w .2, w .3)
 
-    go : (a : Stance) → stance n ≡ a → (j < choosable stance n → (i : ℕ) × (i < n) × (stance i ≡ Either) × (choosable stance i ≡ j)) → j < next a (choosable stance n) → Found-at
+    go : (a : Stance) → stance n ≡ a → (j < choosable stance n → (i : ℕ) × (i < n) × (stance i ≡ Choosable) × (choosable stance i ≡ j)) → j < next a (choosable stance n) → FoundAt
     go Never e before l = below (before l)
     go Always e before l = below (before l)
-    go Either e before l = by-cases (decLt j (choosable stance n)) (λ k. below (before k)) (λ k. (n, omega arith, e, omega arith))
+    go Choosable e before l = by-cases (decLt j (choosable stance n)) (λ k. below (before k)) (λ k. (n, omega arith, e, omega arith))
 
-pub filled-room : (combination : Combination) (width : ℕ) (loads : Loads) (table : Table) → width ≤ 30000 → Bounded loads → TableIs combination width loads (loads .count) table
+pub filled-room : (combination : Combination) (width : ℕ) (loads : Loads) (table : TermTable) → width ≤ 30000 → Bounded loads → TableIs combination width loads (loads .count) table
     → (j : ℕ) → j < table .choosable → Room 1 (terms-at (table .terms) j)
 filled-room combination width loads table w b f j h =
     let i = choosable-onto (stance-at combination loads) (loads .count) j (subst (λ (m : ℕ). j < m) (f .count) h) in
     subst (λ (x : ℕ). Room 1 (terms-at (table .terms) x)) (i .3) (subst⁻¹ (Room 1) (f .rows (i .0) (i .1) (i .2)) (terms-room combination width loads w b (i .0) (i .1)))
 
-pub filled-few : (combination : Combination) (width : ℕ) (loads : Loads) (table : Table) → Bounded loads → TableIs combination width loads (loads .count) table → table .choosable ≤ 16
+pub filled-few : (combination : Combination) (width : ℕ) (loads : Loads) (table : TermTable) → Bounded loads → TableIs combination width loads (loads .count) table → table .choosable ≤ 16
 filled-few combination width loads table b f = omega (arith, f .count, choosable-room (stance-at combination loads) (loads .count), b .count)
 
--- ---- no second table meets the promise of `fill`
+-- ---- no second table meets the promise of `table_of`
 
 -- the numbers of a row are read from its place
 row-cells : (t : List ℕ) (j g : ℕ) → g < 13 → getD t (13 * j + g) 0 ≡ getD (cells (terms-at t j)) g 0
@@ -187,7 +187,7 @@ row-cells t j (suc (suc (suc (suc (suc (suc (suc (suc (suc (suc (suc zero)))))))
 row-cells t j (suc (suc (suc (suc (suc (suc (suc (suc (suc (suc (suc (suc zero)))))))))))) h = refl
 row-cells t j (suc (suc (suc (suc (suc (suc (suc (suc (suc (suc (suc (suc (suc g))))))))))))) h = absurd (omega arith)
 
-module _ (combination : Combination) (width : ℕ) (loads : Loads) (n : ℕ) {s t : Table} (p : TableIs combination width loads n s) (q : TableIs combination width loads n t) where
+module _ (combination : Combination) (width : ℕ) (loads : Loads) (n : ℕ) {s t : TermTable} (p : TableIs combination width loads n s) (q : TableIs combination width loads n t) where
   as-many : s .choosable ≡ t .choosable
   as-many = p .count ∙ sym (q .count)
 

@@ -13,7 +13,7 @@ use Rattle.arithmetic.proofs.Cases.{by-cases}
 use Rattle.arithmetic.proofs.signed.Laws.{same-parts}
 use Rattle.sets.specs.declared.Sums.{Sums}
 use Rattle.sets.proofs.Adding.{same-sums, same-balance}
-use Rattle.worst.specs.steps.Table.{terms-at, cells, Puts}
+use Rattle.worst.specs.steps.Terms.{terms-at, cells, Puts}
 
 -- one number more
 pub write-own : (t row : List ℕ) (base f : ℕ) → base + f < length t → ((g : ℕ) → g < f → getD t (base + g) 0 ≡ getD row g 0)
@@ -38,7 +38,7 @@ module _ (t : List ℕ) (j : ℕ) where
         plus = same-balance (h 6 (lit< tt)) (h 7 (lit< tt));
         minus = same-balance (h 8 (lit< tt)) (h 9 (lit< tt));
         winds = h 10 (lit< tt);
-        quakes = h 11 (lit< tt);
+        earthquakes = h 11 (lit< tt);
         set = h 12 (lit< tt);
       })
 
@@ -52,7 +52,7 @@ row-kept t u i j l h =
       plus = same-balance (h (13 * i + 6) (omega arith)) (h (13 * i + 7) (omega arith));
       minus = same-balance (h (13 * i + 8) (omega arith)) (h (13 * i + 9) (omega arith));
       winds = h (13 * i + 10) (omega arith);
-      quakes = h (13 * i + 11) (omega arith);
+      earthquakes = h (13 * i + 11) (omega arith);
       set = h (13 * i + 12) (omega arith);
     })
 

@@ -6,7 +6,7 @@ use native.Mathlib.Nat.{zero-add}
 use Rattle.sets.specs.declared.Sums.{Sums}
 use Rattle.worst.specs.steps.Stance.{chosen}
 use Rattle.worst.proofs.choices.Choices.{chosen-parts}
-use Rattle.worst.specs.steps.Table.{terms-at, terms-from}
+use Rattle.worst.specs.steps.Terms.{terms-at, terms-from}
 
 -- ---- the sums of a choice in two parts, the rows from a place on first and then those before it
 pub two-parts : (t : List ℕ) (first : Sums) (k low n : ℕ)

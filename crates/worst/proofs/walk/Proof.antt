@@ -19,13 +19,13 @@ use Rattle.checks.specs.declared.Check.the-variants.{OP, OM, SL, PR, RK}
 use Rattle.weighing.specs.declared.Worst.{Worst}
 use Rattle.weighing.specs.declared.ranked.RankedSet.{RankedSet}
 use Rattle.weighing.specs.steps.Weighs.{ranked-of, Low}
-use Rattle.worst.specs.steps.Filling.{TableIs}
+use Rattle.worst.specs.steps.TermTable.{TableIs}
 use Rattle.worst.specs.steps.Stance.{chosen}
 use Rattle.worst.proofs.choices.Choices.{chosen-room}
-use Rattle.worst.specs.steps.Table.{terms-at, terms-from}
+use Rattle.worst.specs.steps.Terms.{terms-at, terms-from}
 use Rattle.worst.proofs.term_table.Tables.{two-parts}
 use Rattle.worst.proofs.term_table.Filling.{fixed-room, filled-room, filled-few}
-use Rattle.worst.proofs.Walking.{So-far, choice-sums, set-number, set-low, one-choice, all-found, nothing-passed}
+use Rattle.worst.proofs.Walking.{SoFar, choice-sums, set-number, set-low, one-choice, all-found, nothing-passed}
 use Rattle.worst.proofs.walk.Statement.{statement}
 use Rattle.worst.proofs.walk.Tie as tie
 
@@ -33,7 +33,7 @@ abbrev Inv-loop : tie.InvT-loop
 Inv-loop combination base serves terms choosable fixed worst₀ low step choices upper₀ k₀ worst upper k = (k ≤ choices) × Low worst
     × (0 < k % step → upper ≡ chosen fixed (terms-from terms low) (k / step) (choosable - low))
     × ((loads : Loads) → Bounded loads → Arises combination loads → TableIs combination (base .width) loads (loads .count) (record { terms = terms; choosable = choosable; fixed = fixed })
-    → So-far combination base loads serves k (record { rank = 2 ^ 64 - 1; set = 0 }) worst)
+    → SoFar combination base loads serves k (record { rank = 2 ^ 64 - 1; set = 0 }) worst)
 
 abbrev μ-loop : tie.MeasureT-loop
 μ-loop combination base serves terms choosable fixed worst₀ low step choices upper₀ k₀ worst upper k = choices - k
@@ -74,33 +74,33 @@ same-part k step low s h =
     let e : (k + 1) / 2 ^ low * 2 ^ low + ((k + 1) % 2 ^ low - 1) ≡ k = omega (arith, split (k + 1) low, h) in
     sym (ap (λ (n : ℕ). n / 2 ^ low) (sym e) ∙ high ((k + 1) / 2 ^ low) low (omega (arith, mod-lt (k + 1) (pow-pos low))))) h
 
-module _ (c : tie.After-fill Inv-loop μ-loop) where
-  few : c .fill .result .choosable ≤ 16
-  few = filled-few _ _ _ _ (c .before .before .pre .1 .0) (c .fill .ensures)
+module _ (c : tie.After-table-of Inv-loop μ-loop) where
+  few : c .table-of .result .choosable ≤ 16
+  few = filled-few _ _ _ _ (c .before .before .pre .1 .0) (c .table-of .ensures)
 
-  stepped : (1 * 2 ^ (c .fill .result .choosable / 4)) % 2 ^ 64 ≡ 2 ^ (c .fill .result .choosable / 4)
+  stepped : (1 * 2 ^ (c .table-of .result .choosable / 4)) % 2 ^ 64 ≡ 2 ^ (c .table-of .result .choosable / 4)
   stepped = power _ (omega (arith, few))
 
-  some : 0 < (1 * 2 ^ (c .fill .result .choosable / 4)) % 2 ^ 64
+  some : 0 < (1 * 2 ^ (c .table-of .result .choosable / 4)) % 2 ^ 64
   some = subst⁻¹ (λ (n : ℕ). 0 < n) stepped (pow-pos _)
 
-  fixed-fits : Room 16 (c .fill .result .fixed)
+  fixed-fits : Room 16 (c .table-of .result .fixed)
   fixed-fits =
-      subst⁻¹ (Room 16) (c .fill .ensures .always) (room-more (c .before .before .pre .1 .0 .count) (fixed-room _ _ _ (c .before .before .pre .0 .width) (c .before .before .pre .1 .0) _ (le-refl _)))
+      subst⁻¹ (Room 16) (c .table-of .ensures .always) (room-more (c .before .before .pre .1 .0 .count) (fixed-room _ _ _ (c .before .before .pre .0 .width) (c .before .before .pre .1 .0) _ (le-refl _)))
 
-  row-fits : (j : ℕ) → j < c .fill .result .choosable → Room 1 (terms-at (c .fill .result .terms) j)
-  row-fits = filled-room _ _ _ _ (c .before .before .pre .0 .width) (c .before .before .pre .1 .0) (c .fill .ensures)
+  row-fits : (j : ℕ) → j < c .table-of .result .choosable → Room 1 (terms-at (c .table-of .result .terms) j)
+  row-fits = filled-room _ _ _ _ (c .before .before .pre .0 .width) (c .before .before .pre .1 .0) (c .table-of .ensures)
 
 -- the sums of the rows from `low` on, whether they were added for this choice or before
 upper-is : (c : tie.Joined1 Inv-loop μ-loop)
-    → let t = c .before .before .before .before .before .fill .result in
+    → let t = c .before .before .before .before .before .table-of .result in
     let step = (1 * 2 ^ (t .choosable / 4)) % 2 ^ 64 in
     c .if1 .upper ≡ chosen (t .fixed) (terms-from (t .terms) (t .choosable / 4)) (c .before .before .loop .k / step) (t .choosable - t .choosable / 4)
 upper-is c = ⊎-elim (λ w. w .3 ∙ w .2 .ensures) (λ w. w .1 ∙ c .before .before .loop .inv .2 (omega (arith, w .0 .left))) (c .if1 .came)
 
 -- the sums are those of the choice
 summed : (c : tie.After-sums-at2 Inv-loop μ-loop)
-    → let t = c .before .before .before .before .before .before .before .fill .result in
+    → let t = c .before .before .before .before .before .before .before .table-of .result in
     c .sums-at2 .result ≡ chosen (t .fixed) (terms-at (t .terms)) (c .before .before .before .before .loop .k) (t .choosable)
 summed c =
     c .sums-at2 .ensures
@@ -109,8 +109,8 @@ summed c =
 serves-requires : tie.Need-serves-requires Inv-loop μ-loop
 serves-requires c κs = search needs
 
-fill-requires : tie.Need-fill-requires Inv-loop μ-loop
-fill-requires c κs = (c .before .pre .0 .width, c .before .pre .1 .0)
+table-of-requires : tie.Need-table-of-requires Inv-loop μ-loop
+table-of-requires c κs = (c .before .pre .0 .width, c .before .pre .1 .0)
 
 shl-step : tie.Need-shl-step Inv-loop μ-loop
 shl-step c = omega (arith, few (c .before .before))
@@ -121,7 +121,7 @@ shl-choices c = omega (arith, few (c .before .before))
 loop-holds : tie.Need-loop-holds Inv-loop μ-loop
 unfolding Low ranked-of start none
 loop-holds c =
-    (search needs, none-low, (λ h. absurd (omega (arith, zero-mod ((1 * 2 ^ (c .before .before .fill .result .choosable / 4)) % 2 ^ 64), h))), λ loads bounded arises filled. nothing-passed _ _ loads bounded arises _ none _ none-yet)
+    (search needs, none-low, (λ h. absurd (omega (arith, zero-mod ((1 * 2 ^ (c .before .before .table-of .result .choosable / 4)) % 2 ^ 64), h))), λ loads bounded arises filled. nothing-passed _ _ loads bounded arises _ none _ none-yet)
 
 rem-if1 : tie.Need-rem-if1 Inv-loop μ-loop
 rem-if1 c = some (c .before .before .before .before)
@@ -159,7 +159,7 @@ visit-requires c κs =
     let e = c .before .before .before .before .before .before .before .before .before in
     let a = e .args in
     let k = c .before .before .before .before .loop .k in
-    let same = summed c ∙ choice-sums (a .combination) (a .base) (a .loads) (e .pre .1 .0) (e .pre .1 .1) _ k (c .before .before .before .before .before .before .before .fill .ensures) in (
+    let same = summed c ∙ choice-sums (a .combination) (a .base) (a .loads) (e .pre .1 .0) (e .pre .1 .1) _ k (c .before .before .before .before .before .before .before .table-of .ensures) in (
       e .pre .0,
       (
         subst⁻¹ (Room 16) same (room-all _ _ _ (e .pre .0 .width) (e .pre .1 .0)),
@@ -179,7 +179,7 @@ loop-again c =
     let inv = c .before .before .before .before .before .loop .inv in
     let k = c .before .before .before .before .before .loop .k in
     let f = c .before .before .before .before .before .before .before .before in
-    let t = f .fill .result in
+    let t = f .table-of .result in
     let a = f .before .before .args in (
       omega (arith, c .before .before .before .before .loop-test .taken),
       c .visit .ensures .low,
@@ -194,8 +194,8 @@ returns c =
     let inv = c .before .loop .inv in
     let f = c .before .before .before .before in
     all-found (e .args .combination) (e .args .base) (e .args .loads) (e .pre .1 .0) (e .pre .1 .1) _ _ none _
-    (le-antisymm (inv .0) (c .loop-test .left) ∙ power _ (few f) ∙ ap (λ (n : ℕ). 2 ^ n) (f .fill .ensures .count)) refl refl (c .before .before .before .before .before .serves .ensures)
-    (inv .3 _ (e .pre .1 .0) (e .pre .1 .1) (f .fill .ensures))
+    (le-antisymm (inv .0) (c .loop-test .left) ∙ power _ (few f) ∙ ap (λ (n : ℕ). 2 ^ n) (f .table-of .ensures .count)) refl refl (c .before .before .before .before .before .serves .ensures)
+    (inv .3 _ (e .pre .1 .0) (e .pre .1 .1) (f .table-of .ensures))
 
 pub walk-spec : {M : Type 1} → statement M
 walk-spec =
@@ -204,7 +204,7 @@ walk-spec =
     Inv-loop
     μ-loop
     serves-requires
-    fill-requires
+    table-of-requires
     shl-step
     shl-choices
     loop-holds

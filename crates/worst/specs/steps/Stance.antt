@@ -12,20 +12,20 @@ use Rattle.sets.specs.declared.Loads.{Loads}
 use Rattle.sets.specs.Sets.{bit, own-phase, row}
 use Rattle.sets.specs.steps.Sums.{no-sums, add, add-if, terms-of}
 use Rattle.worst.specs.declared.choices.Stance.{Stance}
-use Rattle.worst.specs.declared.choices.Stance.the-variants.{Never, Always, Either}
+use Rattle.worst.specs.declared.choices.Stance.the-variants.{Never, Always, Choosable}
 
 -- a row that acts: WL and SF stand apart where the combination has none of them
 unfoldable pub by-class : Combination → Class → Stance
 by-class k Permanent = Always
-by-class k Free = Either
+by-class k Free = Choosable
 by-class I Wind = Never
-by-class II Wind = Either
+by-class II Wind = Choosable
 by-class III Wind = Never
-by-class IV Wind = Either
+by-class IV Wind = Choosable
 by-class I Earthquake = Never
 by-class II Earthquake = Never
-by-class III Earthquake = Either
-by-class IV Earthquake = Either
+by-class III Earthquake = Choosable
+by-class IV Earthquake = Choosable
 
 -- the row's phase is the combination's own or 2
 unfoldable pub acting : Combination → ℕ → Bool
@@ -40,12 +40,12 @@ stance-of k load = cond (acting k (load .phase)) (by-class k (load .class)) Neve
 unfoldable pub held-by : Stance → ℕ → ℕ
 held-by Never b = 0
 held-by Always b = 1
-held-by Either b = b
+held-by Choosable b = b
 
 unfoldable pub next : Stance → ℕ → ℕ
 next Never m = m
 next Always m = m
-next Either m = suc m
+next Choosable m = suc m
 
 -- how many of the first n rows are choosable
 unfoldable pub choosable : (ℕ → Stance) → ℕ → ℕ
@@ -65,7 +65,7 @@ pick stance (suc n) k = join (held-by (stance n) (bit k (choosable stance n))) (
 unfoldable pub fixed-by : Stance → Sums → Sums → Sums
 fixed-by Never s t = s
 fixed-by Always s t = add s t
-fixed-by Either s t = s
+fixed-by Choosable s t = s
 
 unfoldable pub fixed : (ℕ → Stance) → (ℕ → Sums) → ℕ → Sums
 fixed stance terms zero = no-sums

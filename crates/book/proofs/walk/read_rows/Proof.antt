@@ -103,7 +103,7 @@ returns-2 c =
 enum-told-3 : tie.Need-enum-told-3 Inv-loop μ-loop
 enum-told-3 c = search needs
 
--- a job that may-begin is one of 64
+-- a job that may begin is one of 64
 begun-few : (c : tie.After-enum-told3 Inv-loop μ-loop) → c .before .before .before .before .before .before .before .before .loop .n < 64
 begun-few c = begun-new (c .before .before .may-begin .ensures) (c .enum-told3 .given .1) .0
 

@@ -27,7 +27,7 @@ returns : tie.Need-returns
 returns c =
     let e = c .before .before .before .args in
     let ranked = c .before .rank-of .ensures in
-    let same = rank-one (side (e .check)) _ _ (ranked .sound) (c .figure-at .ensures .0) (ranked .ranked ∙ sym (c .figure-at .ensures .1)) in
+    let same = rank-one (side (e .check)) _ _ (ranked .has-rank) (c .figure-at .ensures .0) (ranked .ranked ∙ sym (c .figure-at .ensures .1)) in
     by-sums-shows (e .base) (e .loads) (e .set) (e .check) _
     (subst₂ (λ (s : Sums) (v : Figure). ShowsBySums (e .check) (e .base) s v) (c .before .before .sums-of .ensures) same (ranked .holds))
 

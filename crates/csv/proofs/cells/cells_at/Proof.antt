@@ -55,13 +55,13 @@ is-end End h n = refl
 is-end Bad h n = absurd (n refl)
 
 -- one field further on: no more fields are passed than bytes
-abbrev further : (c : tie.After-field-end Inv-loop μ-loop) → ℕ → Type 0
-further c next = (c .before .loop .n ≤ c .before .loop .at) × FieldStep (text c) (c .before .loop .at) next
+abbrev Further : (c : tie.After-field-end Inv-loop μ-loop) → ℕ → Type 0
+Further c next = (c .before .loop .n ≤ c .before .loop .at) × FieldStep (text c) (c .before .loop .at) next
 
-after-comma : (c : tie.After-f Inv-loop μ-loop) → further (c .before .before .before) (c .f .given .0 .0 + 1)
+after-comma : (c : tie.After-f Inv-loop μ-loop) → Further (c .before .before .before) (c .f .given .0 .0 + 1)
 after-comma c = let at-field = c .before .before .before in (at-field .before .loop .inv .few, step-comma _ _ _ (ends at-field (Comma _) (c .f .given .1)))
 
-after-row : (c : tie.After-f2 Inv-loop μ-loop) → further (c .before .before .before) (c .f2 .given .0 .0 + 2)
+after-row : (c : tie.After-f2 Inv-loop μ-loop) → Further (c .before .before .before) (c .f2 .given .0 .0 + 2)
 after-row c = let at-field = c .before .before .before in (at-field .before .loop .inv .few, step-row _ _ _ (ends at-field (Row _) (c .f2 .given .1)))
 
 field-end-requires : tie.Need-field-end-requires Inv-loop μ-loop

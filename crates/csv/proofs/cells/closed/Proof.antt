@@ -1,4 +1,4 @@
--- n + 1 fields fit, and the ends with the last one with-place are what `with-place` promises; the rest is handed on.
+-- n + 1 fields fit, and the ends with the last one put in are what `with_place` promises; the rest is handed on.
 use borrow.Author.Needs.{needs}
 use Rattle.csv.proofs.cells.closed.Statement.{statement}
 use Rattle.csv.proofs.cells.closed.Tie as tie

@@ -10,9 +10,9 @@ use Rattle.jobs.specs.declared.Job.{Job}
 use Rattle.debtarush.specs.finding.JobAt.{JobAt, there}
 use Rattle.debtarush.proofs.finding.Found.{the-type}
 use Rattle.debtarush.specs.declared.finding.Found.{Found}
-use Rattle.debtarush.specs.declared.finding.Found.the-variants.{There, Book, NoPlace}
+use Rattle.debtarush.specs.declared.finding.Found.the-variants.{There, BookRefused, NoPlace}
 use Rattle.debtarush.proofs.finding.FoundAnswers.{book-there, nowhere-there}
-use Rattle.debtarush.proofs.finding.Placing.{JobThere, job-there, outside}
+use Rattle.debtarush.proofs.finding.Locating.{JobThere, job-there, outside}
 use denote.Ref.{now}
 use borrow.Author.Needs.{needs}
 use Rattle.debtarush.proofs.finding.job_at.Statement.{statement}
@@ -29,7 +29,7 @@ module _ (c : tie.After-enum-told) where
 -- and one that has none, known by its place among what can be found
 none-there : (f : Found) → OneOf (1 ∷ 2 ∷ []) (tagOf the-type f) → f ≡ There → ⊥
 none-there There t e = ⊎-elim (λ k. omega arith) (λ k. omega arith) t
-none-there (Book why row) t e = book-there refl e
+none-there (BookRefused why row) t e = book-there refl e
 none-there NoPlace t e = nowhere-there refl e
 
 read-book-requires : tie.Need-read-book-requires

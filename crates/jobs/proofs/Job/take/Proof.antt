@@ -19,7 +19,7 @@ use Rattle.jobs.specs.Taking.{take-told, TakeSays}
 use Rattle.jobs.specs.declared.Job.{Job}
 use Rattle.jobs.specs.declared.Took.{Took}
 use Rattle.jobs.specs.declared.Took.the-variants.{Started, Joined}
-use Rattle.jobs.proofs.Placing.{answer-to, out-of-place, bears-few, taken}
+use Rattle.jobs.proofs.Taking.{answer-to, out-of-place, bears-few, taken}
 use Rattle.jobs.proofs.Job.take.Statement.{statement}
 use Rattle.jobs.proofs.Job.take.Tie as tie
 

@@ -1,7 +1,7 @@
 -- The tests go by the stage's number, and no two stages share one: so for each role its test is what `Fits` asks of the stage.
 use mathlib.Core.Path.{_≡_, sym, ap, _∙_}
 use mathlib.Core.Logic.{⊎-elim}
-use Rattle.jobs.proofs.stages.Placing.{stage-level, base-fits, scour-fits, clearance-fits, load-fits}
+use Rattle.jobs.proofs.stages.Fitting.{stage-level, base-fits, scour-fits, clearance-fits, load-fits}
 use borrow.Author.Needs.{needs}
 use Rattle.jobs.proofs.stages.fits.Statement.{statement}
 use Rattle.jobs.proofs.stages.fits.Tie as tie

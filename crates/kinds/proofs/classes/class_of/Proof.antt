@@ -5,7 +5,7 @@ use mathlib.Core.List.{[], _∷_}
 use Rattle.kinds.specs.declared.Kind.the-variants.{B, S, C, E, DL, EP, LL, LF, CF, WC, BU, TM, EX}
 use Rattle.sets.specs.declared.Class.the-variants.{Permanent, Free}
 use Rattle.kinds.specs.classes.Classes.{class-of}
-use Rattle.kinds.proofs.Arms.{arm}
+use Rattle.kinds.proofs.Arms.{kind-arm}
 use Rattle.kinds.proofs.classes.class_of.Statement.{statement}
 use Rattle.kinds.proofs.classes.class_of.Tie as tie
 
@@ -17,11 +17,11 @@ enum-told-2 c = search needs
 
 returns : tie.Need-returns
 unfolding class-of
-returns c = arm class-of Permanent (B ∷ S ∷ C ∷ E ∷ DL ∷ EP ∷ []) (c .before .args .kind) refl (c .match .keys1)
+returns c = kind-arm class-of Permanent (B ∷ S ∷ C ∷ E ∷ DL ∷ EP ∷ []) (c .before .args .kind) refl (c .match .keys1)
 
 returns-2 : tie.Need-returns-2
 unfolding class-of
-returns-2 c = arm class-of Free (LL ∷ LF ∷ CF ∷ WC ∷ BU ∷ TM ∷ EX ∷ []) (c .before .args .kind) refl (c .match .keys2)
+returns-2 c = kind-arm class-of Free (LL ∷ LF ∷ CF ∷ WC ∷ BU ∷ TM ∷ EX ∷ []) (c .before .args .kind) refl (c .match .keys2)
 
 returns-3 : tie.Need-returns-3
 unfolding class-of

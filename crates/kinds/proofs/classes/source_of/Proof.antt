@@ -5,7 +5,7 @@ use mathlib.Core.List.{[], _∷_}
 use Rattle.kinds.specs.declared.Kind.the-variants.{B, S, C, DL, EP, LL, LF, CF, WC, BU, TM, EX, WL, SF}
 use Rattle.kinds.specs.declared.classes.Source.the-variants.{Absent, Own}
 use Rattle.kinds.specs.classes.Classes.{source}
-use Rattle.kinds.proofs.Arms.{arm}
+use Rattle.kinds.proofs.Arms.{kind-arm}
 use Rattle.kinds.proofs.classes.source_of.Statement.{statement}
 use Rattle.kinds.proofs.classes.source_of.Tie as tie
 
@@ -14,7 +14,7 @@ enum-told c = search needs
 
 returns : tie.Need-returns
 unfolding source
-returns c = arm source Absent (B ∷ S ∷ C ∷ []) (c .before .args .kind) refl (c .match .keys1)
+returns c = kind-arm source Absent (B ∷ S ∷ C ∷ []) (c .before .args .kind) refl (c .match .keys1)
 
 returns-2 : tie.Need-returns-2
 unfolding source
@@ -22,7 +22,7 @@ returns-2 c = search needs
 
 returns-3 : tie.Need-returns-3
 unfolding source
-returns-3 c = arm source Own (DL ∷ EP ∷ LL ∷ LF ∷ CF ∷ WC ∷ BU ∷ TM ∷ EX ∷ WL ∷ SF ∷ []) (c .before .args .kind) refl (c .match .keys3)
+returns-3 c = kind-arm source Own (DL ∷ EP ∷ LL ∷ LF ∷ CF ∷ WC ∷ BU ∷ TM ∷ EX ∷ WL ∷ SF ∷ []) (c .before .args .kind) refl (c .match .keys3)
 
 pub source-of-spec : {M : Type 1} → statement M
 source-of-spec = tie.close (tie.spec enum-told returns returns-2 returns-3)

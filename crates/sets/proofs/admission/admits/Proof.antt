@@ -15,9 +15,9 @@ use Rattle.sets.proofs.admission.admits.Tie as tie
 -- In a set that has a row, the test r is the answer where it is passed exactly when so many rows may act together.
 module _ (c : tie.Else1) (j : Combination) (r : Bool) where
   abbrev TogetherIn : Combination → Type 0
-  TogetherIn k = Together k (c .before .args .winds) (c .before .args .quakes)
+  TogetherIn k = Together k (c .before .args .winds) (c .before .args .earthquakes)
 
-  answer : c .before .args .combination ≡ j → (r ≡ true → TogetherIn j) → (TogetherIn j → r ≡ true) → Decides r (Admits (c .before .args .combination) (c .before .args .winds) (c .before .args .quakes) (c .before .args .set))
+  answer : c .before .args .combination ≡ j → (r ≡ true → TogetherIn j) → (TogetherIn j → r ≡ true) → Decides r (Admits (c .before .args .combination) (c .before .args .winds) (c .before .args .earthquakes) (c .before .args .set))
   answer told passed asked =
       decides-same r
       (λ p. record { some = omega (arith, c .if1 .left); together = subst⁻¹ TogetherIn told (passed p) })

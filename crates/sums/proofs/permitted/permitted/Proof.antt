@@ -17,7 +17,7 @@ use Rattle.sets.specs.steps.Deciding.{Admits, Arises, RowFits}
 use Rattle.sets.specs.Sets.{Permitted, row, bit}
 use Rattle.sets.proofs.Bits.{bit-is, next-bits, no-rest, no-bits-left}
 use Rattle.sets.proofs.Occasions.{permitted-arises}
-use Rattle.sets.proofs.admission.Permits.{Fit, permitted-fits, decides-permitted}
+use Rattle.sets.proofs.admission.Admitted.{Fit, permitted-fits, decides-permitted}
 use Rattle.sums.proofs.permitted.permitted.Statement.{statement}
 use Rattle.sums.proofs.permitted.permitted.Tie as tie
 
@@ -39,7 +39,7 @@ module _ (combination : Combination) (loads : Loads) (set : ℕ) where
       (decides-both (Fitting i) (rest ≡ 0) fits (eqb rest 0) d (decides-equal rest 0))
 
   permitted-by : (fit arises admitted : Bool) → Decides fit (Fit 0 loads set combination) → Decides arises (Arises combination loads)
-      → Decides admitted (Admits combination (sums-of 0 loads set .winds) (sums-of 0 loads set .quakes) set) → Decides ((fit && arises) && admitted) (Permitted combination loads set)
+      → Decides admitted (Admits combination (sums-of 0 loads set .winds) (sums-of 0 loads set .earthquakes) set) → Decides ((fit && arises) && admitted) (Permitted combination loads set)
   permitted-by true true admitted f o a = decides-permitted 0 loads set combination admitted f o a
   permitted-by true false admitted f n a = λ p. n (permitted-arises loads combination set p)
   permitted-by false arises admitted n o a = λ p. n (permitted-fits 0 loads set combination p)
@@ -99,7 +99,7 @@ returns c =
     let a = at .before .args in
     permitted-by (a .combination) (a .t2) (a .set) (at .loop .fits && eqb (at .loop .rest) 0) (asked .arises .result) (c .admits .result)
     (all-rows (a .combination) (a .t2) (a .set) (at .loop .i) (at .loop .rest) (at .loop .fits) (inv .0) (past .loop-test .left) (inv .1) (inv .2)) (asked .arises .ensures)
-    (subst (λ (s : Sums). Decides (c .admits .result) (Admits (a .combination) (s .winds) (s .quakes) (a .set))) (summed .sums-of .ensures) (c .admits .ensures))
+    (subst (λ (s : Sums). Decides (c .admits .result) (Admits (a .combination) (s .winds) (s .earthquakes) (a .set))) (summed .sums-of .ensures) (c .admits .ensures))
 
 pub permitted-spec : {M : Type 1} → statement M
 permitted-spec =

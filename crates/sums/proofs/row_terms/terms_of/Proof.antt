@@ -15,7 +15,7 @@ use Rattle.sets.specs.declared.Class.the-variants.{Permanent, Free, Wind, Earth
 use Rattle.sets.specs.declared.Load.{Load}
 use Rattle.sets.proofs.Class.{the-type}
 use Rattle.sets.specs.Totals.{plus, minus}
-use Rattle.sets.specs.steps.Sums.{terms-of, moment-of, balance-of, is-wind, is-quake, arm-by, balance-by, moment-by}
+use Rattle.sets.specs.steps.Sums.{terms-of, moment-of, balance-of, is-wind, is-earthquake, arm-by, balance-by, moment-by}
 use Rattle.sets.proofs.Arms.{class-arm}
 use Rattle.sets.proofs.Adding.{same-sums, parts-low, arm-plus, arm-minus, balance-plus, balance-minus, moment-parts}
 use Rattle.sums.proofs.row_terms.terms_of.Statement.{statement}
@@ -26,9 +26,9 @@ windless : (k : Class) → OneOf (0 ∷ 1 ∷ 3 ∷ []) (tagOf the-type k) → 0
 unfolding is-wind
 windless k t = class-arm (λ k. 0 ≡ is-wind k) (Permanent ∷ Free ∷ Earthquake ∷ []) k (refl, (refl, refl)) t
 
-quakeless : (k : Class) → OneOf (0 ∷ 1 ∷ 2 ∷ []) (tagOf the-type k) → 0 ≡ is-quake k
-unfolding is-quake
-quakeless k t = class-arm (λ k. 0 ≡ is-quake k) (Permanent ∷ Free ∷ Wind ∷ []) k (refl, (refl, refl)) t
+earthquakeless : (k : Class) → OneOf (0 ∷ 1 ∷ 2 ∷ []) (tagOf the-type k) → 0 ≡ is-earthquake k
+unfolding is-earthquake
+earthquakeless k t = class-arm (λ k. 0 ≡ is-earthquake k) (Permanent ∷ Free ∷ Wind ∷ []) k (refl, (refl, refl)) t
 
 -- V and x are small, and the twist is not much larger
 abbrev start : tie.After-parts-of4 → tie.Start
@@ -78,15 +78,15 @@ add-t17 c = omega (arith, turned-low (c .before .before .before .before), twist-
 mul-t18 : tie.Need-mul-t18
 mul-t18 c = omega (arith, turned-low (c .before .before .before .before), twist-low (c .before .before .before .before .before))
 
-balance-of-requires : tie.Need-balance-of-requires
-balance-of-requires c κs =
+balance-by-requires : tie.Need-balance-by-requires
+balance-by-requires c κs =
     let p = c .before .before .before .before .before in
     let x = x-low p in
     let t = twist-low p in
     (v-small p, (((start p) .pre .0, omega arith, omega arith), (omega arith, omega arith)))
 
-balance-of-requires-2 : tie.Need-balance-of-requires-2
-balance-of-requires-2 c κs =
+balance-by-requires-2 : tie.Need-balance-by-requires-2
+balance-by-requires-2 c κs =
     let p = c .before .before .before .before .before .before in
     let x = x-low p in
     let t = twist-low p in
@@ -104,7 +104,7 @@ unfolding moment-by
 twice p v x t e = rw e (same-parts (omega arith) (omega arith))
 
 -- all but the counts of wind and earthquake rows
-module _ (c : tie.After-balance-of2) where
+module _ (c : tie.After-balance-by2) where
   abbrev turned : tie.After-product
   turned = c .before .before .before .before .before .before
 
@@ -129,18 +129,18 @@ module _ (c : tie.After-balance-of2) where
   m-is : record { above = 2 * (turned .product .result .above + turned .before .parts-of4 .result .above); below = 2 * (turned .product .result .below + turned .before .parts-of4 .result .below) } ≡ moment-of load
   m-is = twice _ _ _ _ (turned .product .ensures) ∙ (λ i. moment-by (v-is i) (x-is i) (twist-is i)) ∙ moment-parts load
 
-  plus-is : c .before .balance-of .result ≡ balance-of plus width load
+  plus-is : c .before .balance-by .result ≡ balance-of plus width load
   unfolding parts-of
   plus-is =
-      c .before .balance-of .ensures
+      c .before .balance-by .ensures
       ∙ (λ i. balance-by (v-is i) (arm-by width ((x-is i) .above) ((x-is i) .below)) ((twist-is i) .below) ((twist-is i) .above))
       ∙ (λ i. balance-by (parts-of (worth (load .v))) (arm-plus width (worth (load .x)) i) (below (worth (load .twist))) (above (worth (load .twist))))
       ∙ balance-plus width load
 
-  minus-is : c .balance-of2 .result ≡ balance-of minus width load
+  minus-is : c .balance-by2 .result ≡ balance-of minus width load
   unfolding parts-of
   minus-is =
-      c .balance-of2 .ensures
+      c .balance-by2 .ensures
       ∙ (λ i. balance-by (v-is i) (arm-by width ((x-is i) .below) ((x-is i) .above)) ((twist-is i) .above) ((twist-is i) .below))
       ∙ (λ i. balance-by (parts-of (worth (load .v))) (arm-minus width (worth (load .x)) i) (above (worth (load .twist))) (below (worth (load .twist))))
       ∙ balance-minus width load
@@ -151,7 +151,7 @@ winds-is c =
     ⊎-elim (λ w. w .2 ∙ sym (ap is-wind (w .1 .given .1))) (λ w. w .1 ∙ windless (load (c .before) .class) (w .0 .keys2)) (c .match .came)
 
 returns : tie.Need-returns
-unfolding is-quake terms-of
+unfolding is-earthquake terms-of
 returns c =
     let d = c .before .before .before in
     same-sums (record {
@@ -161,7 +161,7 @@ returns c =
       plus = plus-is d;
       minus = minus-is d;
       winds = winds-is (c .before .before);
-      quakes = sym (ap is-quake (c .enum-told2 .given .1));
+      earthquakes = sym (ap is-earthquake (c .enum-told2 .given .1));
       set = refl;
     })
 
@@ -176,7 +176,7 @@ returns-2 c =
       plus = plus-is d;
       minus = minus-is d;
       winds = winds-is (c .before);
-      quakes = quakeless (load d .class) (c .match2 .keys2);
+      earthquakes = earthquakeless (load d .class) (c .match2 .keys2);
       set = refl;
     })
 
@@ -193,8 +193,8 @@ terms-of-spec =
     mul-t16
     add-t17
     mul-t18
-    balance-of-requires
-    balance-of-requires-2
+    balance-by-requires
+    balance-by-requires-2
     enum-told
     enum-told-2
     returns

@@ -1,4 +1,4 @@
--- Fewest rows first, then the smallest number; a place is one number that has this order.
+-- Fewest rows first, then the smallest number; `tie-order` is one number that has this order.
 use Rattle.weighing.proofs.ranked.Weights.{before-decides}
 use Rattle.weighing.proofs.ranked.fewer.Statement.{statement}
 use Rattle.weighing.proofs.ranked.fewer.Tie as tie

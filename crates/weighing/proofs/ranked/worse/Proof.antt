@@ -1,18 +1,18 @@
--- A lower rank comes first whatever the sets; of equal ranks the set with the earlier place does. What comes first weighs less, and is the worse.
+-- A lower rank comes first whatever the sets; of equal ranks the set that is earlier in order does. What comes first weighs less, and is the worse.
 use mathlib.Core.Path.{_≡_, subst⁻¹}
 use mathlib.Core.Logic.{⊎-elim}
 use mathlib.Core.Bool.{Bool, _||_}
 use Prim.Native.Nat.{_<_}
 use lib.Dec.{eqb, ltb}
 use Rattle.arithmetic.specs.decides.Decides.{Decides, decided, refuted, decides-same, decides-either, decides-below, decides-equal}
-use Rattle.weighing.specs.steps.Ranked.{place, weight-of}
+use Rattle.weighing.specs.steps.Ranked.{tie-order, weight-of}
 use Rattle.weighing.proofs.ranked.Weights.{Leads, leads-weighs, follows-weighs, worse-of-new, worse-of-old}
 use Rattle.weighing.proofs.ranked.worse.Statement.{statement}
 use Rattle.weighing.proofs.ranked.worse.Tie as tie
 
 module _ (c : tie.Joined1) where
   abbrev Tied : Type 0
-  Tied = let a = c .before .before .args in (a .rank ≡ a .worst .rank) × (place (a .set) < place (a .worst .set))
+  Tied = let a = c .before .before .args in (a .rank ≡ a .worst .rank) × (tie-order (a .set) < tie-order (a .worst .set))
 
   first-of-tie : Decides (c .if1 .first-of-tie) Tied
   first-of-tie =

@@ -8,7 +8,7 @@ use Rattle.arithmetic.specs.decides.Decides.{decided, refuted}
 use Rattle.sets.specs.declared.Class.the-variants.{Wind, Earthquake}
 use Rattle.sets.specs.declared.Combination.the-variants.{I, II, III, IV}
 use Rattle.sets.proofs.Arms.{combination-arm}
-use Rattle.worst.specs.declared.choices.Stance.the-variants.{Never, Either}
+use Rattle.worst.specs.declared.choices.Stance.the-variants.{Never, Choosable}
 use Rattle.worst.specs.steps.Stance.{by-class, stance-of}
 use Rattle.worst.proofs.choices.Rows.{stands-never, stands-acting}
 use Rattle.worst.proofs.choices.stance_of.Statement.{statement}
@@ -53,7 +53,7 @@ returns-4 c =
 returns-5 : tie.Need-returns-5
 unfolding by-class
 returns-5 c =
-    sym (combination-arm (λ k. by-class k Wind ≡ Either) (II ∷ IV ∷ []) (c .before .before .before .before .before .args .combination) (refl, refl) (c .match2 .keys2)) ∙ sym (ap (by-class _) (c .before .enum-told3 .given .1)) ∙ acting (c .before .before .before)
+    sym (combination-arm (λ k. by-class k Wind ≡ Choosable) (II ∷ IV ∷ []) (c .before .before .before .before .before .args .combination) (refl, refl) (c .match2 .keys2)) ∙ sym (ap (by-class _) (c .before .enum-told3 .given .1)) ∙ acting (c .before .before .before)
 
 returns-6 : tie.Need-returns-6
 unfolding by-class
@@ -63,7 +63,7 @@ returns-6 c =
 returns-7 : tie.Need-returns-7
 unfolding by-class
 returns-7 c =
-    sym (combination-arm (λ k. by-class k Earthquake ≡ Either) (III ∷ IV ∷ []) (c .before .before .before .before .before .args .combination) (refl, refl) (c .match3 .keys2)) ∙ sym (ap (by-class _) (c .before .enum-told4 .given .1)) ∙ acting (c .before .before .before)
+    sym (combination-arm (λ k. by-class k Earthquake ≡ Choosable) (III ∷ IV ∷ []) (c .before .before .before .before .before .args .combination) (refl, refl) (c .match3 .keys2)) ∙ sym (ap (by-class _) (c .before .enum-told4 .given .1)) ∙ acting (c .before .before .before)
 
 pub stance-of-spec : {M : Type 1} → statement M
 stance-of-spec =

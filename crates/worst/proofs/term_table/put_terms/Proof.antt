@@ -5,7 +5,7 @@ use mathlib.Core.Path.{_≡_, refl}
 use mathlib.Core.Logic.{_⊎_}
 use Prim.Native.Nat.{ℕ, _+_, _*_, _-_, _≤_, _<_}
 use lib.ListN.{getD, length, length-set}
-use Rattle.worst.specs.steps.Table.{cells}
+use Rattle.worst.specs.steps.Terms.{cells}
 use Rattle.worst.proofs.term_table.Rows.{write-own, write-kept}
 use Rattle.worst.proofs.term_table.put_terms.Statement.{statement}
 use Rattle.worst.proofs.term_table.put_terms.Tie as tie

@@ -10,7 +10,7 @@ use Rattle.sets.specs.steps.Sums.{add, add-if, Room}
 use Rattle.sets.proofs.Bits.{bit-is, next-bits, bit-not-one}
 use Rattle.sets.proofs.Adding.{room-more, add-if-in, add-if-out}
 use Rattle.worst.specs.steps.Stance.{chosen}
-use Rattle.worst.specs.steps.Table.{terms-from}
+use Rattle.worst.specs.steps.Terms.{terms-from}
 use Rattle.worst.proofs.choices.Choices.{chosen-none, chosen-more, chosen-room}
 use Rattle.worst.proofs.term_table.sums_at.Statement.{statement}
 use Rattle.worst.proofs.term_table.sums_at.Tie as tie

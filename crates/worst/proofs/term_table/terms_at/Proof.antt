@@ -1,7 +1,7 @@
 -- Row j holds the 13 numbers from 13·j on. j is below 16, so all of them are among the 208, and they are read in the definition's order.
 use borrow.Author.Needs.{needs}
 use mathlib.Core.Path.{refl}
-use Rattle.worst.specs.steps.Table.{terms-at}
+use Rattle.worst.specs.steps.Terms.{terms-at}
 use Rattle.worst.proofs.term_table.terms_at.Statement.{statement}
 use Rattle.worst.proofs.term_table.terms_at.Tie as tie
 

@@ -10,7 +10,7 @@ use Rattle.kinds.specs.declared.Role.the-variants.{Base, Scour, Clearance, Load
 use Rattle.rows.specs.declared.keys.Keyed.{Keyed}
 use Rattle.jobs.specs.stages.Fits.{Fits}
 use Rattle.jobs.specs.declared.stages.Stage.{Stage}
-use Rattle.jobs.proofs.stages.Placing.{fits-map}
+use Rattle.jobs.proofs.stages.Fitting.{fits-map}
 use Rattle.jobs.specs.Place.{InPlace, with-row}
 use Rattle.jobs.specs.Taking.{take-told, TakeSays}
 use Rattle.jobs.specs.declared.Job.{Job}

@@ -6,7 +6,7 @@ use native.Mathlib.Omega.{arith}
 use lib.Dec.{eqb}
 use lib.IntN.{pos, negsuc}
 use Rattle.arithmetic.specs.signed.Whole.{signed}
-use Rattle.clearance.specs.Told.{ClearanceTold, refused, given, clearance-told, NoMinusZero, ClearanceAnswered}
+use Rattle.clearance.specs.ClearanceTold.{ClearanceTold, refused, given, clearance-told, NoMinusZero, ClearanceAnswered}
 use Rattle.clearance.specs.declared.ClearanceAnswer.{ClearanceAnswer}
 use Rattle.clearance.specs.declared.ClearanceAnswer.the-variants.{OutOfRange, OverObstructed, Given}
 

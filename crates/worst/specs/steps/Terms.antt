@@ -15,7 +15,7 @@ terms-at t j =
       plus = record { resisting = getD t (13 * j + 6) 0; overturning = getD t (13 * j + 7) 0 };
       minus = record { resisting = getD t (13 * j + 8) 0; overturning = getD t (13 * j + 9) 0 };
       winds = getD t (13 * j + 10) 0;
-      quakes = getD t (13 * j + 11) 0;
+      earthquakes = getD t (13 * j + 11) 0;
       set = getD t (13 * j + 12) 0;
     }
 
@@ -27,7 +27,7 @@ terms-from t from j = terms-at t (from + j)
 unfoldable pub cells : Sums → List ℕ
 cells s =
     s .v .above ∷ s .v .below ∷ s .h .above ∷ s .h .below ∷ s .m .above ∷ s .m .below ∷ s .plus .resisting ∷ s .plus .overturning
-    ∷ s .minus .resisting ∷ s .minus .overturning ∷ s .winds ∷ s .quakes ∷ s .set ∷ []
+    ∷ s .minus .resisting ∷ s .minus .overturning ∷ s .winds ∷ s .earthquakes ∷ s .set ∷ []
 
 -- after is before with the numbers of row j of the table set to those of these sums, and nothing else moved
 pub record Puts (before : List ℕ) (j : ℕ) (sums : Sums) (after : List ℕ) : Type 0 where

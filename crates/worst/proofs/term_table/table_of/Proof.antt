@@ -11,12 +11,12 @@ use Rattle.sets.specs.steps.Sums.{terms-of, Room}
 use Rattle.sets.proofs.Bits.{next-place}
 use Rattle.sets.proofs.Adding.{room-more, low-place}
 use Rattle.worst.specs.steps.Stance.{stance-at, row-terms}
-use Rattle.worst.specs.steps.Table.{Puts}
-use Rattle.worst.specs.steps.Filling.{TableIs}
+use Rattle.worst.specs.steps.Terms.{Puts}
+use Rattle.worst.specs.steps.TermTable.{TableIs}
 use Rattle.worst.proofs.choices.Choices.{choosable-room}
 use Rattle.worst.proofs.term_table.Filling.{Grows, filled-none, filled-more, grows-never, grows-always, grows-choosable, terms-room, fixed-room}
-use Rattle.worst.proofs.term_table.fill.Statement.{statement}
-use Rattle.worst.proofs.term_table.fill.Tie as tie
+use Rattle.worst.proofs.term_table.table_of.Statement.{statement}
+use Rattle.worst.proofs.term_table.table_of.Tie as tie
 
 abbrev Inv-loop : tie.InvT-loop
 Inv-loop combination width loads count terms₀ choosable₀ fixed₀ place₀ i₀ terms choosable fixed place i = (i ≤ count) × (place ≡ 2 ^ i)
@@ -123,8 +123,8 @@ returns c =
     let e = c .before .before .before .args in
     subst (λ (n : ℕ). TableIs (e .combination) (e .width) (e .t3) n (record { terms = l .terms; choosable = l .choosable; fixed = l .fixed })) (le-antisymm (l .inv .0) (c .loop-test .left)) (l .inv .2)
 
-pub fill-spec : {M : Type 1} → statement M
-fill-spec =
+pub table-of-spec : {M : Type 1} → statement M
+table-of-spec =
     tie.close
     (tie.spec
     Inv-loop

@@ -17,8 +17,8 @@ use Rattle.sets.specs.Sets.{bit, row, Has, Mixed, Permitted}
 use Rattle.sets.specs.steps.Deciding.{RowFits, Arises, Together, Admits}
 use Rattle.sets.proofs.Occasions.{arises-erected}
 use Rattle.sets.specs.Totals.{sum, counted}
-use Rattle.sets.specs.steps.Sums.{is-wind, is-quake, sums-of}
-use Rattle.sets.proofs.Adding.{winds-is, quakes-is}
+use Rattle.sets.specs.steps.Sums.{is-wind, is-earthquake, sums-of}
+use Rattle.sets.proofs.Adding.{winds-is, earthquakes-is}
 use Rattle.sets.proofs.Bits.{bit-two}
 
 -- ---- a natural sum is above zero exactly where a row of the set gives something
@@ -57,20 +57,20 @@ wind-is Free h = absurd (omega arith)
 wind-is Wind h = refl
 wind-is Earthquake h = absurd (omega arith)
 
-quake-is : (c : Class) → 0 < is-quake c → c ≡ Earthquake
-unfolding is-quake
-quake-is Permanent h = absurd (omega arith)
-quake-is Free h = absurd (omega arith)
-quake-is Wind h = absurd (omega arith)
-quake-is Earthquake h = refl
+earthquake-is : (c : Class) → 0 < is-earthquake c → c ≡ Earthquake
+unfolding is-earthquake
+earthquake-is Permanent h = absurd (omega arith)
+earthquake-is Free h = absurd (omega arith)
+earthquake-is Wind h = absurd (omega arith)
+earthquake-is Earthquake h = refl
 
 one-wind : (c : Class) → c ≡ Wind → 0 < is-wind c
 unfolding is-wind
 one-wind c e = rw e (omega arith)
 
-one-quake : (c : Class) → c ≡ Earthquake → 0 < is-quake c
-unfolding is-quake
-one-quake c e = rw e (omega arith)
+one-earthquake : (c : Class) → c ≡ Earthquake → 0 < is-earthquake c
+unfolding is-earthquake
+one-earthquake c e = rw e (omega arith)
 
 -- ---- a set's wind and earthquake rows are what its sums count
 module _ (width : ℕ) (loads : Loads) (set : ℕ) where
@@ -86,52 +86,52 @@ module _ (width : ℕ) (loads : Loads) (set : ℕ) where
       subst (λ (n : ℕ). 0 < n) (sym (winds-is width loads set))
       (some-sum (λ load. is-wind (load .class)) loads set (loads .count) (w .0) (w .1) (w .2) (one-wind _ (w .3)))
 
-  pub has-quake : 0 < (sums-of width loads set) .quakes → Has Earthquake loads set
+  pub has-earthquake : 0 < (sums-of width loads set) .earthquakes → Has Earthquake loads set
   unfolding Has SomeGives
-  has-quake h =
-      let w = sum-some (λ load. is-quake (load .class)) loads set (loads .count) (subst (λ (n : ℕ). 0 < n) (quakes-is width loads set) h) in
-      (w .0, w .1, w .2, quake-is _ (w .3))
+  has-earthquake h =
+      let w = sum-some (λ load. is-earthquake (load .class)) loads set (loads .count) (subst (λ (n : ℕ). 0 < n) (earthquakes-is width loads set) h) in
+      (w .0, w .1, w .2, earthquake-is _ (w .3))
 
-  pub quake-has : Has Earthquake loads set → 0 < (sums-of width loads set) .quakes
+  pub earthquake-has : Has Earthquake loads set → 0 < (sums-of width loads set) .earthquakes
   unfolding Has
-  quake-has w =
-      subst (λ (n : ℕ). 0 < n) (sym (quakes-is width loads set))
-      (some-sum (λ load. is-quake (load .class)) loads set (loads .count) (w .0) (w .1) (w .2) (one-quake _ (w .3)))
+  earthquake-has w =
+      subst (λ (n : ℕ). 0 < n) (sym (earthquakes-is width loads set))
+      (some-sum (λ load. is-earthquake (load .class)) loads set (loads .count) (w .0) (w .1) (w .2) (one-earthquake _ (w .3)))
 
   no-wind : (sums-of width loads set) .winds ≡ 0 → Has Wind loads set → ⊥
   no-wind e w = omega (arith, wind-has w)
 
-  no-quake : (sums-of width loads set) .quakes ≡ 0 → Has Earthquake loads set → ⊥
-  no-quake e w = omega (arith, quake-has w)
+  no-earthquake : (sums-of width loads set) .earthquakes ≡ 0 → Has Earthquake loads set → ⊥
+  no-earthquake e w = omega (arith, earthquake-has w)
 
   wind-none : (Has Wind loads set → ⊥) → (sums-of width loads set) .winds ≡ 0
   wind-none n = by-cases (ℕ-discrete ((sums-of width loads set) .winds) 0) (λ e. e) (λ e. absurd (n (has-wind (omega arith))))
 
-  quake-none : (Has Earthquake loads set → ⊥) → (sums-of width loads set) .quakes ≡ 0
-  quake-none n = by-cases (ℕ-discrete ((sums-of width loads set) .quakes) 0) (λ e. e) (λ e. absurd (n (has-quake (omega arith))))
+  earthquake-none : (Has Earthquake loads set → ⊥) → (sums-of width loads set) .earthquakes ≡ 0
+  earthquake-none n = by-cases (ℕ-discrete ((sums-of width loads set) .earthquakes) 0) (λ e. e) (λ e. absurd (n (has-earthquake (omega arith))))
 
-  pub mixed-of : (combination : Combination) → Together combination ((sums-of width loads set) .winds) ((sums-of width loads set) .quakes) → Mixed combination loads set
+  pub mixed-of : (combination : Combination) → Together combination ((sums-of width loads set) .winds) ((sums-of width loads set) .earthquakes) → Mixed combination loads set
   unfolding Together Mixed
-  mixed-of I t = (no-wind (t .0), no-quake (t .1))
-  mixed-of II t = (has-wind (t .0), no-quake (t .1))
-  mixed-of III t = (no-wind (t .0), has-quake (t .1))
-  mixed-of IV t = λ w q. ⊎-elim (λ e. no-wind e w) (λ e. no-quake e q) t
+  mixed-of I t = (no-wind (t .0), no-earthquake (t .1))
+  mixed-of II t = (has-wind (t .0), no-earthquake (t .1))
+  mixed-of III t = (no-wind (t .0), has-earthquake (t .1))
+  mixed-of IV t = λ w q. ⊎-elim (λ e. no-wind e w) (λ e. no-earthquake e q) t
 
-  pub together-of : (combination : Combination) → Mixed combination loads set → Together combination ((sums-of width loads set) .winds) ((sums-of width loads set) .quakes)
+  pub together-of : (combination : Combination) → Mixed combination loads set → Together combination ((sums-of width loads set) .winds) ((sums-of width loads set) .earthquakes)
   unfolding Together Mixed
-  together-of I m = (wind-none (m .0), quake-none (m .1))
-  together-of II m = (wind-has (m .0), quake-none (m .1))
-  together-of III m = (wind-none (m .0), quake-has (m .1))
-  together-of IV m = by-cases (ℕ-discrete ((sums-of width loads set) .winds) 0) inl (λ e. inr (quake-none (m (has-wind (omega arith)))))
+  together-of I m = (wind-none (m .0), earthquake-none (m .1))
+  together-of II m = (wind-has (m .0), earthquake-none (m .1))
+  together-of III m = (wind-none (m .0), earthquake-has (m .1))
+  together-of IV m = by-cases (ℕ-discrete ((sums-of width loads set) .winds) 0) inl (λ e. inr (earthquake-none (m (has-wind (omega arith)))))
 
   -- What is left to decide of a set whose rows may stand in it, of a combination that is checked.
   module _ (combination : Combination) where
     unfoldable pub Fit : Type 0
     Fit = (set < 2 ^ loads .count) × ((i : ℕ) → i < loads .count → RowFits combination (row loads i) (bit set i))
 
-    pub permits : Fit → Arises combination loads → Admits combination ((sums-of width loads set) .winds) ((sums-of width loads set) .quakes) set → Permitted combination loads set
+    pub admitted-permitted : Fit → Arises combination loads → Admits combination ((sums-of width loads set) .winds) ((sums-of width loads set) .earthquakes) set → Permitted combination loads set
     unfolding Fit
-    permits f o a =
+    admitted-permitted f o a =
         record {
           some = a .some;
           within = f .0;
@@ -141,13 +141,13 @@ module _ (width : ℕ) (loads : Loads) (set : ℕ) where
           erection = arises-erected loads combination o;
         }
 
-    pub admitted : Permitted combination loads set → Admits combination ((sums-of width loads set) .winds) ((sums-of width loads set) .quakes) set
+    pub admitted : Permitted combination loads set → Admits combination ((sums-of width loads set) .winds) ((sums-of width loads set) .earthquakes) set
     admitted p = record { some = p .some; together = together-of combination (p .mixed) }
 
     pub permitted-fits : Permitted combination loads set → Fit
     unfolding Fit
     permitted-fits p = (p .within, λ i h. record { acting = p .acting i h; permanent = p .permanent i h })
 
-    pub decides-permitted : (r : Bool) → Fit → Arises combination loads → Decides r (Admits combination ((sums-of width loads set) .winds) ((sums-of width loads set) .quakes) set)
+    pub decides-permitted : (r : Bool) → Fit → Arises combination loads → Decides r (Admits combination ((sums-of width loads set) .winds) ((sums-of width loads set) .earthquakes) set)
         → Decides r (Permitted combination loads set)
-    decides-permitted r f o d = decides-same r (permits f o) admitted d
+    decides-permitted r f o d = decides-same r (admitted-permitted f o) admitted d

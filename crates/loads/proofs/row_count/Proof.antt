@@ -3,9 +3,9 @@ use mathlib.Core.Path.{sym, ap}
 use mathlib.Core.Bool.{Bool, cond}
 use borrow.Author.Tests.{lt-ltb, le-ltb}
 use lib.Dec.{lit≤}
-use Rattle.loads.specs.Taken.{row-count}
-use Rattle.loads.proofs.rows_of.Statement.{statement}
-use Rattle.loads.proofs.rows_of.Tie as tie
+use Rattle.loads.specs.Answer.{row-count}
+use Rattle.loads.proofs.row_count.Statement.{statement}
+use Rattle.loads.proofs.row_count.Tie as tie
 
 returns : tie.Need-returns
 unfolding row-count
@@ -15,5 +15,5 @@ returns-2 : tie.Need-returns-2
 unfolding row-count
 returns-2 c = (sym (ap (λ (t : Bool). cond t 16 (c .before .args .count)) (le-ltb 16 _ (c .if1 .left))), c .if1 .left)
 
-pub rows-of-spec : {M : Type 1} → statement M
-rows-of-spec = tie.close (tie.spec returns returns-2)
+pub row-count-spec : {M : Type 1} → statement M
+row-count-spec = tie.close (tie.spec returns returns-2)

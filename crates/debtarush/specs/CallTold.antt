@@ -2,7 +2,7 @@
 use Prim.Native.Nat.{ℕ}
 use Rattle.rows.specs.refusals.Numbers.{refusal-number}
 use Rattle.debtarush.specs.declared.Written.{Written}
-use Rattle.debtarush.specs.declared.Written.the-variants.{Length, Book, NoPlace, TooShort}
+use Rattle.debtarush.specs.declared.Written.the-variants.{Length, BookRefused, NoPlace, TooShort}
 
 -- what a call is told: so many bytes written, or a refusal's number and its row
 pub data CallTold : Type 0 where
@@ -12,6 +12,6 @@ pub data CallTold : Type 0 where
 -- 1 to 6 as the book's; 10, the place is 0 or past the last job; 7, the buffer lent is shorter than the lines; both with row 0
 abbrev pub call-told : Written → CallTold
 call-told (Length n) = written n
-call-told (Book why row) = refused (refusal-number why) row
+call-told (BookRefused why row) = refused (refusal-number why) row
 call-told NoPlace = refused 10 0
 call-told TooShort = refused 7 0

@@ -8,7 +8,7 @@ use Rattle.block.specs.declared.Block.{Block}
 use Rattle.block.specs.Block as block
 use Rattle.block.proofs.Pages.{block-held}
 use Rattle.buffer.specs.Copying as buffer
-use Rattle.debtarush.specs.Told.{CallTold, written, refused}
+use Rattle.debtarush.specs.CallTold.{CallTold, written, refused}
 use Rattle.debtarush.specs.Lines.{LinesIn}
 use Rattle.debtarush.proofs.finding.Finding.{HasJob}
 use Rattle.debtarush.specs.Called.{Called, too-short, lines}

@@ -6,8 +6,8 @@ use Prim.Native.Nat.{_+_, _*_, _≤_}
 use Rattle.arithmetic.specs.signed.Whole.{times, Small}
 use Rattle.arithmetic.proofs.signed.Laws.{same-parts, times-low}
 use Rattle.sets.specs.steps.Sums.{arm-by, balance-by}
-use Rattle.sums.proofs.row_terms.balance_of.Statement.{statement}
-use Rattle.sums.proofs.row_terms.balance_of.Tie as tie
+use Rattle.sums.proofs.row_terms.balance_by.Statement.{statement}
+use Rattle.sums.proofs.row_terms.balance_by.Tie as tie
 
 mul-out : tie.Need-mul-out
 mul-out c = search needs
@@ -53,7 +53,7 @@ returns c =
     let e = d .product .ensures ∙ (λ i. times (d .before .before .before .args .v) (arm i)) in
     λ i. record { resisting = (e i) .above + 2 * d .before .before .before .args .holds; overturning = (e i) .below + 2 * d .before .before .before .args .pushes }
 
-pub balance-of-spec : {M : Type 1} → statement M
-balance-of-spec =
+pub balance-by-spec : {M : Type 1} → statement M
+balance-by-spec =
     tie.close
     (tie.spec mul-out add-out mul-back excess-requires excess-requires-2 product-requires mul-t11 add-t12 mul-t13 add-t14 returns)
