@@ -85,12 +85,13 @@ pub fn answer_of(job: Job) -> Answer
     if !kinds::ranges::is_ranged(Kind::B, job.base) {
         return refused_answer(11);
     }
+    let base = base_at(job.base);
     let rows = job.loads;
     let taken = loads::loads_of(rows, job.count);
     let told = taken.answer;
-    let river = river::river_of(job);
+    let river = river::river_of(job, base.rock);
     match first_told(told, river) {
         RiverRead::Refused(number) => refused_answer(number),
-        RiverRead::Shown(depth, clear) => whole(base_at(job.base), taken.loads, depth, clear),
+        RiverRead::Shown(depth, clear) => whole(base, taken.loads, depth, clear),
     }
 }

@@ -7,7 +7,9 @@ use clearance::ClearanceAnswer;
 use jobs::Job;
 use lines::RiverLine;
 use scour::ScourAnswer;
+ghost use mathlib.Core.Path.{_≡_};
 ghost use Rattle.scour.specs.Scour.{scour-told};
+ghost use Rattle.answer.specs.Answer.{base-of};
 ghost use Rattle.answer.specs.river.River.{RiverSays};
 ghost use Rattle.answer.specs.river.Rows.{DepthGiven, ClearGiven, BothGive};
 
@@ -82,14 +84,14 @@ fn both(depth: RowGives, clear: RowGives) -> RiverRead
 }
 
 // The lines of the river rows that a job has.
-pub(crate) fn river_of(job: Job) -> RiverRead
+pub(crate) fn river_of(job: Job, rock: bool) -> RiverRead
+    requires { ⌜ rock ≡ base-of (job .base) .rock ⌝ }
     ensures { λ r. ⌜ RiverSays job r ⌝ }
 {
     let stage = job.stage;
     let mut depth = RowGives::Line(RiverLine::Missing);
     let mut clear = RowGives::Line(RiverLine::Missing);
     if jobs::stages::has_scour(stage) {
-        let rock = job.base.n5.size == 1;
         depth = depth_of(rock, job.scour.n6.size as u64, scour::scour(job.scour));
     }
     if jobs::stages::has_clearance(stage) {

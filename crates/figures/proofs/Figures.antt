@@ -6,7 +6,7 @@ use Rattle.scour.specs.discharge.Discharge.{to-500, to-5000, to-25000}
 use Rattle.earth.specs.Earth.{has-coefficient}
 use Rattle.arithmetic.specs.signed.Whole.{worth, amount, above, below}
 use Rattle.sets.specs.Sets.{bit, row}
-use Rattle.sets.specs.Totals.{counted, sum, arm, v-moment, h-moment, resists, overturns, resisting, overturning}
+use Rattle.sums.specs.Totals.{counted, sum, arm, v-moment, h-moment, resists, overturns, resisting, overturning}
 use Rattle.checks.specs.ranks.Figures.{Presses}
 use Rattle.figures.specs.Figures.{needed, pressure, pressure-either, AllHold, none, more, starred}
 use Rattle.figures.proofs.Loaded.{overturns-test}

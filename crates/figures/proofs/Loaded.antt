@@ -14,7 +14,7 @@ use Rattle.sets.specs.declared.Class.the-variants.{Permanent}
 use Rattle.sets.specs.declared.Load.{Load}
 use Rattle.sets.specs.declared.Loads.{Loads}
 use Rattle.sets.specs.Sets.{row, no-load}
-use Rattle.sets.specs.Totals.{plus, resisting, overturning}
+use Rattle.sums.specs.Totals.{plus, resisting, overturning}
 use Rattle.checks.specs.declared.Figure.the-variants.{Number}
 use Rattle.checks.specs.ranks.Figures.{Tips}
 use Rattle.checks.specs.set_figures.Figures.{Shows}

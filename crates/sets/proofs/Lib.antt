@@ -1,5 +1,4 @@
--- The laws of bits, of sums, of what raises a combination, and of arms of several variants. Other crates' proofs cite them.
+-- The laws of bits, of what raises a combination, and of arms of several variants. Other crates' proofs cite them.
 pub mod Bits
-pub mod Adding
 pub mod Arms
 pub mod Occasions

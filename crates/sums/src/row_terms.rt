@@ -1,16 +1,16 @@
 // What one load row gives to each sum over a set (document 01, Load sets).
 //
 // M sums 2Vx + 2Hy; at an edge V(B - 2x) or V(B + 2x) stands beside 2Hy. Each is a whole number, and is reckoned by its natural parts.
+use crate::Balance;
+use crate::Sums;
 use arithmetic::signed::Parts;
-use sets::Balance;
 use sets::Class;
 use sets::Load;
-use sets::Sums;
 ghost use mathlib.Core.Path.{_≡_};
 ghost use Prim.Native.Nat.{_≤_};
 ghost use Rattle.arithmetic.specs.signed.Whole.{Small};
 ghost use Rattle.sets.specs.Sets.{BoundedLoad};
-ghost use Rattle.sets.specs.steps.Sums.{arm-by, balance-by, terms-of};
+ghost use Rattle.sums.specs.steps.Sums.{arm-by, balance-by, terms-of};
 
 // What one row gives at an edge of a base of this width, where V stands so far toward the edge or so far away from it. The arm is taken
 // twice, as x is in M; of the twist one part holds back and one pushes over.

@@ -1,12 +1,12 @@
 // The sums over the rows of a set, and its totals as document 01 names them (Load sets).
+use crate::Sums;
+use crate::Totals;
 use sets::Loads;
-use sets::Sums;
-use sets::Totals;
 ghost use mathlib.Core.Path.{_≡_};
 ghost use Prim.Native.Nat.{_≤_};
 ghost use Rattle.sets.specs.Sets.{Bounded};
-ghost use Rattle.sets.specs.Totals.{totals-of};
-ghost use Rattle.sets.specs.steps.Sums.{sums-of};
+ghost use Rattle.sums.specs.Totals.{totals-of};
+ghost use Rattle.sums.specs.steps.Sums.{sums-of};
 
 // The sums over the rows of a set.
 pub fn sums_of(width: u64, loads: Loads, set: u64) -> Sums
@@ -15,13 +15,13 @@ pub fn sums_of(width: u64, loads: Loads, set: u64) -> Sums
     ensures { λ r. ⌜ r ≡ sums-of width loads set ⌝ }
 {
     let count = loads.count;
-    let mut sums = sets::no_sums();
+    let mut sums = crate::no_sums();
     let mut rest = set;
     let mut place: u64 = 1;
     let mut i: usize = 0;
     while i < count {
         if rest % 2 == 1 {
-            sums = sets::add_sums(
+            sums = crate::add_sums(
                 sums,
                 crate::row_terms::terms_of(width, loads.loads[i], place),
             );

@@ -5,7 +5,7 @@ use mathlib.Core.Bool.{Bool, true, false, true≢false}
 use Prim.Native.Nat.{_<_}
 use Rattle.arithmetic.proofs.Cases.{by-cases}
 use Rattle.sets.specs.declared.Combination.{Combination}
-use Rattle.sets.specs.declared.Sums.{Sums}
+use Rattle.sums.specs.declared.Sums.{Sums}
 use Rattle.checks.specs.declared.Base.{Base}
 use Rattle.checks.specs.declared.Check.{Check}
 use Rattle.checks.specs.declared.Check.the-variants.{OP, OM, SL, PR, RK}

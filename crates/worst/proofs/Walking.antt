@@ -11,11 +11,11 @@ use Rattle.arithmetic.proofs.Cases.{by-cases}
 use Rattle.arithmetic.specs.decides.Decides.{Decides}
 use Rattle.sets.specs.declared.Combination.{Combination}
 use Rattle.sets.specs.declared.Loads.{Loads}
-use Rattle.sets.specs.declared.Sums.{Sums}
+use Rattle.sums.specs.declared.Sums.{Sums}
 use Rattle.sets.specs.Sets.{row, Bounded, Permitted}
 use Rattle.sets.specs.steps.Deciding.{Arises, Admits, RowFits}
-use Rattle.sets.specs.steps.Sums.{sums-of}
-use Rattle.sets.proofs.admission.Admitted.{Fit, admitted-permitted, admitted}
+use Rattle.sums.specs.steps.Sums.{sums-of}
+use Rattle.sums.proofs.permitted.Admitted.{Fit, admitted-permitted, admitted}
 use Rattle.checks.specs.declared.Base.{Base}
 use Rattle.checks.specs.declared.Check.{Check}
 use Rattle.checks.specs.declared.Check.the-variants.{OP, OM, SL, PR, RK}

@@ -5,14 +5,14 @@
 // place there is the number of choosable rows before it, by which a choice holds it.
 use crate::choices::Stance;
 use arithmetic::signed::Parts;
-use sets::Balance;
 use sets::Combination;
 use sets::Loads;
-use sets::Sums;
+use sums::Balance;
+use sums::Sums;
 ghost use Prim.Native.Nat.{_<_, ℕ, _+_, _≤_};
 ghost use Rattle.worst.specs.steps.Terms.{Puts, terms-at, terms-from};
 ghost use mathlib.Core.Path.{_≡_};
-ghost use Rattle.sets.specs.steps.Sums.{Room};
+ghost use Rattle.sums.specs.steps.Sums.{Room};
 ghost use Rattle.worst.specs.steps.Stance.{chosen};
 ghost use Rattle.sets.specs.Sets.{Bounded};
 ghost use Rattle.worst.specs.steps.TermTable.{TableIs};
@@ -111,7 +111,7 @@ pub(crate) fn sums_at(
     while j < count {
         if rest % 2 == 1 {
             let row = terms_at(table, from + j);
-            sums = sets::add_sums(sums, row);
+            sums = sums::add_sums(sums, row);
         }
         rest = rest / 2;
         j = j + 1;
@@ -128,7 +128,7 @@ pub(crate) fn table_of(combination: Combination, width: u64, loads: Loads) -> Te
     let count = loads.count;
     let mut terms = [0u64; 208];
     let mut choosable: usize = 0;
-    let mut fixed = sets::no_sums();
+    let mut fixed = sums::no_sums();
     let mut place: u64 = 1;
     let mut i: usize = 0;
     while i < count {
@@ -138,7 +138,7 @@ pub(crate) fn table_of(combination: Combination, width: u64, loads: Loads) -> Te
         match stance {
             Stance::Never => {}
             Stance::Always => {
-                fixed = sets::add_sums(fixed, sums);
+                fixed = sums::add_sums(fixed, sums);
             }
             Stance::Choosable => {
                 let next = put_terms(terms, choosable, sums);

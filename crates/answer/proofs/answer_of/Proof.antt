@@ -1,6 +1,6 @@
 -- Refusal 11 of the B row comes first, and `told-first` orders the rest. Where it leaves the river's lines the loads are given,
 -- and their bounds and the base's are what `whole` asks.
-use mathlib.Core.Path.{sym, subst, _∙_}
+use mathlib.Core.Path.{sym, ap, subst, _∙_}
 use borrow.Author.Tests.{not-true, not-false}
 use Rattle.arithmetic.specs.decides.Decides.{decided, refuted}
 use Rattle.earth.specs.table2.Table2.{table2-fill}
@@ -22,8 +22,11 @@ module _ (c : tie.After-river-of) where
   abbrev at-loads : tie.After-loads-of
   at-loads = c .before
 
-  ranged : Ranged B (at-loads .before .before .before .before .args .job .base)
-  ranged = decided (at-loads .before .before .before .is-ranged .result) (not-false _ (at-loads .before .before .if1 .left)) (at-loads .before .before .before .is-ranged .ensures)
+  abbrev at-base : tie.After-base-at
+  at-base = at-loads .before .before
+
+  ranged : Ranged B (at-base .before .before .before .args .job .base)
+  ranged = decided (at-base .before .before .is-ranged .result) (not-false _ (at-base .before .if1 .left)) (at-base .before .before .is-ranged .ensures)
 
 is-ranged-requires : tie.Need-is-ranged-requires
 is-ranged-requires c κs = search needs
@@ -34,11 +37,14 @@ refused-answer-requires c κs = search needs
 returns : tie.Need-returns
 returns c = refused (refuses-11 _ _ (λ a. refuted (c .before .before .is-ranged .result) (not-true _ (c .before .if1 .taken)) (c .before .before .is-ranged .ensures) (a .rows .base))) (c .refused-answer .ensures)
 
+base-at-requires : tie.Need-base-at-requires
+base-at-requires c κs = search needs
+
 loads-of-requires : tie.Need-loads-of-requires
 loads-of-requires c κs = search needs
 
 river-of-requires : tie.Need-river-of-requires
-river-of-requires c κs = search needs
+river-of-requires c κs = ap (λ (b : Base). b .rock) (c .before .before .base-at .ensures)
 
 first-told-requires : tie.Need-first-told-requires
 first-told-requires c κs = search needs
@@ -52,17 +58,14 @@ refused-answer-requires-2 c κs = search needs
 enum-known-depth : tie.Need-enum-known-depth
 enum-known-depth c = search needs
 
-base-at-requires : tie.Need-base-at-requires
-base-at-requires c κs = search needs
-
 whole-requires : tie.Need-whole-requires
 whole-requires c κs =
-    let at-first = c .before .before .before .before in
+    let at-first = c .before .before .before in
     let at-river = at-first .before in
     let loads = at-loads at-river in
-    let job = loads .before .before .before .before .args .job in
-    let given = first-given (loads .loads-of .result .answer) _ (sym (at-first .first-told .ensures) ∙ c .before .before .depth .given .1) in (
-      subst (λ (b : Base). Sized b) (sym (c .base-at .ensures)) (sized (job .base) (ranged at-river)),
+    let job = at-base at-river .before .before .before .args .job in
+    let given = first-given (loads .loads-of .result .answer) _ (sym (at-first .first-told .ensures) ∙ c .before .depth .given .1) in (
+      subst (λ (b : Base). Sized b) (sym (at-base at-river .base-at .ensures)) (sized (job .base) (ranged at-river)),
       given-bounded table2-fill table2-small (job .loads) (job .count) (loads .loads-of .result) (loads .loads-of .ensures) (given .0),
     )
 
@@ -71,17 +74,17 @@ returns-2 c =
     let at-first = c .before .before .before .before in
     let at-river = at-first .before in
     let loads = at-loads at-river in
-    let job = loads .before .before .before .before .args .job in
+    let job = at-base at-river .before .before .before .args .job in
     refused (first-refuses table2-fill job (loads .loads-of .result) (loads .loads-of .ensures) (ranged at-river) (at-river .river-of .result) (at-river .river-of .ensures) (sym (at-first .first-told .ensures) ∙ c .before .before .number .given .1)) (c .refused-answer2 .ensures)
 
 returns-3 : tie.Need-returns-3
 returns-3 c =
-    let at-first = c .before .before .before .before .before in
+    let at-first = c .before .before .before .before in
     let at-river = at-first .before in
     let loads = at-loads at-river in
-    let job = loads .before .before .before .before .args .job in
-    let given = first-given (loads .loads-of .result .answer) _ (sym (at-first .first-told .ensures) ∙ c .before .before .before .depth .given .1) in
-    answered (given-answer table2-fill job (loads .loads-of .result) (loads .loads-of .ensures) (ranged at-river) (given .0) (subst (RiverSays job) (given .1) (at-river .river-of .ensures)) (c .before .base-at .ensures) (c .whole .ensures))
+    let job = at-base at-river .before .before .before .args .job in
+    let given = first-given (loads .loads-of .result .answer) _ (sym (at-first .first-told .ensures) ∙ c .before .before .depth .given .1) in
+    answered (given-answer table2-fill job (loads .loads-of .result) (loads .loads-of .ensures) (ranged at-river) (given .0) (subst (RiverSays job) (given .1) (at-river .river-of .ensures)) (at-base at-river .base-at .ensures) (c .whole .ensures))
 
 pub answer-of-spec : {M : Type 1} → statement M
 answer-of-spec =
@@ -90,13 +93,13 @@ answer-of-spec =
     is-ranged-requires
     refused-answer-requires
     returns
+    base-at-requires
     loads-of-requires
     river-of-requires
     first-told-requires
     enum-known-number
     refused-answer-requires-2
     enum-known-depth
-    base-at-requires
     whole-requires
     returns-2
     returns-3)

@@ -11,7 +11,7 @@ use Rattle.arithmetic.specs.signed.Whole.{signed, worth, above, below}
 use Rattle.sets.specs.declared.Class.the-variants.{Permanent, Free}
 use Rattle.sets.specs.declared.Loads.{Loads}
 use Rattle.sets.specs.Sets.{bit, row}
-use Rattle.sets.specs.Totals.{counted, sum, minus, arm, v-moment, h-moment, resists, overturns, resisting, overturning}
+use Rattle.sums.specs.Totals.{counted, sum, minus, arm, v-moment, h-moment, resists, overturns, resisting, overturning}
 use Rattle.checks.specs.declared.Base.{Base}
 use Rattle.checks.specs.declared.Check.the-variants.{OP, OM}
 use Rattle.checks.specs.declared.Figure.the-variants.{Nothing, Number}

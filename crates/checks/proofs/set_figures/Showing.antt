@@ -5,12 +5,12 @@ use native.Mathlib.Omega.{arith}
 use lib.IntN.{natAbs}
 use Rattle.arithmetic.specs.signed.Whole.{above}
 use Rattle.arithmetic.proofs.signed.Laws.{above-diff, size-diff}
-use Rattle.sets.specs.declared.Balance.{Balance}
+use Rattle.sums.specs.declared.Balance.{Balance}
 use Rattle.sets.specs.declared.Loads.{Loads}
-use Rattle.sets.specs.declared.Sums.{Sums}
-use Rattle.sets.specs.Totals.{N, H, M}
-use Rattle.sets.specs.steps.Sums.{sums-of, Room}
-use Rattle.sets.proofs.Adding.{n-is, h-is, m-is, plus-is, minus-is}
+use Rattle.sums.specs.declared.Sums.{Sums}
+use Rattle.sums.specs.Totals.{N, H, M}
+use Rattle.sums.specs.steps.Sums.{sums-of, Room}
+use Rattle.sums.proofs.Adding.{n-is, h-is, m-is, plus-is, minus-is}
 use Rattle.checks.specs.declared.Base.{Base}
 use Rattle.checks.specs.declared.Check.{Check}
 use Rattle.checks.specs.declared.Check.the-variants.{OP, OM, SL, PR, RK}

@@ -3,7 +3,7 @@ use Prim.Native.Nat.{ℕ}
 use lib.IntN.{natAbs}
 use Rattle.arithmetic.specs.signed.Whole.{above}
 use Rattle.sets.specs.declared.Loads.{Loads}
-use Rattle.sets.specs.Totals.{N, H, M, plus, minus, resisting, overturning}
+use Rattle.sums.specs.Totals.{N, H, M, plus, minus, resisting, overturning}
 use Rattle.checks.specs.declared.Base.{Base}
 use Rattle.checks.specs.declared.Check.{Check}
 use Rattle.checks.specs.declared.Check.the-variants.{OP, OM, SL, PR, RK}

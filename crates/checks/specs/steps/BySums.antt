@@ -1,7 +1,7 @@
 -- What `rank_of` goes by: the figures of a set from the sums that the program holds.
 use Prim.Native.Nat.{ℕ, _+_, _-_}
 use Rattle.arithmetic.specs.declared.signed.Parts.{Parts}
-use Rattle.sets.specs.declared.Sums.{Sums}
+use Rattle.sums.specs.declared.Sums.{Sums}
 use Rattle.checks.specs.declared.Base.{Base}
 use Rattle.checks.specs.declared.Check.{Check}
 use Rattle.checks.specs.declared.Check.the-variants.{OP, OM, SL, PR, RK}

@@ -10,11 +10,11 @@ use native.Mathlib.Decide.{decLt}
 use lib.Dec.{lit<}
 use Rattle.arithmetic.proofs.Cases.{by-cases}
 use Rattle.sets.specs.declared.Loads.{Loads}
-use Rattle.sets.specs.declared.Sums.{Sums}
+use Rattle.sums.specs.declared.Sums.{Sums}
 use Rattle.sets.specs.Sets.{bit, row}
-use Rattle.sets.specs.steps.Sums.{no-sums, add, add-if, terms-of, sums-to, Room}
+use Rattle.sums.specs.steps.Sums.{no-sums, add, add-if, terms-of, sums-to, Room}
 use Rattle.sets.proofs.Bits.{bit-two, bit-above, bit-own, bit-kept}
-use Rattle.sets.proofs.Adding.{add-swap, add-if-in, add-if-out, room-more, room-if}
+use Rattle.sums.proofs.Adding.{add-swap, add-if-in, add-if-out, room-more, room-if}
 use Rattle.worst.specs.declared.choices.Stance.{Stance}
 use Rattle.worst.specs.declared.choices.Stance.the-variants.{Never, Always, Choosable}
 use Rattle.worst.specs.steps.Stance.{held-by, next, choosable, join, pick, fixed-by, fixed, chosen, row-terms}

@@ -12,10 +12,10 @@ use lib.Seq.{ext-getD}
 use Rattle.arithmetic.proofs.Cases.{impossible, by-cases}
 use Rattle.sets.specs.declared.Combination.{Combination}
 use Rattle.sets.specs.declared.Loads.{Loads}
-use Rattle.sets.specs.declared.Sums.{Sums}
+use Rattle.sums.specs.declared.Sums.{Sums}
 use Rattle.sets.specs.Sets.{row, Bounded}
-use Rattle.sets.specs.steps.Sums.{no-sums, add, Room}
-use Rattle.sets.proofs.Adding.{room-none, room-add, room-more, room-row, low-place}
+use Rattle.sums.specs.steps.Sums.{no-sums, add, Room}
+use Rattle.sums.proofs.Adding.{room-none, room-add, room-more, room-row, low-place}
 use Rattle.worst.specs.declared.choices.Stance.{Stance}
 use Rattle.worst.specs.declared.choices.Stance.the-variants.{Never, Always, Choosable}
 use Rattle.worst.specs.steps.Stance.{next, choosable, fixed-by, fixed, row-terms, stance-at}

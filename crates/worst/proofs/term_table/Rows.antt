@@ -11,8 +11,8 @@ use lib.ListN.{getD, length, set}
 use lib.Seq.{getD-set-same, getD-set-other, ext-getD}
 use Rattle.arithmetic.proofs.Cases.{by-cases}
 use Rattle.arithmetic.proofs.signed.Laws.{same-parts}
-use Rattle.sets.specs.declared.Sums.{Sums}
-use Rattle.sets.proofs.Adding.{same-sums, same-balance}
+use Rattle.sums.specs.declared.Sums.{Sums}
+use Rattle.sums.proofs.Adding.{same-sums, same-balance}
 use Rattle.worst.specs.steps.Terms.{terms-at, cells, Puts}
 
 -- one number more

@@ -3,7 +3,7 @@ use mathlib.Core.Path.{_≡_, _∙_}
 use mathlib.Core.List.{List}
 use Prim.Native.Nat.{ℕ, _+_, _/_, _%_, _^_}
 use native.Mathlib.Nat.{zero-add}
-use Rattle.sets.specs.declared.Sums.{Sums}
+use Rattle.sums.specs.declared.Sums.{Sums}
 use Rattle.worst.specs.steps.Stance.{chosen}
 use Rattle.worst.proofs.choices.Choices.{chosen-parts}
 use Rattle.worst.specs.steps.Terms.{terms-at, terms-from}

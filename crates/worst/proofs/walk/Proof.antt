@@ -9,11 +9,11 @@ use native.Mathlib.Nat.{le-antisymm, le-refl, one-mul, mod-lt, zero-mod}
 use lib.Dec.{lit<, lit≤}
 use lib.Pow.{shl-exact, pow-pos, split, high}
 use Rattle.sets.specs.declared.Loads.{Loads}
-use Rattle.sets.specs.declared.Sums.{Sums}
+use Rattle.sums.specs.declared.Sums.{Sums}
 use Rattle.sets.specs.Sets.{Bounded}
 use Rattle.sets.specs.steps.Deciding.{Arises}
-use Rattle.sets.specs.steps.Sums.{Room}
-use Rattle.sets.proofs.Adding.{room-more, room-all}
+use Rattle.sums.specs.steps.Sums.{Room}
+use Rattle.sums.proofs.Adding.{room-more, room-all}
 use Rattle.checks.specs.declared.Check.{Check}
 use Rattle.checks.specs.declared.Check.the-variants.{OP, OM, SL, PR, RK}
 use Rattle.weighing.specs.declared.Worst.{Worst}

@@ -7,10 +7,10 @@ use Rattle.sets.specs.declared.Class.the-variants.{Permanent, Free, Wind, Earth
 use Rattle.sets.specs.declared.Combination.{Combination}
 use Rattle.sets.specs.declared.Combination.the-variants.{I, II, III, IV}
 use Rattle.sets.specs.declared.Load.{Load}
-use Rattle.sets.specs.declared.Sums.{Sums}
+use Rattle.sums.specs.declared.Sums.{Sums}
 use Rattle.sets.specs.declared.Loads.{Loads}
 use Rattle.sets.specs.Sets.{bit, own-phase, row}
-use Rattle.sets.specs.steps.Sums.{no-sums, add, add-if, terms-of}
+use Rattle.sums.specs.steps.Sums.{no-sums, add, add-if, terms-of}
 use Rattle.worst.specs.declared.choices.Stance.{Stance}
 use Rattle.worst.specs.declared.choices.Stance.the-variants.{Never, Always, Choosable}
 

@@ -4,7 +4,7 @@ use mathlib.Core.Logic.{_⊎_}
 use mathlib.Core.List.{List, [], _∷_}
 use Prim.Native.Nat.{ℕ, _+_, _*_, _<_, _≤_}
 use lib.ListN.{getD, length}
-use Rattle.sets.specs.declared.Sums.{Sums}
+use Rattle.sums.specs.declared.Sums.{Sums}
 
 unfoldable pub terms-at : List ℕ → ℕ → Sums
 terms-at t j =

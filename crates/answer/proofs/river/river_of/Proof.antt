@@ -1,10 +1,10 @@
 -- Each row that the job has gives what it is told, and one that it has not gives no line; both together are what the river says.
 use borrow.Author.Needs.{needs}
 use native.Mathlib.Omega.{arith}
-use mathlib.Core.Path.{subst⁻¹}
+use mathlib.Core.Path.{_≡_, subst⁻¹}
+use mathlib.Core.Bool.{Bool}
 use mathlib.Core.Logic.{⊎-elim}
-use lib.Dec.{eqb}
-use Rattle.arithmetic.specs.decides.Decides.{decided, refuted, decides-equal}
+use Rattle.arithmetic.specs.decides.Decides.{Decides, decided, refuted, decides-equal}
 use Rattle.answer.specs.river.River.{RiverSays}
 use Rattle.answer.proofs.river.Telling.{DepthGives, ClearGives, no-depth, no-clear, depth-gives, clear-gives, both-give}
 use Rattle.answer.proofs.river.river_of.Statement.{statement}
@@ -14,7 +14,7 @@ has-scour-requires : tie.Need-has-scour-requires
 has-scour-requires c κs = search needs
 
 cast-depth-of : tie.Need-cast-depth-of
-cast-depth-of c = omega (arith, c .struct-known2 .given)
+cast-depth-of c = omega (arith, c .struct-known .given)
 
 scour-requires : tie.Need-scour-requires
 scour-requires c κs = search needs
@@ -37,13 +37,16 @@ clear-of-requires c κs = search needs
 both-requires : tie.Need-both-requires
 both-requires c κs = search needs
 
+rock : (c : tie.Start) → Decides (c .args .rock) (c .args .job .base .n5 .size ≡ 1)
+rock c = subst⁻¹ (λ (b : Bool). Decides b (c .args .job .base .n5 .size ≡ 1)) (c .pre) (decides-equal (c .args .job .base .n5 .size) 1)
+
 depth : (c : tie.Joined1) → DepthGives (c .before .before .args .job) (c .if1 .depth)
 depth c =
     let job = c .before .before .args .job in
     let test = c .before .has-scour in
     ⊎-elim
-    (λ w. subst⁻¹ (DepthGives job) (w .5)
-    (depth-gives job (decided (test .result) (w .0 .taken) (test .ensures)) (eqb (job .base .n5 .size) 1) (decides-equal (job .base .n5 .size) 1) (w .3 .ensures) (w .4 .result) (w .4 .ensures)))
+    (λ w. subst⁻¹ (DepthGives job) (w .4)
+    (depth-gives job (decided (test .result) (w .0 .taken) (test .ensures)) (c .before .before .args .rock) (rock (c .before .before)) (w .2 .ensures) (w .3 .result) (w .3 .ensures)))
     (λ w. subst⁻¹ (DepthGives job) (w .1) (no-depth job (refuted (test .result) (w .0 .left) (test .ensures))))
     (c .if1 .came)
 

@@ -1,9 +1,9 @@
 -- The figure is read back from its rank, and its natural sums are those of the definition.
 use borrow.Author.Needs.{needs}
 use mathlib.Core.Path.{_∙_, sym, subst⁻¹, subst₂}
-use Rattle.sets.specs.declared.Sums.{Sums}
-use Rattle.sets.specs.steps.Sums.{Room}
-use Rattle.sets.proofs.Adding.{room-all}
+use Rattle.sums.specs.declared.Sums.{Sums}
+use Rattle.sums.specs.steps.Sums.{Room}
+use Rattle.sums.proofs.Adding.{room-all}
 use Rattle.checks.specs.declared.Figure.{Figure}
 use Rattle.checks.specs.steps.BySums.{ShowsBySums}
 use Rattle.checks.specs.Order.{side}

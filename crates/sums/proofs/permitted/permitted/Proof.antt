@@ -11,13 +11,13 @@ use lib.Dec.{eqb}
 use Rattle.arithmetic.specs.decides.Decides.{Decides, decides-same, decides-both, decides-equal}
 use Rattle.sets.specs.declared.Combination.{Combination}
 use Rattle.sets.specs.declared.Loads.{Loads}
-use Rattle.sets.specs.declared.Sums.{Sums}
-use Rattle.sets.specs.steps.Sums.{sums-of}
+use Rattle.sums.specs.declared.Sums.{Sums}
+use Rattle.sums.specs.steps.Sums.{sums-of}
 use Rattle.sets.specs.steps.Deciding.{Admits, Arises, RowFits}
 use Rattle.sets.specs.Sets.{Permitted, row, bit}
 use Rattle.sets.proofs.Bits.{bit-is, next-bits, no-rest, no-bits-left}
 use Rattle.sets.proofs.Occasions.{permitted-arises}
-use Rattle.sets.proofs.admission.Admitted.{Fit, permitted-fits, decides-permitted}
+use Rattle.sums.proofs.permitted.Admitted.{Fit, permitted-fits, decides-permitted}
 use Rattle.sums.proofs.permitted.permitted.Statement.{statement}
 use Rattle.sums.proofs.permitted.permitted.Tie as tie
 

@@ -5,7 +5,7 @@ use mathlib.Core.Path.{_∙_}
 use Prim.Native.Nat.{_+_, _*_, _≤_}
 use Rattle.arithmetic.specs.signed.Whole.{times, Small}
 use Rattle.arithmetic.proofs.signed.Laws.{same-parts, times-low}
-use Rattle.sets.specs.steps.Sums.{arm-by, balance-by}
+use Rattle.sums.specs.steps.Sums.{arm-by, balance-by}
 use Rattle.sums.proofs.row_terms.balance_by.Statement.{statement}
 use Rattle.sums.proofs.row_terms.balance_by.Tie as tie
 

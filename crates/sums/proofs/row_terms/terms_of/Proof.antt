@@ -14,10 +14,10 @@ use Rattle.sets.specs.declared.Class.{Class}
 use Rattle.sets.specs.declared.Class.the-variants.{Permanent, Free, Wind, Earthquake}
 use Rattle.sets.specs.declared.Load.{Load}
 use Rattle.sets.proofs.Class.{the-type}
-use Rattle.sets.specs.Totals.{plus, minus}
-use Rattle.sets.specs.steps.Sums.{terms-of, moment-of, balance-of, is-wind, is-earthquake, arm-by, balance-by, moment-by}
+use Rattle.sums.specs.Totals.{plus, minus}
+use Rattle.sums.specs.steps.Sums.{terms-of, moment-of, balance-of, is-wind, is-earthquake, arm-by, balance-by, moment-by}
 use Rattle.sets.proofs.Arms.{class-arm}
-use Rattle.sets.proofs.Adding.{same-sums, parts-low, arm-plus, arm-minus, balance-plus, balance-minus, moment-parts}
+use Rattle.sums.proofs.Adding.{same-sums, parts-low, arm-plus, arm-minus, balance-plus, balance-minus, moment-parts}
 use Rattle.sums.proofs.row_terms.terms_of.Statement.{statement}
 use Rattle.sums.proofs.row_terms.terms_of.Tie as tie
 

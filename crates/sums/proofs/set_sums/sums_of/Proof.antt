@@ -6,9 +6,9 @@ use mathlib.Core.Logic.{⊎-elim}
 use native.Mathlib.Nat.{le-antisymm}
 use Prim.Native.Nat.{ℕ, _-_, _/_, _^_, _≤_, _<_}
 use Rattle.sets.specs.Sets.{row}
-use Rattle.sets.specs.steps.Sums.{add-if, terms-of, sums-to, sums-of}
+use Rattle.sums.specs.steps.Sums.{add-if, terms-of, sums-to, sums-of}
 use Rattle.sets.proofs.Bits.{bit-is, next-bits, next-place}
-use Rattle.sets.proofs.Adding.{add-if-in, add-if-out, sums-none, sums-more, room-sums, room-row, room-more, low-place}
+use Rattle.sums.proofs.Adding.{add-if-in, add-if-out, sums-none, sums-more, room-sums, room-row, room-more, low-place}
 use Rattle.sums.proofs.set_sums.sums_of.Statement.{statement}
 use Rattle.sums.proofs.set_sums.sums_of.Tie as tie
 

@@ -3,9 +3,9 @@ use borrow.Author.Needs.{needs}
 use mathlib.Core.Path.{_≡_, _∙_, sym, ap}
 use lib.IntN.{pos, _-ℤ_}
 use Rattle.arithmetic.specs.signed.Whole.{amount}
-use Rattle.sets.specs.declared.Totals.{Totals}
-use Rattle.sets.specs.Totals.{totals-of}
-use Rattle.sets.proofs.Adding.{n-is, h-is, m-is, plus-is, minus-is}
+use Rattle.sums.specs.declared.Totals.{Totals}
+use Rattle.sums.specs.Totals.{totals-of}
+use Rattle.sums.proofs.Adding.{n-is, h-is, m-is, plus-is, minus-is}
 use Rattle.sums.proofs.set_sums.totals_of.Statement.{statement}
 use Rattle.sums.proofs.set_sums.totals_of.Tie as tie
 

@@ -6,9 +6,9 @@ use mathlib.Core.Logic.{⊎-elim}
 use native.Mathlib.Nat.{le-antisymm}
 use Prim.Native.Nat.{_-_, _/_, _^_, _≤_}
 use Rattle.sets.specs.Sets.{bit}
-use Rattle.sets.specs.steps.Sums.{add, add-if, Room}
+use Rattle.sums.specs.steps.Sums.{add, add-if, Room}
 use Rattle.sets.proofs.Bits.{bit-is, next-bits, bit-not-one}
-use Rattle.sets.proofs.Adding.{room-more, add-if-in, add-if-out}
+use Rattle.sums.proofs.Adding.{room-more, add-if-in, add-if-out}
 use Rattle.worst.specs.steps.Stance.{chosen}
 use Rattle.worst.specs.steps.Terms.{terms-from}
 use Rattle.worst.proofs.choices.Choices.{chosen-none, chosen-more, chosen-room}

@@ -7,9 +7,9 @@ use mathlib.Core.Logic.{⊎-elim}
 use native.Mathlib.Nat.{le-antisymm}
 use Prim.Native.Nat.{ℕ, _-_, _^_, _≤_, _<_}
 use Rattle.sets.specs.Sets.{row}
-use Rattle.sets.specs.steps.Sums.{terms-of, Room}
+use Rattle.sums.specs.steps.Sums.{terms-of, Room}
 use Rattle.sets.proofs.Bits.{next-place}
-use Rattle.sets.proofs.Adding.{room-more, low-place}
+use Rattle.sums.proofs.Adding.{room-more, low-place}
 use Rattle.worst.specs.steps.Stance.{stance-at, row-terms}
 use Rattle.worst.specs.steps.Terms.{Puts}
 use Rattle.worst.specs.steps.TermTable.{TableIs}

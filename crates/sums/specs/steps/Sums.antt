@@ -1,16 +1,16 @@
--- What `no_sums` and `add_sums`, and `terms_of` and `sums_of` of the crate `sums`, answer: the sums over the rows of a set as the program holds
+-- What `no_sums`, `add_sums`, `terms_of` and `sums_of` answer: the sums over the rows of a set as the program holds
 -- them, natural numbers only, each whole number by what is above and below zero.
 use Prim.Native.Nat.{ℕ, zero, suc, _+_, _*_, _-_, _^_, _≤_}
 use Rattle.arithmetic.specs.declared.signed.Parts.{Parts}
 use Rattle.arithmetic.specs.signed.Whole.{worth, above, below, parts-of, times}
 use Rattle.sets.specs.declared.Class.{Class}
 use Rattle.sets.specs.declared.Class.the-variants.{Permanent, Free, Wind, Earthquake}
 use Rattle.sets.specs.declared.Load.{Load}
 use Rattle.sets.specs.declared.Loads.{Loads}
-use Rattle.sets.specs.declared.Balance.{Balance}
-use Rattle.sets.specs.declared.Sums.{Sums}
+use Rattle.sums.specs.declared.Balance.{Balance}
+use Rattle.sums.specs.declared.Sums.{Sums}
 use Rattle.sets.specs.Sets.{bit, row}
-use Rattle.sets.specs.Totals.{Edge, plus, minus, resists, overturns}
+use Rattle.sums.specs.Totals.{Edge, plus, minus, resists, overturns}
 use lib.IntN.{pos, _*ℤ_}
 
 unfoldable pub parts-sum : Parts → Parts → Parts

@@ -2,10 +2,10 @@
 use Prim.Native.Nat.{ℕ, zero, suc, _+_}
 use lib.IntN.{ℤ, pos, negℤ, _+ℤ_, _-ℤ_, _*ℤ_}
 use Rattle.arithmetic.specs.signed.Whole.{worth, amount, above, below}
 use Rattle.sets.specs.declared.Load.{Load}
 use Rattle.sets.specs.declared.Loads.{Loads}
-use Rattle.sets.specs.declared.Totals.{Totals}
+use Rattle.sums.specs.declared.Totals.{Totals}
 use Rattle.sets.specs.Sets.{bit, row}
 
 -- what a row gives counts where the row is in the set
 unfoldable pub countedℤ : ℕ → ℤ → ℤ

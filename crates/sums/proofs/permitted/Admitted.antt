@@ -7,19 +7,19 @@ use native.Mathlib.Omega.{arith}
 use native.Mathlib.Decide.{ℕ-discrete}
 use Rattle.arithmetic.proofs.Cases.{by-cases}
 use Rattle.arithmetic.specs.decides.Decides.{Decides, decides-same}
 use Rattle.sets.specs.declared.Class.{Class}
 use Rattle.sets.specs.declared.Class.the-variants.{Permanent, Free, Wind, Earthquake}
 use Rattle.sets.specs.declared.Combination.{Combination}
 use Rattle.sets.specs.declared.Combination.the-variants.{I, II, III, IV}
 use Rattle.sets.specs.declared.Load.{Load}
 use Rattle.sets.specs.declared.Loads.{Loads}
 use Rattle.sets.specs.Sets.{bit, row, Has, Mixed, Permitted}
 use Rattle.sets.specs.steps.Deciding.{RowFits, Arises, Together, Admits}
 use Rattle.sets.proofs.Occasions.{arises-erected}
-use Rattle.sets.specs.Totals.{sum, counted}
-use Rattle.sets.specs.steps.Sums.{is-wind, is-earthquake, sums-of}
-use Rattle.sets.proofs.Adding.{winds-is, earthquakes-is}
+use Rattle.sums.specs.Totals.{sum, counted}
+use Rattle.sums.specs.steps.Sums.{is-wind, is-earthquake, sums-of}
+use Rattle.sums.proofs.Adding.{winds-is, earthquakes-is}
 use Rattle.sets.proofs.Bits.{bit-two}
 
 -- ---- a natural sum is above zero exactly where a row of the set gives something
 counted-some : (held n : ℕ) → 0 < counted held n → held < 2 → (held ≡ 1) × (0 < n)

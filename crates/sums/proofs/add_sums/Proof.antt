@@ -1,9 +1,9 @@
 -- Each field is added to its like. What 64 rows give is at most 64 · 2³⁴ = 2⁴⁰ in any field, so no sum overflows.
 use native.Mathlib.Omega.{arith}
 use mathlib.Core.Path.{refl}
-use Rattle.sets.specs.steps.Sums.{add, parts-sum, balance-sum}
-use Rattle.sets.proofs.add_sums.Statement.{statement}
-use Rattle.sets.proofs.add_sums.Tie as tie
+use Rattle.sums.specs.steps.Sums.{add, parts-sum, balance-sum}
+use Rattle.sums.proofs.add_sums.Statement.{statement}
+use Rattle.sums.proofs.add_sums.Tie as tie
 
 -- from each struct's last field back to the start, where the bounds stand
 abbrev v : tie.After-struct-known4 → tie.Start

@@ -1,8 +1,8 @@
 -- All fields are 0, and the definition says the same.
 use mathlib.Core.Path.{refl}
-use Rattle.sets.specs.steps.Sums.{no-sums}
-use Rattle.sets.proofs.no_sums.Statement.{statement}
-use Rattle.sets.proofs.no_sums.Tie as tie
+use Rattle.sums.specs.steps.Sums.{no-sums}
+use Rattle.sums.proofs.no_sums.Statement.{statement}
+use Rattle.sums.proofs.no_sums.Tie as tie
 
 returns : tie.Need-returns
 unfolding no-sums

@@ -1,0 +1,2 @@
+-- The laws of sums. Other crates' proofs cite them.
+pub mod Adding
