@@ -4,7 +4,7 @@ use native.Mathlib.Omega.{arith}
 use mathlib.Core.Path.{_≡_, refl, sym, ap, subst}
 use mathlib.Core.List.{List}
 use lib.Dec.{lit≤}
-use Rattle.arithmetic.proofs.Cases.{impossible}
+use Rattle.arithmetic.proofs.Cases.{impossible, unlike}
 use Rattle.kinds.specs.ranges.Range.{Ranged}
 use Rattle.kinds.specs.declared.Kind.the-variants.{B}
 use Rattle.kinds.specs.declared.Numbers.{Numbers}
@@ -33,19 +33,19 @@ use Rattle.answer.specs.Answer.{base-of, LinesGiven, WholeIs, earlier, t
 module _ {fill : ℕ → ℕ → Coefficient} {rows : List Row} {n : ℕ} where
   told-11 : {t : LoadsTold} → LoadsSays fill rows n t → t ≡ refused 11 → AllRanged rows n → ⊥
   told-11 (out-of-range h) e = h
-  told-11 (blank a b) e = let z : _≡_ {A = ℕ} 15 11 = cc in absurd (omega arith)
-  told-11 (too-many a b c) e = let z : _≡_ {A = ℕ} 16 11 = cc in absurd (omega arith)
+  told-11 (blank a b) e = unlike 15 11 refl cc
+  told-11 (too-many a b c) e = unlike 16 11 refl cc
   told-11 (loaded a b c d) e = impossible cc
 
   told-15 : {t : LoadsTold} → LoadsSays fill rows n t → t ≡ refused 15 → AllRanged rows n × (NoneBlank fill rows n → ⊥)
-  told-15 (out-of-range h) e = let z : _≡_ {A = ℕ} 11 15 = cc in absurd (omega arith)
+  told-15 (out-of-range h) e = unlike 11 15 refl cc
   told-15 (blank a b) e = (a, b)
-  told-15 (too-many a b c) e = let z : _≡_ {A = ℕ} 16 15 = cc in absurd (omega arith)
+  told-15 (too-many a b c) e = unlike 16 15 refl cc
   told-15 (loaded a b c d) e = impossible cc
 
   told-16 : {t : LoadsTold} → LoadsSays fill rows n t → t ≡ refused 16 → AllRanged rows n × NoneBlank fill rows n × (12 < optionals rows n)
-  told-16 (out-of-range h) e = let z : _≡_ {A = ℕ} 11 16 = cc in absurd (omega arith)
-  told-16 (blank a b) e = let z : _≡_ {A = ℕ} 15 16 = cc in absurd (omega arith)
+  told-16 (out-of-range h) e = unlike 11 16 refl cc
+  told-16 (blank a b) e = unlike 15 16 refl cc
   told-16 (too-many a b c) e = (a, b, c)
   told-16 (loaded a b c d) e = impossible cc
 

@@ -2,10 +2,17 @@
 use Prim.Native.Nat.{ℕ}
 use native.Mathlib.Omega.{arith}
 use mathlib.Core.Path.{_≡_}
+use mathlib.Core.Bool.{false}
+use lib.Dec.{eqb}
+use borrow.Author.Tests.{eqb-false}
 
 -- whatever is asked for, where `cc` finds that two constructors would be one
 pub impossible : {A : Type 0} → _≡_ {A = ℕ} 0 1 → A
 impossible e = absurd (omega arith)
+
+-- or where two numbers that differ would be one
+pub unlike : {A : Type 0} (m n : ℕ) → eqb m n ≡ false → m ≡ n → A
+unlike m n d e = absurd (eqb-false m n d e)
 
 -- one way where P holds, and another where it does not
 pub by-cases : {P A : Type 0} → Dec P → (P → A) → ((P → ⊥) → A) → A

@@ -1,4 +1,4 @@
--- The text of a number is the one numeral that document 01's reader takes for that number, so no two numbers have one text. By tenths.
+-- The text of a number is the one numeral that document 01's reader takes for that number. By tenths.
 use Prim.Native.Nat.{ℕ, zero, suc, _+_, _*_, _/_, _%_, _^_, _≤_, _<_}
 use mathlib.Core.Path.{_≡_, sym, ap, subst, _∙_}
 use mathlib.Core.List.{List, [], _∷_, _++_}
@@ -8,7 +8,7 @@ use native.Mathlib.Nat.{pow-suc}
 use lib.ListN.{length, length-append, getD}
 use borrow.Author.Tests.{lt-ltb, le-ltb}
 use Rattle.fields.specs.digits.Numerals.{Numeral, one, more}
-use Rattle.fields.proofs.digits.Numerals.{Digit, numeral-digit, numeral-some, numeral-unique}
+use Rattle.fields.proofs.digits.Numerals.{Digit, numeral-digit, numeral-some}
 use Rattle.block.specs.Decimal.{last-digit, digits, decimal}
 
 -- a number below ten, and one that is not
@@ -69,9 +69,6 @@ decimal-only (more {s} {n} {d} some front h) =
     let q : (10 * n + d) / 10 ≡ n = omega arith in
     let r : (10 * n + d) % 10 ≡ d = omega arith in
     rw (decimal-more (10 * n + d) (omega arith), q, r) (ap (λ (t : List ℕ). t ++ ((0x30 + d) ∷ [])) (decimal-only front))
-
-pub decimal-injective : (m n : ℕ) → decimal m ≡ decimal n → m ≡ n
-decimal-injective m n e = numeral-unique (decimal-numeral m) (decimal-numeral n) e
 
 -- every byte of it is a digit, and there is one at least
 pub decimal-plain : (n k : ℕ) → k < length (decimal n) → Digit (getD (decimal n) k 0)

@@ -122,7 +122,3 @@ puts-blank t = elim (decLe (length t) 2048) [ yes h ↦ puts-short t h | no h �
 pub block-held : (t : List ℕ) → length t ≤ 2048 → text-held (block-of t) ≡ t
 unfolding text-held block-of filled
 block-held t h = rw (take-all 2048 t h) (take-append-seam t _)
-
-pub block-length : (t : List ℕ) → length t ≤ 2048 → block-of t .len ≡ length t
-unfolding block-of filled
-block-length t h = rw (take-all 2048 t h)

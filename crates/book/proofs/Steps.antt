@@ -1,5 +1,5 @@
 -- The jobs grow by a row: `GrowsBy`. Rows that are placed are placed by one list of jobs, and taking the last row off leaves rows that are placed.
-use Prim.Native.Nat.{ℕ, zero, suc, _+_, _≤_, _<_}
+use Prim.Native.Nat.{ℕ, zero, suc, _≤_, _<_}
 use native.Mathlib.Omega.{arith}
 use mathlib.Core.Path.{_≡_, refl, sym, ap, subst, _∙_}
 use mathlib.Core.List.{List, [], _∷_, _++_, append-assoc}

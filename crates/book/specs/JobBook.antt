@@ -1,5 +1,5 @@
 -- Document 01, the job book: what a job is, what a book of jobs is, and what the beginning of one is. Nothing here reads.
-use Prim.Native.Nat.{ℕ, suc, _+_, _≤_}
+use Prim.Native.Nat.{ℕ, suc, _≤_}
 use mathlib.Core.Path.{_≡_}
 use mathlib.Core.List.{List, [], _∷_, _++_}
 use lib.ListN.{length}

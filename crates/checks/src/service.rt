@@ -1,10 +1,7 @@
-// Which checks a combination has (document 01, Load sets): OP, OM and SL in service, PR always, RK on rock. Whoever asks for a limit
-// has asked here first.
-use crate::Base;
-use crate::Check;
+// Which combinations are of service (document 01, Load sets): these have OP, OM and SL. PR they have all, and RK on rock.
 use sets::Combination;
 ghost use Rattle.arithmetic.specs.decides.Decides.{Decides};
-ghost use Rattle.checks.specs.service.Service.{Service, HasCheck};
+ghost use Rattle.checks.specs.service.Service.{Service};
 
 // Whether a combination is one of service, I to III.
 pub fn serves(combination: Combination) -> bool
@@ -13,16 +10,5 @@ pub fn serves(combination: Combination) -> bool
     match combination {
         Combination::I | Combination::II | Combination::III => true,
         Combination::IV => false,
-    }
-}
-
-// Whether a combination has a check.
-pub fn has_check(combination: Combination, check: Check, base: Base) -> bool
-    ensures { λ r. ⌜ Decides r (HasCheck combination check base) ⌝ }
-{
-    match check {
-        Check::OP | Check::OM | Check::SL => serves(combination),
-        Check::PR => true,
-        Check::RK => base.rock,
     }
 }

@@ -13,11 +13,11 @@ pub fn note_at(s: &[u8], row: usize) -> &[u8]
     let mut n: usize = 1;
     let mut at: usize = 0;
     loop {
-        let places = crate::cells::cells_at(s, at);
+        let cells = crate::cells::cells_at(s, at);
         if n == row {
-            return crate::cells::cell(s, places, 9);
+            return crate::cells::cell(s, cells, 9);
         }
-        at = places.next;
+        at = cells.next;
         if s.len() <= at {
             return &s[0..0];
         }

@@ -6,7 +6,7 @@ use borrow.Author.Tests.{ltb-false}
 use lib.Dec.{ltb}
 use Prim.Native.Nat.{ℕ, _≤_, _<_}
 use native.Mathlib.Omega.{arith}
-use Rattle.arithmetic.proofs.Cases.{impossible}
+use Rattle.arithmetic.proofs.Cases.{impossible, unlike}
 use Rattle.kinds.specs.declared.Row.{Row}
 use Rattle.earth.specs.declared.table2.Coefficient.{Coefficient}
 use Rattle.earth.specs.table2.Table2.{LowCoefficient}
@@ -44,15 +44,15 @@ module _ (fill : ℕ → ℕ → Coefficient) (rows : List Row) (n : ℕ) where
 back : (a b : LoadsAnswer) (l m : Loads) → loads-told-by a l ≡ loads-told-by b m → Beside a l → Beside b m → (a ≡ b) × (l ≡ m)
 unfolding loads-told-by Beside
 back OutOfRange OutOfRange l m e p q = (refl, p ∙ sym q)
-back OutOfRange NoCoefficient l m e p q = absurd (let z : _≡_ {A = ℕ} 11 15 = cc in omega arith)
-back OutOfRange TooManyOptional l m e p q = absurd (let z : _≡_ {A = ℕ} 11 16 = cc in omega arith)
+back OutOfRange NoCoefficient l m e p q = unlike 11 15 refl cc
+back OutOfRange TooManyOptional l m e p q = unlike 11 16 refl cc
 back OutOfRange Given l m e p q = impossible cc
-back NoCoefficient OutOfRange l m e p q = absurd (let z : _≡_ {A = ℕ} 15 11 = cc in omega arith)
+back NoCoefficient OutOfRange l m e p q = unlike 15 11 refl cc
 back NoCoefficient NoCoefficient l m e p q = (refl, p ∙ sym q)
-back NoCoefficient TooManyOptional l m e p q = absurd (let z : _≡_ {A = ℕ} 15 16 = cc in omega arith)
+back NoCoefficient TooManyOptional l m e p q = unlike 15 16 refl cc
 back NoCoefficient Given l m e p q = impossible cc
-back TooManyOptional OutOfRange l m e p q = absurd (let z : _≡_ {A = ℕ} 16 11 = cc in omega arith)
-back TooManyOptional NoCoefficient l m e p q = absurd (let z : _≡_ {A = ℕ} 16 15 = cc in omega arith)
+back TooManyOptional OutOfRange l m e p q = unlike 16 11 refl cc
+back TooManyOptional NoCoefficient l m e p q = unlike 16 15 refl cc
 back TooManyOptional TooManyOptional l m e p q = (refl, p ∙ sym q)
 back TooManyOptional Given l m e p q = impossible cc
 back Given OutOfRange l m e p q = impossible cc

@@ -2,7 +2,7 @@
 use borrow.Author.Count.{below-more}
 use native.Mathlib.Omega.{arith}
 use native.Mathlib.Numerals.{add-one}
-use mathlib.Core.Path.{_≡_, refl, sym, _∙_, ap, ap₂, subst}
+use mathlib.Core.Path.{_≡_, refl, _∙_, ap, ap₂}
 use mathlib.Core.Bool.{Bool, true, false}
 use mathlib.Core.List.{List}
 use Prim.Native.Nat.{ℕ, _+_, _≤_, _<_}
@@ -16,14 +16,12 @@ use Rattle.earth.specs.declared.table2.Coefficient.{Coefficient}
 use Rattle.sets.specs.declared.Class.{Class}
 use Rattle.sets.specs.declared.Class.the-variants.{Permanent, Free, Wind, Earthquake}
 use Rattle.sets.specs.declared.Load.{Load}
-use Rattle.sets.specs.Sets.{no-load}
 use Rattle.loads.specs.forces.Blank.{BlankThere}
 use Rattle.loads.specs.forces.Exerted.{LoadOf}
 use Rattle.loads.specs.declared.forces.RowLoad.the-variants.{OutOfRange, NoCoefficient, Exerted}
 use Rattle.loads.specs.LoadRows.{load-row, AllRanged, NoneBlank, optionals}
-use Rattle.loads.specs.Asking.{AskedIs}
 use Rattle.loads.proofs.forces.Exerting.{blank-ranged}
-use Rattle.loads.proofs.Laying.{Laid, laid-none, laid-more, laid-all}
+use Rattle.loads.proofs.Laying.{Laid, laid-more}
 
 -- what holds of the rows up to n, with one row more of which it holds, or does not
 decides-more : (P : ℕ → Type 0) (n : ℕ) (r : Bool) → Decides r ((i : ℕ) → i < n → P i) → P n → Decides r ((i : ℕ) → i < n + 1 → P i)

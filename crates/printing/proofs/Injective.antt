@@ -5,7 +5,7 @@ use mathlib.Core.List.{List, [], _∷_, _++_, append-assoc}
 use lib.Seq.{take-append-seam}
 use Rattle.arithmetic.proofs.Cases.{impossible}
 use Rattle.csv.specs.rfc4180.Rfc4180.{COMMA, CR, LF}
-use Rattle.fields.specs.names.Names.{NameIn, name}
+use Rattle.fields.specs.names.Names.{name}
 use Rattle.rows.specs.declared.keys.Key.{Key}
 use Rattle.lines.specs.Lines.{PrintedLine, lines-of}
 use Rattle.printing.specs.line_key.Text.{name-bytes, key-text}
@@ -92,17 +92,6 @@ member-without h = rw (member-bytes h) (name-without (h .member) (h .member-name
 
 job-without : {key : Key} → IsKey key → Without COMMA (name-bytes (key .job))
 job-without h = rw (job-bytes h) (name-without (h .job) (h .job-named))
-
--- two fields that are names make a key
-pub key-read : {raw raw′ : List ℕ} (key : Key) → NameIn raw (key .member) → NameIn raw′ (key .job) → IsKey key
-key-read key p q =
-    record {
-      member = p .content;
-      job = q .content;
-      member-named = p .is;
-      job-named = q .is;
-      held = λ i. record { member = p .held i; job = q .held i };
-    }
 
 -- A line and what follows it say the key, the line, and what follows; lines say themselves.
 module _ {k k′ : Key} (h : IsKey k) (h′ : IsKey k′) where

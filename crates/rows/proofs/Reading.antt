@@ -122,14 +122,6 @@ module _ {s : List ℕ} {start : ℕ} {r : Cells} (h : RowAt s start r) (cs : Li
       let none : (b : BookRow) → Form cs b → ⊥ = λ b f. let m : r .count ≡ 10 = i .count ∙ f .ten in n m (ten-at m) b f in
       subst (RowSeen s start cs css) (sym p) (record { means = (none, refl); behind = i .behind; on = i .on; rest = i .rest })
 
--- the test of a row's cells
-abbrev passes : ℕ → Bool → Bool → Bool → Bool
-passes n a b c = ((eqb n 10 && a) && b) && c
-
-pub passed : (n : ℕ) (a b c : Bool) → Decides (passes n a b c) ((((n ≡ 10) × (a ≡ true)) × (b ≡ true)) × (c ≡ true))
-passed n a b c =
-    decides-both (((n ≡ 10) × (a ≡ true)) × (b ≡ true)) (c ≡ true) ((eqb n 10 && a) && b) c
-    (decides-both ((n ≡ 10) × (a ≡ true)) (b ≡ true) (eqb n 10 && a) b
-    (decides-both (n ≡ 10) (a ≡ true) (eqb n 10) a (decides-equal n 10) (decides-flag a))
-    (decides-flag b))
-    (decides-flag c)
+-- the test of a row's names and numbers
+pub passed : (a b c : Bool) → Decides ((a && b) && c) (((a ≡ true) × (b ≡ true)) × (c ≡ true))
+passed a b c = decides-both ((a ≡ true) × (b ≡ true)) (c ≡ true) (a && b) c (decides-both (a ≡ true) (b ≡ true) a b (decides-flag a) (decides-flag b)) (decides-flag c)

@@ -62,27 +62,27 @@ fn entry_at(column: Column, raw: &[u8]) -> EntryRead
 }
 
 // The six numbers of a row of a kind.
-fn numbers_of(s: &[u8], places: Cells, kind: Kind) -> NumbersRead
-    ensures { λ r. ⌜ NumbersAre (now (s .entry)) places kind r ⌝ }
+fn numbers_of(s: &[u8], cells: Cells, kind: Kind) -> NumbersRead
+    ensures { λ r. ⌜ NumbersAre (now (s .entry)) cells kind r ⌝ }
 {
     let columns = kinds::columns_of(kind);
     let c1 = columns.n1;
-    let e1 = entry_at(c1, csv::cells::cell(s, places, 3));
+    let e1 = entry_at(c1, csv::cells::cell(s, cells, 3));
     let n1 = e1.entry;
     let c2 = columns.n2;
-    let e2 = entry_at(c2, csv::cells::cell(s, places, 4));
+    let e2 = entry_at(c2, csv::cells::cell(s, cells, 4));
     let n2 = e2.entry;
     let c3 = columns.n3;
-    let e3 = entry_at(c3, csv::cells::cell(s, places, 5));
+    let e3 = entry_at(c3, csv::cells::cell(s, cells, 5));
     let n3 = e3.entry;
     let c4 = columns.n4;
-    let e4 = entry_at(c4, csv::cells::cell(s, places, 6));
+    let e4 = entry_at(c4, csv::cells::cell(s, cells, 6));
     let n4 = e4.entry;
     let c5 = columns.n5;
-    let e5 = entry_at(c5, csv::cells::cell(s, places, 7));
+    let e5 = entry_at(c5, csv::cells::cell(s, cells, 7));
     let n5 = e5.entry;
     let c6 = columns.n6;
-    let e6 = entry_at(c6, csv::cells::cell(s, places, 8));
+    let e6 = entry_at(c6, csv::cells::cell(s, cells, 8));
     let n6 = e6.entry;
     let numbers = Numbers {
         n1,
@@ -114,15 +114,17 @@ pub fn read_row(s: &[u8], start: usize) -> RowRead
     requires { ⌜ Readable (drop start (now s)) ⌝ }
     ensures { λ r. ⌜ SeenAt (now (s .entry)) start r ⌝ }
 {
-    let places = csv::cells::cells_at(s, start);
-    let KindRead::Known(kind) = kinds::letters::kind_at(csv::cells::cell(s, places, 2)) else {
-        return unread(places.next);
+    let cells = csv::cells::cells_at(s, start);
+    if cells.count != 10 {
+        return unread(cells.next);
+    }
+    let KindRead::Known(kind) = kinds::letters::kind_at(csv::cells::cell(s, cells, 2)) else {
+        return unread(cells.next);
     };
-    let numbers_read = numbers_of(s, places, kind);
-    let member_read = fields::names::name_at(csv::cells::cell(s, places, 0));
-    let job_read = fields::names::name_at(csv::cells::cell(s, places, 1));
-    // of a row that has not ten fields these are read for nothing
-    if (places.count == 10) & member_read.good & job_read.good & numbers_read.good {
+    let numbers_read = numbers_of(s, cells, kind);
+    let member_read = fields::names::name_at(csv::cells::cell(s, cells, 0));
+    let job_read = fields::names::name_at(csv::cells::cell(s, cells, 1));
+    if member_read.good & job_read.good & numbers_read.good {
         let member = member_read.name;
         let job = job_read.name;
         let key = Key { member, job };
@@ -132,8 +134,8 @@ pub fn read_row(s: &[u8], start: usize) -> RowRead
         return RowRead {
             good: true,
             row: keyed,
-            next: places.next,
+            next: cells.next,
         };
     }
-    unread(places.next)
+    unread(cells.next)
 }

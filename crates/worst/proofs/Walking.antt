@@ -8,7 +8,7 @@ use native.Mathlib.Nat.{lt-of-lt-of-le}
 use native.Mathlib.Decide.{decLt}
 use lib.Pow.{pow-mono}
 use Rattle.arithmetic.proofs.Cases.{by-cases}
-use Rattle.arithmetic.specs.decides.Decides.{Decides}
+use Rattle.arithmetic.specs.decides.Decides.{Decides, decided, not-both}
 use Rattle.sets.specs.declared.Combination.{Combination}
 use Rattle.sets.specs.declared.Loads.{Loads}
 use Rattle.sums.specs.declared.Sums.{Sums}
@@ -48,9 +48,22 @@ unfoldable pub GoneThrough : Combination → Loads → ℕ → ℕ → Type 0
 GoneThrough combination loads n t = (k : ℕ) × (k < n) × (t ≡ set-of combination loads k)
 
 -- the worst so far, check by check, after the first n choices
-unfoldable pub SoFar : Combination → Base → Loads → Bool → ℕ → RankedSet → Worst → Type 0
-SoFar combination base loads serves n none worst =
-    (check : Check) → Weighed serves base check → Extends (side check) (Permitted combination loads) (Shows check base loads) (GoneThrough combination loads n) none (ranked-of check worst)
+pub record SoFar (combination : Combination) (base : Base) (loads : Loads) (serves : Bool) (n : ℕ) (none : RankedSet) (worst : Worst) : Type 0 where
+  pub weighed : (check : Check) → Weighed serves base check → Extends (side check) (Permitted combination loads) (Shows check base loads) (GoneThrough combination loads n) none (ranked-of check worst)
+  pub only : (check : Check) → ((ranked-of check worst) .set ≡ 0 → ⊥) → Weighed serves base check
+
+-- whether a check is weighed is decided
+is-true : (b : Bool) → Dec (b ≡ true)
+is-true true = yes refl
+is-true false = no (λ e. not-both e refl)
+
+weighed-or-not : (serves : Bool) (base : Base) (check : Check) → Dec (Weighed serves base check)
+unfolding Weighed
+weighed-or-not serves base OP = is-true serves
+weighed-or-not serves base OM = is-true serves
+weighed-or-not serves base SL = is-true serves
+weighed-or-not serves base PR = yes tt
+weighed-or-not serves base RK = is-true (base .rock)
 
 module _ (combination : Combination) (base : Base) (loads : Loads) (bounded : Bounded loads) (arises : Arises combination loads) where
   pub set-low : (k : ℕ) → set-of combination loads k < 65536
@@ -84,20 +97,27 @@ module _ (combination : Combination) (base : Base) (loads : Loads) (bounded : Bo
 
   pub one-choice : (serves : Bool) (n : ℕ) (none : RankedSet) {sums : Sums} {b r : Worst} → sums ≡ sums-of (base .width) loads (set-of combination loads n) → Visits combination serves base sums b r
       → SoFar combination base loads serves n none b → SoFar combination base loads serves (n + 1) none r
-  unfolding SoFar
-  one-choice serves n none {sums} {b} {r} e v so check on = ⊎-elim inside outside (v .came)
+  one-choice serves n none {sums} {b} {r} e v so =
+      record {
+        weighed = λ check on. ⊎-elim (inside check on) (outside check on) (v .came);
+        only = λ check found. by-cases (weighed-or-not serves base check) (λ on. on) (λ off. so .only check (λ z. found (kept check off z)));
+      }
     where
+      kept : (check : Check) → (Weighed serves base check → ⊥) → (ranked-of check b) .set ≡ 0 → (ranked-of check r) .set ≡ 0
+      kept check off z =
+          ⊎-elim (λ w. ap (λ (x : RankedSet). x .set) (w .1 .left check off) ∙ z) (λ w. ap (λ (x : Worst). (ranked-of check x) .set) (w .1) ∙ z) (v .came)
+
       number : sums .set ≡ set-of combination loads n
       number = ap (λ (s : Sums). s .set) e ∙ set-number n
 
       admits : Admits combination (sums .winds) (sums .earthquakes) (sums .set) ≡ Admits combination ((sums-of (base .width) loads (set-of combination loads n)) .winds) ((sums-of (base .width) loads (set-of combination loads n)) .earthquakes) (set-of combination loads n)
       admits = (λ i. Admits combination ((e i) .winds) ((e i) .earthquakes) (number i))
 
-      inside : Admits combination (sums .winds) (sums .earthquakes) (sums .set)
+      inside : (check : Check) → Weighed serves base check → Admits combination (sums .winds) (sums .earthquakes) (sums .set)
           × Weighs serves base sums b r
           → Extends (side check) (Permitted combination loads) (Shows check base loads) (GoneThrough combination loads (n + 1)) none (ranked-of check r)
-      inside w =
-          offer (side check) (Permitted combination loads) (Shows check base loads) (set-of combination loads n) (so check on) (gone-through-more n)
+      inside check on w =
+          offer (side check) (Permitted combination loads) (Shows check base loads) (set-of combination loads n) (so .weighed check on) (gone-through-more n)
           (admitted-permitted (base .width) loads (set-of combination loads n) combination (fits n) arises (subst (λ (A : Type 0). A) admits (w .0)))
           (shown (w .1 .offered check on))
         where
@@ -110,11 +130,11 @@ module _ (combination : Combination) (base : Base) (loads : Loads) (bounded : Bo
                 worse = o .worse;
               })
 
-      outside : (Admits combination (sums .winds) (sums .earthquakes) (sums .set) → ⊥) × (r ≡ b)
+      outside : (check : Check) → Weighed serves base check → (Admits combination (sums .winds) (sums .earthquakes) (sums .set) → ⊥) × (r ≡ b)
           → Extends (side check) (Permitted combination loads) (Shows check base loads) (GoneThrough combination loads (n + 1)) none (ranked-of check r)
-      outside w =
+      outside check on w =
           subst⁻¹ (λ (x : Worst). Extends (side check) (Permitted combination loads) (Shows check base loads) (GoneThrough combination loads (n + 1)) none (ranked-of check x)) (w .1)
-          (skip (side check) (Permitted combination loads) (Shows check base loads) (set-of combination loads n) (so check on) (gone-through-more n)
+          (skip (side check) (Permitted combination loads) (Shows check base loads) (set-of combination loads n) (so .weighed check on) (gone-through-more n)
           (λ p. w .0 (subst⁻¹ (λ (A : Type 0). A) admits (admitted (base .width) loads (set-of combination loads n) combination p))))
 
   -- every permitted set is a choice
@@ -126,13 +146,23 @@ module _ (combination : Combination) (base : Base) (loads : Loads) (bounded : Bo
 
   pub all-found : (serves : Bool) (n : ℕ) (none : RankedSet) (worst : Worst) → n ≡ 2 ^ choosable (stance-at combination loads) (loads .count) → none .set ≡ 0 → none .rank ≡ 2 ^ 64 - 1
       → Decides serves (Service combination) → SoFar combination base loads serves n none worst → Walked combination base loads worst
-  unfolding Walked SoFar Weighed HasCheck
-  all-found serves n none worst e z l d so check has =
+  unfolding Weighed HasCheck
+  all-found serves n none worst e z l d so =
       record {
-        named = λ found v has-rank ranked. ends-named _ _ _ over every some rows one z l v has-rank ranked found;
-        none = λ empty. ends-empty _ _ _ over every some rows one z l empty;
+        has = λ check found. had check (so .only check found);
+        found = λ check has. record {
+          named = λ found v has-rank ranked. ends-named _ _ _ (over check has) every some rows (one check) z l v has-rank ranked found;
+          none = λ empty. ends-empty _ _ _ (over check has) every some rows (one check) z l empty;
+        };
       }
     where
+      had : (check : Check) → Weighed serves base check → HasCheck combination check base
+      had OP h = decided serves h d
+      had OM h = decided serves h d
+      had SL h = decided serves h d
+      had PR h = tt
+      had RK h = h
+
       serving : (serves : Bool) → Decides serves (Service combination) → Service combination → serves ≡ true
       serving true d s = refl
       serving false d s = absurd (d s)
@@ -144,8 +174,8 @@ module _ (combination : Combination) (base : Base) (loads : Loads) (bounded : Bo
       weighed PR h = tt
       weighed RK h = h
 
-      over : Extends (side check) (Permitted combination loads) (Shows check base loads) (GoneThrough combination loads (2 ^ choosable (stance-at combination loads) (loads .count))) none (ranked-of check worst)
-      over = subst (λ (m : ℕ). Extends (side check) (Permitted combination loads) (Shows check base loads) (GoneThrough combination loads m) none (ranked-of check worst)) e (so check (weighed check has))
+      over : (check : Check) → HasCheck combination check base → Extends (side check) (Permitted combination loads) (Shows check base loads) (GoneThrough combination loads (2 ^ choosable (stance-at combination loads) (loads .count))) none (ranked-of check worst)
+      over check has = subst (λ (m : ℕ). Extends (side check) (Permitted combination loads) (Shows check base loads) (GoneThrough combination loads m) none (ranked-of check worst)) e (so .weighed check (weighed check has))
 
       some : (t : ℕ) → Permitted combination loads t → 0 < t
       some t p = p .some
@@ -153,11 +183,14 @@ module _ (combination : Combination) (base : Base) (loads : Loads) (bounded : Bo
       rows : (t : ℕ) → Permitted combination loads t → t < 65536
       rows t p = lt-of-lt-of-le (p .within) (pow-mono {j = 16} (bounded .count))
 
-      one : (t : ℕ) (v w : Figure) → Shows check base loads t v → Shows check base loads t w → v ≡ w
-      one t v w p q = shows-one check base loads t v w p q
+      one : (check : Check) (t : ℕ) (v w : Figure) → Shows check base loads t v → Shows check base loads t w → v ≡ w
+      one check t v w p q = shows-one check base loads t v w p q
 
-  pub nothing-passed : (serves : Bool) (none : RankedSet) (worst : Worst) → ((check : Check) → ranked-of check worst ≡ none) → SoFar combination base loads serves 0 none worst
-  unfolding SoFar GoneThrough
-  nothing-passed serves none worst e check on =
-      subst⁻¹ (Extends (side check) (Permitted combination loads) (Shows check base loads) (GoneThrough combination loads 0) none) (e check)
-      (nothing-yet (side check) (Permitted combination loads) (Shows check base loads) (λ t w. omega (arith, w .1)))
+  pub nothing-passed : (serves : Bool) (none : RankedSet) (worst : Worst) → none .set ≡ 0 → ((check : Check) → ranked-of check worst ≡ none) → SoFar combination base loads serves 0 none worst
+  unfolding GoneThrough
+  nothing-passed serves none worst z e =
+      record {
+        weighed = λ check on. subst⁻¹ (Extends (side check) (Permitted combination loads) (Shows check base loads) (GoneThrough combination loads 0) none) (e check)
+            (nothing-yet (side check) (Permitted combination loads) (Shows check base loads) (λ t w. omega (arith, w .1)));
+        only = λ check found. absurd (found (ap (λ (x : RankedSet). x .set) (e check) ∙ z));
+      }

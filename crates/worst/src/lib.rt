@@ -14,6 +14,7 @@ use sets::Combination;
 use sets::Loads;
 use weighing::Worst;
 use weighing::ranked::RankedSet;
+ghost use mathlib.Core.Path.{_≡_};
 ghost use Prim.Native.Nat.{_≤_};
 ghost use Rattle.sets.specs.declared.Loads.{Loads};
 ghost use Rattle.sets.specs.Sets.{Bounded};
@@ -60,17 +61,18 @@ fn walk(combination: Combination, base: Base, loads: Loads) -> Worst
     worst
 }
 
-// The line of a check from the rank and the set that the walk found.
-fn line_at(combination: Combination, check: Check, base: Base, rank: u64, set: u64) -> Line
+// The line of a check from the ranked set that the walk found.
+fn line_at(combination: Combination, check: Check, base: Base, found: RankedSet) -> Line
     requires { ⌜ base .allowable ≤ 10000 ⌝ }
-    ensures { λ r. ⌜ ((loads : Loads) → (HasCheck combination check base → FoundWorst combination check base loads (record { rank = rank; set = set }))
+    requires { ⌜ ((found .set ≡ 0 → ⊥) → HasCheck combination check base) ⌝ }
+    ensures { λ r. ⌜ ((loads : Loads) → (HasCheck combination check base → FoundWorst combination check base loads found)
         → LineSays combination check base loads r) ⌝ }
 {
-    let has = checks::service::has_check(combination, check, base);
-    if !has | (set == 0) {
+    let set = found.set;
+    if set == 0 {
         return Line::Missing;
     }
-    let figure = checks::figure_at(check, rank);
+    let figure = checks::figure_at(check, found.rank);
     let limit = checks::limits::limit_of(combination, check, base);
     let passes = checks::passing::passes(check, limit, figure);
     Line::Shown {
@@ -92,10 +94,10 @@ pub fn worst_lines(combination: Combination, base: Base, loads: Loads) -> Lines
     }
     let worst = walk(combination, base, loads);
     Lines {
-        op: line_at(combination, Check::OP, base, worst.op.rank, worst.op.set),
-        om: line_at(combination, Check::OM, base, worst.om.rank, worst.om.set),
-        sl: line_at(combination, Check::SL, base, worst.sl.rank, worst.sl.set),
-        pr: line_at(combination, Check::PR, base, worst.pr.rank, worst.pr.set),
-        rk: line_at(combination, Check::RK, base, worst.rk.rank, worst.rk.set),
+        op: line_at(combination, Check::OP, base, worst.op),
+        om: line_at(combination, Check::OM, base, worst.om),
+        sl: line_at(combination, Check::SL, base, worst.sl),
+        pr: line_at(combination, Check::PR, base, worst.pr),
+        rk: line_at(combination, Check::RK, base, worst.rk),
     }
 }

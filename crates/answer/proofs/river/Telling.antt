@@ -1,10 +1,10 @@
 -- What `scour` and `clearance` tell of a row, told of its job: a refusal of a row is one of the job, the lower of two comes first, and no
 -- other holds beside what is told.
-use Prim.Native.Nat.{ℕ, _≤_, _<_}
+use Prim.Native.Nat.{ℕ, _<_}
 use native.Mathlib.Omega.{arith}
 use mathlib.Core.Path.{_≡_, refl, sym, subst, subst⁻¹}
-use mathlib.Core.Bool.{Bool, true, false}
-use Rattle.arithmetic.proofs.Cases.{impossible}
+use mathlib.Core.Bool.{Bool, true}
+use Rattle.arithmetic.proofs.Cases.{impossible, unlike}
 use Rattle.arithmetic.specs.decides.Decides.{Decides, decided, refuted}
 use Rattle.kinds.specs.ranges.Range.{value, Ranged}
 use Rattle.kinds.specs.declared.Kind.the-variants.{S, C}
@@ -21,7 +21,7 @@ use Rattle.scour.proofs.ScourRow.{scour-says-one}
 use Rattle.clearance.proofs.Clearances as clearances
 use Rattle.lines.specs.declared.RiverLine.{RiverLine}
 use Rattle.lines.specs.declared.RiverLine.the-variants as lines
-use Rattle.answer.specs.river.River.{LargeCatchment, TooIntense, OverObstructed, OnRock, DepthShown, DepthIs, ClearShown, ClearIs, RiverRanged, ScourAllowed, RiverSays}
+use Rattle.answer.specs.river.River.{LargeCatchment, TooIntense, OverObstructed, OnRock, DepthIs, ClearIs, ScourAllowed, RiverSays}
 use Rattle.answer.specs.river.River as says
 use Rattle.answer.specs.river.Rows.{DepthLineIs, DepthGiven, ClearLineIs, ClearGiven, both}
 use Rattle.answer.specs.declared.river.RowGives.{RowGives}
@@ -78,7 +78,7 @@ module _ (job : Job) where
     depth-gives (scour-row.in-range k (scour.large-catchment h)) (Line l) w = let e = w .1 in impossible cc
     depth-gives (scour-row.in-range k (scour.too-intense {q} c h)) (Refused n) e =
         depth-number e (intense (λ _. k)
-        (λ l. let d = scour-says-one (scour-row.in-range k (scour.large-catchment (l .above))) (scour-row.in-range k (scour.too-intense c h)) in let z : _≡_ {A = ℕ} 12 13 = cc in omega arith)
+        (λ l. let d = scour-says-one (scour-row.in-range k (scour.large-catchment (l .above))) (scour-row.in-range k (scour.too-intense c h)) in unlike 12 13 refl cc)
         (record { has = has; q = q; constricted = c; above = h }))
     depth-gives (scour-row.in-range k (scour.too-intense c h)) (Line l) w = let e = w .1 in impossible cc
     depth-gives (scour-row.in-range k (scour.needed d n)) (Refused m) e = impossible cc

@@ -9,7 +9,7 @@ use lib.Dec.{ltb}
 use lib.IntN.{ℤ, pos, negsuc, negℤ, natAbs, _+ℤ_, _-ℤ_, _*ℤ_, negℤ-negℤ, +ℤ-assoc, +ℤ-comm, negℤ-+ℤ, pos-+ℤ-pos, +ℤ-idr, +ℤ-idl}
 use Rattle.arithmetic.specs.declared.signed.Amount.{Amount}
 use Rattle.arithmetic.specs.declared.signed.Parts.{Parts}
-use Rattle.arithmetic.specs.signed.Whole.{signed, worth, amount, above, below, parts-of, times, Small}
+use Rattle.arithmetic.specs.signed.Whole.{signed, worth, amount, above, below, times, Small}
 
 -- an amount's parts
 pub above-minus : (a : Amount) → a .minus ≡ true → above (worth a) ≡ 0
@@ -124,10 +124,6 @@ below-mul (negsuc a) (negsuc b) = omega (arith, mul-zero (suc a), zero-mul (suc 
 
 pub same-parts : {p q : Parts} → p .above ≡ q .above → p .below ≡ q .below → p ≡ q
 same-parts a b = λ i. record { above = a i; below = b i }
-
-pub parts-mul : (y z : ℤ) → times (parts-of y) (parts-of z) ≡ parts-of (y *ℤ z)
-unfolding times parts-of
-parts-mul y z = same-parts (sym (above-mul y z)) (sym (below-mul y z))
 
 -- the four products of small parts
 pub record Products (p q : Parts) : Type 0 where

@@ -12,17 +12,17 @@ abbrev pub Decides : Bool → Type 0 → Type 0
 Decides true P = P
 Decides false P = P → ⊥
 
-pub decided : {P : Type 0} (r : Bool) → r ≡ true → Decides r P → P
-decided true e h = h
-decided false e h = let z : _≡_ {A = ℕ} 0 1 = cc in absurd (omega arith)
-
-pub refuted : {P : Type 0} (r : Bool) → r ≡ false → Decides r P → P → ⊥
-refuted true e h p = let z : _≡_ {A = ℕ} 0 1 = cc in omega arith
-refuted false e h p = h p
-
 -- no answer is both
 pub not-both : {r : Bool} → r ≡ true → r ≡ false → ⊥
 not-both p q = let z : _≡_ {A = ℕ} 0 1 = cc in omega arith
+
+pub decided : {P : Type 0} (r : Bool) → r ≡ true → Decides r P → P
+decided true e h = h
+decided false e h = absurd (not-both e refl)
+
+pub refuted : {P : Type 0} (r : Bool) → r ≡ false → Decides r P → P → ⊥
+refuted true e h p = not-both refl e
+refuted false e h p = h p
 
 -- a yes-or-no promise has one answer
 pub decides-one : (P : Type 0) (a b : Bool) → Decides a P → Decides b P → a ≡ b

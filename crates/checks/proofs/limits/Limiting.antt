@@ -1,4 +1,4 @@
--- Limits are one for each check, and only where the combination has it.
+-- Each check has one limit at most.
 use mathlib.Core.Path.{_≡_, sym, _∙_}
 use Prim.Native.Nat.{ℕ}
 use Rattle.arithmetic.proofs.rounding.Laws.{greatest-one}
@@ -7,10 +7,8 @@ use Rattle.sets.specs.declared.Combination.the-variants.{I, II, III, IV}
 use Rattle.checks.specs.declared.Base.{Base}
 use Rattle.checks.specs.declared.Check.{Check}
 use Rattle.checks.specs.declared.Check.the-variants.{OP, OM, SL, PR, RK}
-use Rattle.checks.specs.service.Service.{Service, HasCheck}
 use Rattle.checks.specs.limits.Limits.{TippingLimit, SlidingLimit, PressureLimit, Limit}
 
--- ---- a check has one limit, and only where the combination has the check
 tipping-one : (k : Combination) {m n : ℕ} → TippingLimit k m → TippingLimit k n → m ≡ n
 unfolding TippingLimit
 tipping-one I p q = p ∙ sym q
@@ -39,25 +37,3 @@ limit-one k OM base m n p q = tipping-one k p q
 limit-one k SL base m n p q = sliding-one k p q
 limit-one k PR base m n p q = pressure-limit-one k (base .allowable) p q
 limit-one k RK base m n p q = p .1 ∙ sym (q .1)
-
-tipping-serves : (k : Combination) (n : ℕ) → TippingLimit k n → Service k
-unfolding TippingLimit Service
-tipping-serves I n p = tt
-tipping-serves II n p = tt
-tipping-serves III n p = tt
-tipping-serves IV n p = p
-
-sliding-serves : (k : Combination) (n : ℕ) → SlidingLimit k n → Service k
-unfolding SlidingLimit Service
-sliding-serves I n p = tt
-sliding-serves II n p = tt
-sliding-serves III n p = tt
-sliding-serves IV n p = p
-
-pub limit-has : (k : Combination) (check : Check) (base : Base) (n : ℕ) → Limit k check base n → HasCheck k check base
-unfolding Limit HasCheck
-limit-has k OP base n p = tipping-serves k n p
-limit-has k OM base n p = tipping-serves k n p
-limit-has k SL base n p = sliding-serves k n p
-limit-has k PR base n p = tt
-limit-has k RK base n p = p .0

@@ -1,5 +1,5 @@
 -- The job at a place of a book that is read: the jobs of a book that is given stand in the first of the 64 places.
-use Prim.Native.Nat.{ℕ, suc, _+_, _-_, _≤_, _<_}
+use Prim.Native.Nat.{ℕ, suc, _-_, _≤_, _<_}
 use native.Mathlib.Omega.{arith}
 use mathlib.Core.Path.{_≡_, sym, ap, subst, _∙_}
 use mathlib.Core.List.{List, _∷_, _++_}
@@ -74,11 +74,11 @@ pub record JobThere (s : List ℕ) (jobs : List Job) (place : ℕ) : Type 0 wher
   pub row : (d : Job) → RowIn (values written) place (getD jobs (place - 1) d)
 
 module _ {s : List ℕ} {b : Book} (w : book.BookIs s b) (place : ℕ) {f : Found} where
-  pub job-there : FoundIs (b .count) place f → f ≡ There → JobThere s (b .jobs) place
-  job-there (refused e g) t = impossible cc
-  job-there (at-none e k g) t = impossible cc
-  job-there (past e k g) t = impossible cc
-  job-there (within {n} e k l g) t =
+  pub found-there : FoundIs (b .count) place f → f ≡ There → JobThere s (b .jobs) place
+  found-there (refused e g) t = impossible cc
+  found-there (at-none e k g) t = impossible cc
+  found-there (past e k g) t = impossible cc
+  found-there (within {n} e k l g) t =
       let h = held s b n w e in
       let few = h .few in
       let low : 1 ≤ place = omega (arith, k) in

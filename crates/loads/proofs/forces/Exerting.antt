@@ -6,7 +6,7 @@ use native.Mathlib.Omega.{arith}
 use native.Mathlib.Nat.{le-trans, mul-le-mul}
 use lib.Dec.{lit≤}
 use lib.IntN.{_*ℤ_}
-use Rattle.arithmetic.proofs.Cases.{impossible}
+use Rattle.arithmetic.proofs.Cases.{impossible, unlike}
 use Rattle.fields.specs.declared.Entry.{Entry}
 use Rattle.kinds.specs.declared.Kind.{Kind}
 use Rattle.kinds.specs.declared.Kind.the-variants.{B, S, C, E, DL, EP, LL, LF, CF, WC, BU, TM, EX, WL, SF}
@@ -80,7 +80,7 @@ around-size a e h = go (e .minus) refl
 
 -- ---- what a load row is told: by the push of its fill, or by its own numbers
 pushed-not : {height length : ℕ} {k : Coefficient} {t : EarthTold} → Pushed height length k t → t ≡ refused 11 → ⊥
-pushed-not blank e = let z : _≡_ {A = ℕ} 15 11 = cc in omega arith
+pushed-not blank e = unlike 15 11 refl cc
 pushed-not (earth.has-coefficient h y) e = impossible cc
 
 out-of-range-not : {fill : ℕ → ℕ → Coefficient} {row : Numbers} {t : EarthTold} → Pressed fill row t → t ≡ refused 11 → Ranged E row → ⊥
@@ -105,7 +105,7 @@ module _ (fill : ℕ → ℕ → Coefficient) (row : Row) where
 
     pub told-blank : Pressed fill (row .numbers) (refused 15) → LoadOf fill row RowLoad.NoCoefficient
     unfolding LoadOf BlankThere
-    told-blank p = (own-range (in-range-else p (λ e. let z : _≡_ {A = ℕ} 15 11 = cc in omega arith)), (is-earth, p))
+    told-blank p = (own-range (in-range-else p (λ e. unlike 15 11 refl cc)), (is-earth, p))
 
     pub told-push : {H y : ℕ} (load : Load) → Pressed fill (row .numbers) (earth.push H y) → Kept load → EarthLoad H y load → LoadOf fill row (RowLoad.Exerted load)
     unfolding LoadOf BlankThere Kept Forces
@@ -124,7 +124,7 @@ module _ (fill : ℕ → ℕ → Coefficient) (row : Row) where
 -- a row whose fill is asked at a blank place is in range
 pub blank-ranged : (fill : ℕ → ℕ → Coefficient) (row : Row) → BlankThere fill row → Ranged (row .kind) (row .numbers)
 unfolding BlankThere
-blank-ranged fill row b = own-range fill row (b .0) (in-range-else (b .1) (λ e. let z : _≡_ {A = ℕ} 15 11 = cc in omega arith))
+blank-ranged fill row b = own-range fill row (b .0) (in-range-else (b .1) (λ e. unlike 15 11 refl cc))
 
 -- ---- how large a load is
 earth-bounded : {H y : ℕ} {load : Load} → H ≤ 300000 → H * y ≤ 3000000000 → EarthLoad H y load → BoundedLoad load

@@ -14,6 +14,14 @@ use Rattle.rows.proofs.read_row.Tie as tie
 cells-at-requires : tie.Need-cells-at-requires
 cells-at-requires c κs = search needs
 
+unread-requires : tie.Need-unread-requires
+unread-requires c κs = search needs
+
+returns : tie.Need-returns
+returns c = λ cs css q.
+    let at-row = c .before .before .before in
+    seen-none (at-row .cells-at .ensures) cs css q (c .unread .result) (c .unread .ensures) (λ n t b f. c .before .if1 .taken n)
+
 cell-requires : tie.Need-cell-requires
 cell-requires c κs = search needs
 
@@ -26,13 +34,13 @@ enum-known-kind c = search needs
 enum-told : tie.Need-enum-told
 enum-told c = search needs
 
-unread-requires : tie.Need-unread-requires
-unread-requires c κs = search needs
+unread-requires-2 : tie.Need-unread-requires-2
+unread-requires-2 c κs = search needs
 
-returns : tie.Need-returns
-returns c = λ cs css q.
+returns-2 : tie.Need-returns-2
+returns-2 c = λ cs css q.
     let at-kind = c .before .before .before in
-    seen-none (at-kind .before .before .cells-at .ensures) cs css q (c .unread .result) (c .unread .ensures)
+    seen-none (at-kind .before .before .before .before .cells-at .ensures) cs css q (c .unread2 .result) (c .unread2 .ensures)
     (λ n t b f. cell-no-kind t 2 _ (lit< tt) (at-kind .before .cell .ensures) (subst (KindAt _) (c .before .enum-told .given .1) (at-kind .kind-at .ensures)) (b .keyed .row .kind) (f .kind))
 
 numbers-of-requires : tie.Need-numbers-of-requires
@@ -50,64 +58,66 @@ cell-requires-3 c κs = search needs
 name-at-requires-2 : tie.Need-name-at-requires-2
 name-at-requires-2 c κs = search needs
 
-returns-2 : tie.Need-returns-2
-returns-2 c = λ cs css q.
-    let at-job = c .before .before .before .before .before .before .before .before in
+returns-3 : tie.Need-returns-3
+returns-3 c = λ cs css q.
+    let at-job = c .before .before .before .before .before .before .before in
     let at-member = at-job .before .before in
     let at-numbers = at-member .before .before in
     let numbers = at-numbers .numbers-of .result in
     let at-x = at-numbers .before .before in
     let at-kind = at-x .before .before in
     let kind = at-x .kind .given .0 .0 in
-    let at-row = at-kind .before .before in
-    let tests = decided _ (c .before .before .before .if1 .taken) (passed (at-row .cells-at .result .count) (at-member .name-at .result .good) (at-job .name-at2 .result .good) (numbers .good)) in
-    seen-row (at-row .cells-at .ensures) cs css q (tests .0 .0 .0) _ (λ t. record {
+    let at-ten = at-kind .before .before in
+    let tests = decided _ (c .before .before .before .if2 .taken) (passed (at-member .name-at .result .good) (at-job .name-at2 .result .good) (numbers .good)) in
+    seen-row (at-ten .before .before .cells-at .ensures) cs css q (at-ten .if1 .left) _ (λ t. record {
       ten = t .ten;
-      member = cell-name t 0 _ (lit< tt) (at-member .before .cell2 .ensures) (at-member .name-at .result) (tests .0 .0 .1) (at-member .name-at .ensures);
+      member = cell-name t 0 _ (lit< tt) (at-member .before .cell2 .ensures) (at-member .name-at .result) (tests .0 .0) (at-member .name-at .ensures);
       job = cell-name t 1 _ (lit< tt) (at-job .before .cell3 .ensures) (at-job .name-at2 .result) (tests .0 .1) (at-job .name-at2 .ensures);
       kind = cell-kind t 2 _ (lit< tt) (at-kind .before .cell .ensures) kind (subst (KindAt _) (at-x .kind .given .1) (at-kind .kind-at .ensures));
       numbers = subst (λ (g : Bool). NumbersGiven g (numbers .numbers) kind cs) (tests .1) (at-numbers .numbers-of .ensures cs t);
       note = refl;
     })
 
-unread-requires-2 : tie.Need-unread-requires-2
-unread-requires-2 c κs = search needs
+unread-requires-3 : tie.Need-unread-requires-3
+unread-requires-3 c κs = search needs
 
-returns-3 : tie.Need-returns-3
-returns-3 c = λ cs css q.
-    let at-job = c .before .before .before .before .before .before in
+returns-4 : tie.Need-returns-4
+returns-4 c = λ cs css q.
+    let at-job = c .before .before .before .before .before in
     let at-member = at-job .before .before in
     let at-numbers = at-member .before .before in
     let numbers = at-numbers .numbers-of .result in
     let at-x = at-numbers .before .before in
     let at-kind = at-x .before .before in
     let kind = at-x .kind .given .0 .0 in
-    let at-row = at-kind .before .before in
-    let tests = refuted _ (c .before .if1 .left) (passed (at-row .cells-at .result .count) (at-member .name-at .result .good) (at-job .name-at2 .result .good) (numbers .good)) in
-    seen-none (at-row .cells-at .ensures) cs css q (c .unread2 .result) (c .unread2 .ensures)
+    let at-ten = at-kind .before .before in
+    let tests = refuted _ (c .before .if2 .left) (passed (at-member .name-at .result .good) (at-job .name-at2 .result .good) (numbers .good)) in
+    seen-none (at-ten .before .before .cells-at .ensures) cs css q (c .unread3 .result) (c .unread3 .ensures)
     (λ n t b f.
     let m = cell-good t 0 _ (lit< tt) (at-member .before .cell2 .ensures) (at-member .name-at .result) (at-member .name-at .ensures) (b .keyed .key .member) (f .member) in
     let j = cell-good t 1 _ (lit< tt) (at-job .before .cell3 .ensures) (at-job .name-at2 .result) (at-job .name-at2 .ensures) (b .keyed .key .job) (f .job) in
     let e = cell-kind t 2 _ (lit< tt) (at-kind .before .cell .ensures) kind (subst (KindAt _) (at-x .kind .given .1) (at-kind .kind-at .ensures)) in
     let g = numbers-good kind cs e (numbers .good) (numbers .numbers) (at-numbers .numbers-of .ensures cs t) b f in
-    tests (((n, m), j), g))
+    tests ((m, j), g))
 
 pub read-row-spec : {M : Type 1} → statement M
 read-row-spec =
     tie.close
     (tie.spec
     cells-at-requires
+    unread-requires
+    returns
     cell-requires
     kind-at-requires
     enum-known-kind
     enum-told
-    unread-requires
-    returns
+    unread-requires-2
+    returns-2
     numbers-of-requires
     cell-requires-2
     name-at-requires
     cell-requires-3
     name-at-requires-2
-    returns-2
-    unread-requires-2
-    returns-3)
+    returns-3
+    unread-requires-3
+    returns-4)

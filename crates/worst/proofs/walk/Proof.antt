@@ -121,7 +121,7 @@ shl-choices c = omega (arith, few (c .before .before))
 loop-holds : tie.Need-loop-holds Inv-loop μ-loop
 unfolding Low ranked-of start none
 loop-holds c =
-    (search needs, none-low, (λ h. absurd (omega (arith, zero-mod ((1 * 2 ^ (c .before .before .table-of .result .choosable / 4)) % 2 ^ 64), h))), λ loads bounded arises filled. nothing-passed _ _ loads bounded arises _ none _ none-yet)
+    (search needs, none-low, (λ h. absurd (omega (arith, zero-mod ((1 * 2 ^ (c .before .before .table-of .result .choosable / 4)) % 2 ^ 64), h))), λ loads bounded arises filled. nothing-passed _ _ loads bounded arises _ none _ refl none-yet)
 
 rem-if1 : tie.Need-rem-if1 Inv-loop μ-loop
 rem-if1 c = some (c .before .before .before .before)

@@ -15,7 +15,6 @@ use Rattle.lines.specs.declared.Lines.{Lines}
 use Rattle.lines.specs.Lines.{no-lines}
 use Rattle.worst.specs.Lines.{LineSays, line}
 use Rattle.weighing.specs.steps.Weighs.{ranked-of}
-use Rattle.worst.specs.steps.Search.{Walked}
 use Rattle.worst.proofs.worst_lines.Statement.{statement}
 use Rattle.worst.proofs.worst_lines.Tie as tie
 
@@ -57,28 +56,33 @@ walk-requires c κs =
     (c .before .before .pre .0, (c .before .before .pre .1, decided (c .before .arises .result) (not-false (c .before .arises .result) (c .if1 .left)) (c .before .arises .ensures)))
 
 line-at-requires : tie.Need-line-at-requires
-line-at-requires c κs = c .before .before .before .pre .0 .allowable
+unfolding ranked-of
+line-at-requires c κs = (c .before .before .before .pre .0 .allowable, c .walk .ensures .has OP)
 
 line-at-requires-2 : tie.Need-line-at-requires-2
-line-at-requires-2 c κs = c .before .before .before .before .pre .0 .allowable
+unfolding ranked-of
+line-at-requires-2 c κs = (c .before .before .before .before .pre .0 .allowable, c .before .walk .ensures .has OM)
 
 line-at-requires-3 : tie.Need-line-at-requires-3
-line-at-requires-3 c κs = c .before .before .before .before .before .pre .0 .allowable
+unfolding ranked-of
+line-at-requires-3 c κs = (c .before .before .before .before .before .pre .0 .allowable, c .before .before .walk .ensures .has SL)
 
 line-at-requires-4 : tie.Need-line-at-requires-4
-line-at-requires-4 c κs = c .before .before .before .before .before .before .pre .0 .allowable
+unfolding ranked-of
+line-at-requires-4 c κs = (c .before .before .before .before .before .before .pre .0 .allowable, c .before .before .before .walk .ensures .has PR)
 
 line-at-requires-5 : tie.Need-line-at-requires-5
-line-at-requires-5 c κs = c .before .before .before .before .before .before .before .pre .0 .allowable
+unfolding ranked-of
+line-at-requires-5 c κs = (c .before .before .before .before .before .before .before .pre .0 .allowable, c .before .before .before .before .walk .ensures .has RK)
 
 returns-2 : tie.Need-returns-2
-unfolding line Walked ranked-of
+unfolding line ranked-of
 returns-2 c =
     let found = c .before .before .before .before .before in
     let a = found .before .before .before .args in
     let walked = found .walk .ensures in
-    each (a .combination) (a .base) (a .loads) _ (c .before .before .before .before .line-at .ensures (a .loads) (walked OP)) (c .before .before .before .line-at2 .ensures (a .loads) (walked OM))
-    (c .before .before .line-at3 .ensures (a .loads) (walked SL)) (c .before .line-at4 .ensures (a .loads) (walked PR)) (c .line-at5 .ensures (a .loads) (walked RK))
+    each (a .combination) (a .base) (a .loads) _ (c .before .before .before .before .line-at .ensures (a .loads) (walked .found OP)) (c .before .before .before .line-at2 .ensures (a .loads) (walked .found OM))
+    (c .before .before .line-at3 .ensures (a .loads) (walked .found SL)) (c .before .line-at4 .ensures (a .loads) (walked .found PR)) (c .line-at5 .ensures (a .loads) (walked .found RK))
 
 pub worst-lines-spec : {M : Type 1} → statement M
 worst-lines-spec =

@@ -22,5 +22,7 @@ pub record FoundWorst (combination : Combination) (check : Check) (base : Base) 
       → Named (side check) (Permitted combination loads) (Shows check base loads) v (m .set)
   pub none : m .set ≡ 0 → (t : ℕ) → Permitted combination loads t → ⊥
 
-unfoldable pub Walked : Combination → Base → Loads → Worst → Type 0
-Walked combination base loads worst = (check : Check) → HasCheck combination check base → FoundWorst combination check base loads (ranked-of check worst)
+-- a check that has found a set is one that the combination has, and each of those has found what its line names
+pub record Walked (combination : Combination) (base : Base) (loads : Loads) (worst : Worst) : Type 0 where
+  pub has : (check : Check) → ((ranked-of check worst) .set ≡ 0 → ⊥) → HasCheck combination check base
+  pub found : (check : Check) → HasCheck combination check base → FoundWorst combination check base loads (ranked-of check worst)

@@ -12,7 +12,7 @@ use Rattle.debtarush.proofs.finding.Found.{the-type}
 use Rattle.debtarush.specs.declared.finding.Found.{Found}
 use Rattle.debtarush.specs.declared.finding.Found.the-variants.{There, BookRefused, NoPlace}
 use Rattle.debtarush.proofs.finding.FoundAnswers.{book-there, nowhere-there}
-use Rattle.debtarush.proofs.finding.Locating.{JobThere, job-there, outside}
+use Rattle.debtarush.proofs.finding.Locating.{JobThere, found-there, outside}
 use denote.Ref.{now}
 use borrow.Author.Needs.{needs}
 use Rattle.debtarush.proofs.finding.job_at.Statement.{statement}
@@ -24,7 +24,7 @@ module _ (c : tie.After-enum-told) where
   at-book = c .before .before .before .before
 
   job : JobThere (now (at-book .before .before .args .book)) (at-book .read-book .result .jobs) (at-book .before .before .args .place)
-  job = job-there (at-book .read-book .ensures) _ (c .before .before .before .found-at .ensures) (c .enum-told .given .1)
+  job = found-there (at-book .read-book .ensures) _ (c .before .before .before .found-at .ensures) (c .enum-told .given .1)
 
 -- and one that has none, known by its place among what can be found
 none-there : (f : Found) → OneOf (1 ∷ 2 ∷ []) (tagOf the-type f) → f ≡ There → ⊥
