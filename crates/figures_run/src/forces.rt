@@ -33,22 +33,21 @@ fn row(a: u32, b: u32, c: u32, d: u32) -> Numbers {
     }
 }
 
-// The thrust of an E row, or its height; 0 where it is refused.
-fn push_of(answer: EarthAnswer, high: bool) -> u64 {
-    match answer {
-        EarthAnswer::OutOfRange => 0,
-        EarthAnswer::NoCoefficient => 0,
-        EarthAnswer::Push { thrust, arm } => { if high { arm } else { thrust } }
-    }
-}
-
-// The thrust and the height of a fill of soil a, level.
+// The thrust and the height of a fill of soil a, level; no line where it is refused.
 fn pushed(agree: u64) -> u64 {
-    let answer = earth::pressure(row(1, 1, 6000, 8000));
-    let thrust = push_of(answer, false);
-    let arm = push_of(answer, true);
-    let next = crate::asked::figure(agree, b"H of soil a, level, 6000 by ", 8000, thrust, 664);
-    crate::asked::figure(next, b"y of the same, 6000 by ", 8000, arm, 2000)
+    match earth::pressure(row(1, 1, 6000, 8000)) {
+        EarthAnswer::OutOfRange | EarthAnswer::NoCoefficient => agree,
+        EarthAnswer::Push { thrust, arm } => {
+            let next = crate::asked::figure(
+                agree,
+                b"H of soil a, level, 6000 by ",
+                8000,
+                thrust,
+                664,
+            );
+            crate::asked::figure(next, b"y of the same, 6000 by ", 8000, arm, 2000)
+        }
+    }
 }
 
 // A figure that is a number, and 0 for "none" and "off".

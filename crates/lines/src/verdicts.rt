@@ -49,12 +49,12 @@ fn lines_yes(lines: Lines) -> bool
     let sl = lines.sl;
     let pr = lines.pr;
     let rk = lines.rk;
-    let a = line_yes(op);
-    let b = line_yes(om);
-    let c = line_yes(sl);
-    let d = line_yes(pr);
-    let e = line_yes(rk);
-    a & b & c & d & e
+    let op_yes = line_yes(op);
+    let om_yes = line_yes(om);
+    let sl_yes = line_yes(sl);
+    let pr_yes = line_yes(pr);
+    let rk_yes = line_yes(rk);
+    op_yes & om_yes & sl_yes & pr_yes & rk_yes
 }
 
 // The answer of these lines: the lines as they are, and their verdict.
@@ -68,13 +68,13 @@ pub fn judged(
 ) -> Answer
     ensures { λ r. ⌜ Judged one two three four depth clear r ⌝ }
 {
-    let a = lines_yes(one);
-    let b = lines_yes(two);
-    let c = lines_yes(three);
-    let d = lines_yes(four);
-    let e = river_yes(depth);
-    let f = river_yes(clear);
-    let verdict = if a & b & c & d & e & f {
+    let one_yes = lines_yes(one);
+    let two_yes = lines_yes(two);
+    let three_yes = lines_yes(three);
+    let four_yes = lines_yes(four);
+    let depth_yes = river_yes(depth);
+    let clear_yes = river_yes(clear);
+    let verdict = if one_yes & two_yes & three_yes & four_yes & depth_yes & clear_yes {
         Verdict::Accepted
     } else {
         Verdict::NotAccepted

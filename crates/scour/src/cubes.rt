@@ -6,13 +6,16 @@
 ghost use Prim.Native.Nat.{_*_, _^_, _≤_, _<_};
 ghost use Rattle.arithmetic.specs.rounding.Least.{Least};
 
+// No depth of the table's ranges is above this, in mm.
+const DEEPEST: u64 = 41_000;
+
 // The least d with d³ at least t, by halving: all below low fall short, and high does not.
 fn cube_up(t: u64) -> u64
     requires { ⌜ t ≤ 41000 ^ 3 ⌝ }
     ensures { λ r. ⌜ Least (λ d. t ≤ d ^ 3) r ⌝ }
 {
     let mut low: u64 = 0;
-    let mut high: u64 = 41000;
+    let mut high = DEEPEST;
     while low < high {
         let middle = low + (high - low) / 2;
         if middle * middle * middle < t {

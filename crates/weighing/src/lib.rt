@@ -30,7 +30,7 @@ pub struct Worst {
 
 // Up to here a figure so far may be multiplied out to see, with no division, that a set is plainly no worse. The tests of SL and RK are
 // strict, and so fail by themselves where N is 0.
-const PLAIN: u64 = 16777216;
+const MULTIPLIED_OUT: u64 = 16_777_216;
 
 // OP's or OM's worst so far, the factor against overturning about one edge, with one set more.
 fn tipped(worst: RankedSet, balance: Balance, set: u64) -> RankedSet
@@ -38,7 +38,7 @@ fn tipped(worst: RankedSet, balance: Balance, set: u64) -> RankedSet
     requires { ⌜ (0 < set) × (set < 65536) × (worst .set < 65536) ⌝ }
     ensures { λ r. ⌜ Offered lowest (Tips (balance .resisting) (balance .overturning)) worst set r ⌝ }
 {
-    if worst.rank < PLAIN {
+    if worst.rank < MULTIPLIED_OUT {
         if balance.overturning * (worst.rank + 1) <= 100 * balance.resisting {
             return worst;
         }
@@ -56,7 +56,7 @@ fn slid(worst: RankedSet, friction: u64, n: u64, h: u64, set: u64) -> RankedSet
     requires { ⌜ (0 < set) × (set < 65536) × (worst .set < 65536) ⌝ }
     ensures { λ r. ⌜ Offered lowest (Slides friction n h) worst set r ⌝ }
 {
-    if worst.rank < PLAIN {
+    if worst.rank < MULTIPLIED_OUT {
         if 10 * h * (worst.rank + 1) < friction * n {
             return worst;
         }
@@ -72,7 +72,7 @@ fn leaned(worst: RankedSet, width: u64, n: u64, m: u64, set: u64) -> RankedSet
     ensures { λ r. ⌜ Offered highest (Leans width n m) worst set r ⌝ }
 {
     let shown = TOP - worst.rank;
-    if shown < PLAIN {
+    if shown < MULTIPLIED_OUT {
         let full = 2 * (n * width);
         if 1000 * m + full < shown * full {
             return worst;
