@@ -5,8 +5,8 @@ use mathlib.Core.Path.{refl, sym, ap, subst, _∙_, _≡_}
 use mathlib.Core.List.{List, [], _∷_, _++_}
 use lib.ListN.{length}
 use Rattle.csv.specs.rfc4180.Rfc4180.{Cell}
-use Rattle.csv.specs.notes.Notes.{RowIn, NoteIn, cell, no-cell, NoteAt}
-use Rattle.csv.proofs.notes.Answers.{row-one}
+use Rattle.csv.specs.notes.Notes.{Nth, NoteIn, cell, no-cell, NoteAt}
+use Rattle.csv.proofs.notes.Answers.{nth-one}
 use Rattle.rows.specs.Form.{BookRow, Form}
 use Rattle.book.specs.JobBook.{Jobs, Forms, form, JobBook}
 use Rattle.book.specs.Notes.{NoteIs, there, no-row, no-book}
@@ -14,10 +14,10 @@ use Rattle.book.proofs.Answers.{reading-one}
 
 pub note-one : {s : List ℕ} {n : ℕ} {a b : List ℕ} → NoteIs s n a → NoteIs s n b → a ≡ b
 note-one {n = n} (there b r e) (there {r = q} c p f) =
-    e ∙ ap (λ (x : BookRow). x .note) (row-one r (subst (λ (l : List BookRow). RowIn l n q) (reading-one c b) p)) ∙ sym f
-note-one {n = n} (there {r = r} b p e) (no-row c m f) = absurd (m r (subst (λ (l : List BookRow). RowIn l n r) (reading-one b c) p))
+    e ∙ ap (λ (x : BookRow). x .note) (nth-one r (subst (λ (l : List BookRow). Nth l n q) (reading-one c b) p)) ∙ sym f
+note-one {n = n} (there {r = r} b p e) (no-row c m f) = absurd (m r (subst (λ (l : List BookRow). Nth l n r) (reading-one b c) p))
 note-one (there b p e) (no-book m f) = absurd (m _ b)
-note-one {n = n} (no-row b m e) (there {r = r} c p f) = absurd (m r (subst (λ (l : List BookRow). RowIn l n r) (reading-one c b) p))
+note-one {n = n} (no-row b m e) (there {r = r} c p f) = absurd (m r (subst (λ (l : List BookRow). Nth l n r) (reading-one c b) p))
 note-one (no-row b m e) (no-row c k f) = e ∙ sym f
 note-one (no-row b m e) (no-book k f) = absurd (k _ b)
 note-one (no-book m e) (there c p f) = absurd (m _ c)
@@ -27,12 +27,12 @@ note-one (no-book m e) (no-book k f) = e ∙ sym f
 -- the rows of a text and their forms stand side by side
 record Formed (rs : List BookRow) (n : ℕ) (cs : List Cell) : Type 0 where
   row : BookRow
-  at : RowIn rs n row
+  at : Nth rs n row
   is : Form cs row
 
 record CellsIn (css : List (List Cell)) (n : ℕ) : Type 0 where
   cells : List Cell
-  at : RowIn css n cells
+  at : Nth css n cells
 
 form-at : {rs : List BookRow} (before : List (List Cell)) (cs : List Cell) (behind : List (List Cell)) → Forms (before ++ cs ∷ behind) rs → Formed rs (length before + 1) cs
 form-at [] cs behind (form {r = r} {rs = rs} f fs) = record { row = r; at = record { before = []; behind = rs; are = refl; number = refl }; is = f }
@@ -55,9 +55,9 @@ book-note {s = s} {n = n} {note} b h = by (h (b .rows) (b .text))
     by : NoteIn (b .rows) n note → NoteIs s n note
     by (cell {cs} r e) =
         let f = form-at (r .before) cs (r .behind) (subst (λ (l : List (List Cell)). Forms l (b .typed)) (r .are) (b .forms)) in
-        there b (subst (λ (k : ℕ). RowIn (b .typed) k (f .row)) (sym (r .number)) (f .at)) (e ∙ sym (f .is .note))
+        there b (subst (λ (k : ℕ). Nth (b .typed) k (f .row)) (sym (r .number)) (f .at)) (e ∙ sym (f .is .note))
     by (no-cell m e) =
         no-row b
         (λ r q.
         let w = cells-at (q .before) r (q .behind) (subst (λ (l : List BookRow). Forms (b .rows) l) (q .are) (b .forms)) in
-        m (w .cells) (subst (λ (k : ℕ). RowIn (b .rows) k (w .cells)) (sym (q .number)) (w .at))) e
+        m (w .cells) (subst (λ (k : ℕ). Nth (b .rows) k (w .cells)) (sym (q .number)) (w .at))) e

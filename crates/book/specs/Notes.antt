@@ -3,12 +3,12 @@
 use Prim.Native.Nat.{ℕ}
 use mathlib.Core.Path.{_≡_}
 use mathlib.Core.List.{List, []}
-use Rattle.csv.specs.notes.Notes.{RowIn}
+use Rattle.csv.specs.notes.Notes.{Nth}
 use Rattle.rows.specs.Form.{BookRow}
 use Rattle.book.specs.JobBook.{Jobs, JobBook}
 
 -- the note of that row of a job book; nothing where the book is none, or has no such row
 pub data NoteIs (s : List ℕ) (n : ℕ) (note : List ℕ) : Type 0 where
-  there : {js : Jobs} {r : BookRow} (b : JobBook s js) → RowIn (b .typed) n r → note ≡ r .note → NoteIs s n note
-  no-row : {js : Jobs} (b : JobBook s js) → ((r : BookRow) → RowIn (b .typed) n r → ⊥) → note ≡ [] → NoteIs s n note
+  there : {js : Jobs} {r : BookRow} (b : JobBook s js) → Nth (b .typed) n r → note ≡ r .note → NoteIs s n note
+  no-row : {js : Jobs} (b : JobBook s js) → ((r : BookRow) → Nth (b .typed) n r → ⊥) → note ≡ [] → NoteIs s n note
   no-book : ((js : Jobs) → JobBook s js → ⊥) → note ≡ [] → NoteIs s n note

@@ -9,15 +9,15 @@ use Rattle.book.specs.Values.{values}
 use Rattle.book.specs.Says as book
 use Rattle.earth.specs.declared.table2.Coefficient.{Coefficient}
 use Rattle.debtarush.specs.Lines.{TextOf}
-use Rattle.csv.specs.notes.Notes.{RowIn}
+use Rattle.csv.specs.notes.Notes.{Nth}
 use Rattle.debtarush.specs.CallTold.{CallTold, written, refused}
 
 -- a call for the lines of the job at a place of a book, with a buffer that held `before` and holds `after` then.
 -- "Nothing is written by a call refused with 1 to 7 or 10. Otherwise exactly the lines' bytes are written from the start and the rest is untouched"
 pub data Called (fill : ℕ → ℕ → Coefficient) (b : List ℕ) (place : ℕ) (before after : List ℕ) (t : CallTold) : Type 0 where
   no-book : {n row : ℕ} → book.BookSays b (book.refused n row) → after ≡ before → t ≡ refused n row → Called fill b place before after t
-  no-place : {js : Jobs} → JobBook b js → ((job : Job) → RowIn (values js) place job → ⊥) → after ≡ before → t ≡ refused 10 0 → Called fill b place before after t
-  too-short : {js : Jobs} {job : Job} {bytes : List ℕ} → JobBook b js → RowIn (values js) place job → TextOf fill job bytes → length before < length bytes → after ≡ before
+  no-place : {js : Jobs} → JobBook b js → ((job : Job) → Nth (values js) place job → ⊥) → after ≡ before → t ≡ refused 10 0 → Called fill b place before after t
+  too-short : {js : Jobs} {job : Job} {bytes : List ℕ} → JobBook b js → Nth (values js) place job → TextOf fill job bytes → length before < length bytes → after ≡ before
       → t ≡ refused 7 0 → Called fill b place before after t
-  lines : {js : Jobs} {job : Job} {bytes : List ℕ} → JobBook b js → RowIn (values js) place job → TextOf fill job bytes → length bytes ≤ length before
+  lines : {js : Jobs} {job : Job} {bytes : List ℕ} → JobBook b js → Nth (values js) place job → TextOf fill job bytes → length bytes ≤ length before
       → after ≡ bytes ++ drop (length bytes) before → t ≡ written (length bytes) → Called fill b place before after t

@@ -3,7 +3,7 @@ use Prim.Native.Nat.{ℕ, _+_}
 use native.Mathlib.Omega.{arith}
 use mathlib.Core.Path.{refl, ap, subst}
 use mathlib.Core.List.{List, [], _∷_, _++_}
-use Rattle.csv.specs.notes.Notes.{RowIn}
+use Rattle.csv.specs.notes.Notes.{Nth}
 
 pub data All {A : Type 0} (P : A → Type 0) : List A → Type 0 where
   none : All P []
@@ -25,7 +25,7 @@ module _ {A : Type 0} {P : A → Type 0} where
   all-behind [] ys p = p
   all-behind (x ∷ xs) ys (more p ps) = all-behind xs ys ps
 
-  pub all-at : {xs : List A} {n : ℕ} {x : A} → All P xs → RowIn xs n x → P x
+  pub all-at : {xs : List A} {n : ℕ} {x : A} → All P xs → Nth xs n x → P x
   all-at {x = x} p r = all-first (all-behind (r .before) (x ∷ r .behind) (subst (All P) (r .are) p))
 
 pub data Some {A : Type 0} (P : A → Type 0) : List A → Type 0 where
@@ -41,7 +41,7 @@ module _ {A : Type 0} {P : A → Type 0} where
   some-behind [] p = p
   some-behind (x ∷ xs) p = later (some-behind xs p)
 
-  pub some-at : {xs : List A} → Some P xs → (n : ℕ) × (x : A) × RowIn xs n x × P x
+  pub some-at : {xs : List A} → Some P xs → (n : ℕ) × (x : A) × Nth xs n x × P x
   some-at (here {x} {xs} p) = (1, x, record { before = []; behind = xs; are = refl; number = refl }, p)
   some-at (later {x} p) =
       let w = some-at p in

@@ -10,7 +10,7 @@ use Rattle.jobs.specs.declared.Job.{Job}
 use Rattle.book.specs.JobBook.{Jobs, JobBook}
 use Rattle.book.specs.Values.{values}
 use Rattle.earth.specs.declared.table2.Coefficient.{Coefficient}
-use Rattle.csv.specs.notes.Notes.{RowIn}
+use Rattle.csv.specs.notes.Notes.{Nth}
 use Rattle.lines.specs.declared.Verdict.the-variants.{Refused}
 use Rattle.lines.specs.Lines.{verdict-line, unless-refused, lines-of}
 use Rattle.answer.specs.Rules.{Refuses}
@@ -43,7 +43,7 @@ module _ (fill : ℕ → ℕ → Coefficient) {b : List ℕ} {place : ℕ} {befo
   untouched (too-short p r s l a e) = a
   untouched (lines p r s l a e) = impossible cc
 
-  alone : {len : ℕ} → Called fill b place before after (written len) → (js : Jobs) (job : Job) (n : ℕ) → JobBook b js → RowIn (values js) place job → Refuses fill job n
+  alone : {len : ℕ} → Called fill b place before after (written len) → (js : Jobs) (job : Job) (n : ℕ) → JobBook b js → Nth (values js) place job → Refuses fill job n
       → (len ≡ length (line-text (job .key) (verdict-line (Refused n)))) × (after ≡ line-text (job .key) (verdict-line (Refused n)) ++ drop len before)
   alone {len} c js job n p r q =
       let w = wrote (call-on-job p r c) in

@@ -9,7 +9,7 @@ use Rattle.jobs.specs.declared.Job.{Job}
 use Rattle.book.specs.JobBook.{Jobs, JobBook}
 use Rattle.book.specs.Values.{values}
 use Rattle.earth.specs.declared.table2.Coefficient.{Coefficient}
-use Rattle.csv.specs.notes.Notes.{RowIn}
+use Rattle.csv.specs.notes.Notes.{Nth}
 use Rattle.sets.specs.declared.Combination.{Combination}
 use Rattle.sets.specs.declared.Loads.{Loads}
 use Rattle.sets.specs.Sets.{Permitted}
@@ -41,7 +41,7 @@ verdict-same NotAccepted e = let v : accepted ≡ not-accepted = ap (λ (l : Pri
 verdict-same (Refused n) e = let v : accepted ≡ number n = ap (λ (l : PrintedLine). l .value) e in impossible cc
 
 module _ (fill : ℕ → ℕ → Coefficient) {b : List ℕ} {place : ℕ} {before after : List ℕ} {len : ℕ} (c : Called fill b place before after (written len))
-    (js : Jobs) (job : Job) (book : JobBook b js) (at : RowIn (values js) place job) where
+    (js : Jobs) (job : Job) (book : JobBook b js) (at : Nth (values js) place job) where
   own : WroteJob fill job before after len
   own = wrote (call-on-job book at c)
 
@@ -91,16 +91,16 @@ module _ (fill : ℕ → ℕ → Coefficient) {b : List ℕ} {place : ℕ} {befo
       }
 
   named : (key : Key) (lines : List PrintedLine) → Tells (take len after) key lines
-      → (n : ℕ) (line : PrintedLine) (combination : Combination) (of : Check) → RowIn lines n line → line .name ≡ check combination of → NamesSet fill job combination of line
+      → (n : ℕ) (line : PrintedLine) (combination : Combination) (of : Check) → Nth lines n line → line .name ≡ check combination of → NamesSet fill job combination of line
   unfolding own
-  named key lines t n line combination of r e = line-named fill job (own .text .is) (subst (λ (l : List PrintedLine). RowIn l n line) (lines-same key lines t) r) e
+  named key lines t n line combination of r e = line-named fill job (own .text .is) (subst (λ (l : List PrintedLine). Nth l n line) (lines-same key lines t) r) e
 
   shown : (key : Key) (lines : List PrintedLine) → Tells (take len after) key lines → (loads : Loads) (combination : Combination) (of : Check) (set : ℕ) → Unrefused fill job
       → AreLoads fill (job .loads) (row-count (job .count)) loads → HasCheck combination of (base-of (job .base)) → Permitted combination loads set
-      → (n : ℕ) × (line : PrintedLine) × RowIn lines n line × (line .name ≡ check combination of)
+      → (n : ℕ) × (line : PrintedLine) × Nth lines n line × (line .name ≡ check combination of)
   unfolding own
   shown key lines t loads combination of set u are h p =
-      subst (λ (l : List PrintedLine). (n : ℕ) × (line : PrintedLine) × RowIn l n line × (line .name ≡ check combination of)) (sym (lines-same key lines t))
+      subst (λ (l : List PrintedLine). (n : ℕ) × (line : PrintedLine) × Nth l n line × (line .name ≡ check combination of)) (sym (lines-same key lines t))
       (line-shown fill job loads are (own .text .answer) combination of set (own .text .is) u h p)
 
 pub demand2 : (fill : ℕ → ℕ → Coefficient) → Demand2 fill

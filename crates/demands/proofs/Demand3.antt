@@ -8,7 +8,7 @@ use Rattle.arithmetic.proofs.Cases.{impossible}
 use Rattle.jobs.specs.declared.Job.{Job}
 use Rattle.book.specs.JobBook.{WrittenJob, Jobs, JobBook}
 use Rattle.book.specs.Values.{job-value, SameJob}
-use Rattle.csv.specs.notes.Notes.{RowIn}
+use Rattle.csv.specs.notes.Notes.{Nth}
 use Rattle.book.proofs.Answers as read
 use Rattle.book.proofs.Same.{same-value}
 use Rattle.earth.specs.declared.table2.Coefficient.{Coefficient}
@@ -35,7 +35,7 @@ module _ (fill : ℕ → ℕ → Coefficient) {b : List ℕ} {place : ℕ} {befo
   none-refused (lines {js} p r s l a e) h = absurd (h js p)
 
 -- jobs with the same key, kinds and numbers have one value
-same-job : {b c : List ℕ} {p q : ℕ} {js ks : Jobs} {j k : WrittenJob} → JobBook b js → JobBook c ks → RowIn (listed js) p j → RowIn (listed ks) q k → SameJob j k → job-value j ≡ job-value k
+same-job : {b c : List ℕ} {p q : ℕ} {js ks : Jobs} {j k : WrittenJob} → JobBook b js → JobBook c ks → Nth (listed js) p j → Nth (listed ks) q k → SameJob j k → job-value j ≡ job-value k
 same-job x y r s e = same-value (good-job x r) (good-job y s) e
 
 -- the answer goes by the text and the buffer's length

@@ -9,7 +9,7 @@ use Rattle.jobs.specs.declared.Job.{Job}
 use Rattle.book.specs.JobBook.{WrittenJob, job, Jobs, none, _and_, job-rows, rows-of, GoodJob, Forms, no-form, form, Whole, no-whole, one-whole, JobBook}
 use Rattle.book.specs.Values.{job-value, values}
 use Rattle.printing.specs.Keys.{IsKey}
-use Rattle.csv.specs.notes.Notes.{RowIn}
+use Rattle.csv.specs.notes.Notes.{Nth}
 use Rattle.demands.specs.Words.{listed}
 use Rattle.demands.proofs.All as all
 
@@ -38,7 +38,7 @@ unfolding HasKey HasJobKey
 values-keys none p = all.none
 values-keys (js and job b v ls) p = all.all-append (values-keys js (all.all-front (rows-of js) (job-rows (job b v ls)) p)) (all.more (all.all-first (all.all-behind (rows-of js) (job-rows (job b v ls)) p)) all.none)
 
-pub job-key : {s : List ℕ} {js : Jobs} {n : ℕ} {j : Job} → JobBook s js → RowIn (values js) n j → IsKey (j .key)
+pub job-key : {s : List ℕ} {js : Jobs} {n : ℕ} {j : Job} → JobBook s js → Nth (values js) n j → IsKey (j .key)
 unfolding HasJobKey
 job-key {js = js} b r = all.all-at (values-keys js (subst (all.All HasKey) (b .parts) (forms-keys (b .forms)))) r
 
@@ -46,14 +46,14 @@ wholes : {js : Jobs} → Whole js → all.All GoodJob (listed js)
 wholes no-whole = all.none
 wholes (one-whole w g l) = all.all-append (wholes w) (all.more g all.none)
 
-pub good-job : {s : List ℕ} {js : Jobs} {n : ℕ} {j : WrittenJob} → JobBook s js → RowIn (listed js) n j → GoodJob j
+pub good-job : {s : List ℕ} {js : Jobs} {n : ℕ} {j : WrittenJob} → JobBook s js → Nth (listed js) n j → GoodJob j
 good-job b r = all.all-at (wholes (b .each)) r
 
 values-listed : (js : Jobs) → values js ≡ map job-value (listed js)
 values-listed none = refl
 values-listed (js and j) = ap (λ (l : List Job). l ++ job-value j ∷ []) (values-listed js) ∙ sym (map-append job-value (listed js) (j ∷ []))
 
-pub value-at : (js : Jobs) {n : ℕ} {j : WrittenJob} → RowIn (listed js) n j → RowIn (values js) n (job-value j)
+pub value-at : (js : Jobs) {n : ℕ} {j : WrittenJob} → Nth (listed js) n j → Nth (values js) n (job-value j)
 value-at js {j = j} r = record {
   before = map job-value (r .before);
   behind = map job-value (r .behind);

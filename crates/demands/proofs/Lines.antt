@@ -28,7 +28,7 @@ use Rattle.lines.specs.Lines.{LineName, PrintedLine, VERDICT, check, SC, CL, ve
 use Rattle.answer.specs.Rules.{Unrefused}
 use Rattle.lines.specs.verdicts.Verdict.{VerdictIs}
 use Rattle.answer.specs.Answer.{base-of, LinesAre, LinesGiven, refusal, AnswerIs, refused, answered}
-use Rattle.csv.specs.notes.Notes.{RowIn}
+use Rattle.csv.specs.notes.Notes.{Nth}
 use Rattle.demands.specs.Words.{NamesSet}
 use Rattle.demands.proofs.All as all
 
@@ -94,7 +94,7 @@ module _ (fill : ℕ → ℕ → Coefficient) (job : Job) where
   answer-named (refused {n} p e) = subst (λ (x : Answer). all.All IsNamed (lines-of x)) (sym e) (refusal-named n)
   answer-named {a} (answered g) = given-named a g
 
-  pub line-named : {a : Answer} {n : ℕ} {l : PrintedLine} {c : Combination} {k : Check} → AnswerIs fill job a → RowIn (lines-of a) n l → l .name ≡ check c k → NamesSet fill job c k l
+  pub line-named : {a : Answer} {n : ℕ} {l : PrintedLine} {c : Combination} {k : Check} → AnswerIs fill job a → Nth (lines-of a) n l → l .name ≡ check c k → NamesSet fill job c k l
   unfolding IsNamed
   line-named {c = c} {k} p r e = all.all-at (answer-named p) r c k e
 
@@ -143,7 +143,7 @@ module _ (fill : ℕ → ℕ → Coefficient) (job : Job) (loads : Loads) (are :
   unless-shown (Refused n) a c k p s = absurd p
 
   pub line-shown : (a : Answer) (c : Combination) (k : Check) (set : ℕ) → AnswerIs fill job a → Unrefused fill job → HasCheck c k (base-of (job .base)) → Permitted c loads set
-      → (n : ℕ) × (l : PrintedLine) × RowIn (lines-of a) n l × (l .name ≡ check c k)
+      → (n : ℕ) × (l : PrintedLine) × Nth (lines-of a) n l × (l .name ≡ check c k)
   unfolding lines-of IsOf
   line-shown a c k set (refused {n} p e) u h s = absurd (u n (p .holds))
   line-shown a c k set (answered g) u h s =

@@ -8,9 +8,9 @@ use Rattle.arithmetic.proofs.Cases.{impossible}
 use Rattle.jobs.specs.declared.Job.{Job}
 use Rattle.book.specs.JobBook.{Jobs, JobBook}
 use Rattle.book.specs.Values.{values}
-use Rattle.csv.specs.notes.Notes.{RowIn}
+use Rattle.csv.specs.notes.Notes.{Nth}
 use Rattle.book.proofs.Answers.{refused-none, book-one}
-use Rattle.csv.proofs.notes.Answers.{row-one}
+use Rattle.csv.proofs.notes.Answers.{nth-one}
 use Rattle.earth.specs.declared.table2.Coefficient.{Coefficient}
 use Rattle.debtarush.specs.Lines.{TextOf}
 use Rattle.debtarush.specs.CallTold.{CallTold, written, refused}
@@ -20,13 +20,13 @@ pub data CallOnJob (fill : ℕ → ℕ → Coefficient) (job : Job) (before afte
   short : {bytes : List ℕ} → TextOf fill job bytes → length before < length bytes → t ≡ refused 7 0 → CallOnJob fill job before after t
   full : {bytes : List ℕ} → TextOf fill job bytes → length bytes ≤ length before → after ≡ bytes ++ drop (length bytes) before → t ≡ written (length bytes) → CallOnJob fill job before after t
 
-module _ {fill : ℕ → ℕ → Coefficient} {b : List ℕ} {place : ℕ} {js : Jobs} {job : Job} (book : JobBook b js) (at : RowIn (values js) place job) where
-  own-text : {ks : Jobs} {k : Job} {bytes : List ℕ} → JobBook b ks → RowIn (values ks) place k → TextOf fill k bytes → TextOf fill job bytes
-  own-text {k = k} {bytes} p r t = subst (λ (x : Job). TextOf fill x bytes) (row-one (subst (λ (l : Jobs). RowIn (values l) place k) (book-one p book) r) at) t
+module _ {fill : ℕ → ℕ → Coefficient} {b : List ℕ} {place : ℕ} {js : Jobs} {job : Job} (book : JobBook b js) (at : Nth (values js) place job) where
+  own-text : {ks : Jobs} {k : Job} {bytes : List ℕ} → JobBook b ks → Nth (values ks) place k → TextOf fill k bytes → TextOf fill job bytes
+  own-text {k = k} {bytes} p r t = subst (λ (x : Job). TextOf fill x bytes) (nth-one (subst (λ (l : Jobs). Nth (values l) place k) (book-one p book) r) at) t
 
   pub call-on-job : {before after : List ℕ} {t : CallTold} → Called fill b place before after t → CallOnJob fill job before after t
   call-on-job (no-book s a e) = absurd (refused-none s js book)
-  call-on-job (no-place p n a e) = absurd (n job (subst (λ (l : Jobs). RowIn (values l) place job) (book-one book p) at))
+  call-on-job (no-place p n a e) = absurd (n job (subst (λ (l : Jobs). Nth (values l) place job) (book-one book p) at))
   call-on-job (too-short p r s l a e) = short (own-text p r s) l e
   call-on-job (lines p r s l a e) = full (own-text p r s) l a e
 

@@ -10,7 +10,7 @@ use Rattle.book.specs.JobBook.{Jobs, JobBook}
 use Rattle.book.specs.Values.{values}
 use Rattle.book.specs.Says as book
 use Rattle.earth.specs.declared.table2.Coefficient.{Coefficient}
-use Rattle.csv.specs.notes.Notes.{RowIn}
+use Rattle.csv.specs.notes.Notes.{Nth}
 use Rattle.lines.specs.declared.Verdict.the-variants.{Refused}
 use Rattle.lines.specs.Lines.{verdict-line}
 use Rattle.answer.specs.Rules.{Refuses}
@@ -27,13 +27,13 @@ pub record Demand1 (fill : ℕ → ℕ → Coefficient) : Type 0 where
       → (n row : ℕ) → book.BookSays b (book.refused n row) → t ≡ refused n row
   -- then 10, whatever the buffer
   pub then-place : {b : List ℕ} {place : ℕ} {before after : List ℕ} {t : CallTold} → Called fill b place before after t
-      → (js : Jobs) → JobBook b js → ((job : Job) → RowIn (values js) place job → ⊥) → t ≡ refused 10 0
+      → (js : Jobs) → JobBook b js → ((job : Job) → Nth (values js) place job → ⊥) → t ≡ refused 10 0
   -- then 7
   pub then-buffer : {b : List ℕ} {place : ℕ} {before after : List ℕ} {t : CallTold} → Called fill b place before after t
-      → (js : Jobs) (job : Job) (text : List ℕ) → JobBook b js → RowIn (values js) place job → TextOf fill job text → length before < length text → t ≡ refused 7 0
+      → (js : Jobs) (job : Job) (text : List ℕ) → JobBook b js → Nth (values js) place job → TextOf fill job text → length before < length text → t ≡ refused 7 0
   -- else exactly the lines' bytes from the start, and the rest untouched
   pub then-lines : {b : List ℕ} {place : ℕ} {before after : List ℕ} {t : CallTold} → Called fill b place before after t
-      → (js : Jobs) (job : Job) (text : List ℕ) → JobBook b js → RowIn (values js) place job → TextOf fill job text → length text ≤ length before
+      → (js : Jobs) (job : Job) (text : List ℕ) → JobBook b js → Nth (values js) place job → TextOf fill job text → length text ≤ length before
       → (t ≡ written (length text)) × (after ≡ text ++ drop (length text) before)
   -- no other number
   pub numbers : {b : List ℕ} {place : ℕ} {before after : List ℕ} {n row : ℕ} → Called fill b place before after (refused n row) → ((1 ≤ n) × (n ≤ 7)) ⊎ (n ≡ 10)
@@ -41,5 +41,5 @@ pub record Demand1 (fill : ℕ → ℕ → Coefficient) : Type 0 where
   pub untouched : {b : List ℕ} {place : ℕ} {before after : List ℕ} {n row : ℕ} → Called fill b place before after (refused n row) → after ≡ before
   -- a job refused with 11 to 16 has its one line and no other
   pub alone : {b : List ℕ} {place : ℕ} {before after : List ℕ} {len : ℕ} → Called fill b place before after (written len)
-      → (js : Jobs) (job : Job) (n : ℕ) → JobBook b js → RowIn (values js) place job → Refuses fill job n
+      → (js : Jobs) (job : Job) (n : ℕ) → JobBook b js → Nth (values js) place job → Refuses fill job n
       → (len ≡ length (line-text (job .key) (verdict-line (Refused n)))) × (after ≡ line-text (job .key) (verdict-line (Refused n)) ++ drop len before)

@@ -6,7 +6,7 @@ use lib.ListN.{length, take}
 use Rattle.book.specs.JobBook.{WrittenJob, Jobs, JobBook}
 use Rattle.book.specs.Values.{SameJob}
 use Rattle.earth.specs.declared.table2.Coefficient.{Coefficient}
-use Rattle.csv.specs.notes.Notes.{RowIn}
+use Rattle.csv.specs.notes.Notes.{Nth}
 use Rattle.debtarush.specs.CallTold.{CallTold, written, refused}
 use Rattle.debtarush.specs.Called.{Called}
 use Rattle.demands.specs.Words.{listed}
@@ -23,8 +23,8 @@ pub record Demand3 (fill : ℕ → ℕ → Coefficient) : Type 0 where
   -- two calls that wrote, for jobs with the same key, kinds and numbers, wrote the same bytes
   pub same-lines : {b c : List ℕ} {p q : ℕ} {before before′ after after′ : List ℕ} {m n : ℕ} {js ks : Jobs} {j k : WrittenJob}
       → Called fill b p before after (written m) → Called fill c q before′ after′ (written n)
-      → JobBook b js → JobBook c ks → RowIn (listed js) p j → RowIn (listed ks) q k → SameJob j k → (m ≡ n) × (take m after ≡ take n after′)
+      → JobBook b js → JobBook c ks → Nth (listed js) p j → Nth (listed ks) q k → SameJob j k → (m ≡ n) × (take m after ≡ take n after′)
   -- and with buffers of one length the answers are equal, 7 included
   pub same-answer : {b c : List ℕ} {p q : ℕ} {before before′ after after′ : List ℕ} {t u : CallTold} {js ks : Jobs} {j k : WrittenJob}
       → Called fill b p before after t → Called fill c q before′ after′ u → length before ≡ length before′
-      → JobBook b js → JobBook c ks → RowIn (listed js) p j → RowIn (listed ks) q k → SameJob j k → t ≡ u
+      → JobBook b js → JobBook c ks → Nth (listed js) p j → Nth (listed ks) q k → SameJob j k → t ≡ u

@@ -7,17 +7,17 @@ use lib.ListN.{length, getD}
 use Rattle.csv.specs.rfc4180.Rfc4180.{Cell, File}
 use Rattle.csv.specs.rfc4180.Rfc4180 as rfc4180
 
--- a row of a list, the first being 1
-pub record RowIn {A : Type 0} (rs : List A) (n : ℕ) (r : A) : Type 0 where
+-- x is the n-th of a list, the first being 1
+pub record Nth {A : Type 0} (xs : List A) (n : ℕ) (x : A) : Type 0 where
   pub before : List A
   pub behind : List A
-  pub are : rs ≡ before ++ r ∷ behind
+  pub are : xs ≡ before ++ x ∷ behind
   pub number : n ≡ length before + 1
 
 -- the note of a row of a text: its tenth cell; nothing where it has none, and where there is no such row
 pub data NoteIn (rows : List (List Cell)) (n : ℕ) (note : List ℕ) : Type 0 where
-  cell : {cs : List Cell} → RowIn rows n cs → note ≡ getD cs 9 rfc4180.no-cell .raw → NoteIn rows n note
-  no-cell : ((cs : List Cell) → RowIn rows n cs → ⊥) → note ≡ [] → NoteIn rows n note
+  cell : {cs : List Cell} → Nth rows n cs → note ≡ getD cs 9 rfc4180.no-cell .raw → NoteIn rows n note
+  no-cell : ((cs : List Cell) → Nth rows n cs → ⊥) → note ≡ [] → NoteIn rows n note
 
 abbrev pub NoteAt : List ℕ → ℕ → List ℕ → Type 0
 NoteAt s n note = (rows : List (List Cell)) → File s rows → NoteIn rows n note

@@ -5,11 +5,11 @@ use mathlib.Core.List.{List, []}
 use Rattle.jobs.specs.declared.Job.{Job}
 use Rattle.book.specs.JobBook.{Jobs, JobBook}
 use Rattle.book.specs.Values.{values}
-use Rattle.csv.specs.notes.Notes.{RowIn}
+use Rattle.csv.specs.notes.Notes.{Nth}
 use Rattle.book.specs.declared.counted.Count.{Count}
 use Rattle.book.specs.declared.counted.Count.the-variants.{Given, Refused}
 use Rattle.book.proofs.Answers.{book-says-one, book-told-one, refused-none, book-one}
-use Rattle.csv.proofs.notes.Answers.{row-one}
+use Rattle.csv.proofs.notes.Answers.{nth-one}
 use Rattle.debtarush.specs.finding.JobAt.{nothing, JobAt, no-book, no-place, there}
 use Rattle.debtarush.specs.declared.finding.Found.the-variants.{There, BookRefused}
 use Rattle.debtarush.specs.declared.finding.JobFound.{JobFound}
@@ -21,11 +21,11 @@ job-refusal (Refused why row) = nothing (BookRefused why row)
 
 module _ {b : List ℕ} {place : ℕ} where
   -- the job at a place is one
-  pub job-one : {js ks : Jobs} {j k : Job} → JobBook b js → JobBook b ks → RowIn (values js) place j → RowIn (values ks) place k → j ≡ k
-  job-one {k = k} x y p q = row-one p (subst (λ (l : Jobs). RowIn (values l) place k) (book-one y x) q)
+  pub job-one : {js ks : Jobs} {j k : Job} → JobBook b js → JobBook b ks → Nth (values js) place j → Nth (values ks) place k → j ≡ k
+  job-one {k = k} x y p q = nth-one p (subst (λ (l : Jobs). Nth (values l) place k) (book-one y x) q)
 
-  pub job-there : {js ks : Jobs} {j : Job} → JobBook b js → JobBook b ks → RowIn (values js) place j → ((k : Job) → RowIn (values ks) place k → ⊥) → ⊥
-  job-there {j = j} x y p n = n j (subst (λ (l : Jobs). RowIn (values l) place j) (book-one x y) p)
+  pub job-there : {js ks : Jobs} {j : Job} → JobBook b js → JobBook b ks → Nth (values js) place j → ((k : Job) → Nth (values ks) place k → ⊥) → ⊥
+  job-there {j = j} x y p n = n j (subst (λ (l : Jobs). Nth (values l) place j) (book-one x y) p)
 
   pub job-at-one : (p q : JobFound) → JobAt b place p → JobAt b place q → p ≡ q
   unfolding job-refusal

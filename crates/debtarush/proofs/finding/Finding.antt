@@ -8,7 +8,7 @@ use Rattle.rows.specs.declared.refusals.Refusal.{Refusal}
 use Rattle.book.specs.JobBook.{Jobs, JobBook}
 use Rattle.book.specs.Values.{values}
 use Rattle.book.specs.Says as book
-use Rattle.csv.specs.notes.Notes.{RowIn}
+use Rattle.csv.specs.notes.Notes.{Nth}
 use Rattle.debtarush.specs.finding.JobAt.{nothing, JobAt, no-book, no-place, there}
 use Rattle.debtarush.specs.declared.finding.Found.{Found}
 use Rattle.debtarush.specs.declared.finding.Found.the-variants.{There, BookRefused, NoPlace}
@@ -25,13 +25,13 @@ book-refusal NoPlace = book.refused 0 0
 pub record NoJob (s : List ℕ) (place : ℕ) : Type 0 where
   pub jobs : Jobs
   pub book : JobBook s jobs
-  pub none : (job : Job) → RowIn (values jobs) place job → ⊥
+  pub none : (job : Job) → Nth (values jobs) place job → ⊥
 
 -- a job book that has this job at a place
 pub record HasJob (s : List ℕ) (place : ℕ) (job : Job) : Type 0 where
   pub jobs : Jobs
   pub book : JobBook s jobs
-  pub row : RowIn (values jobs) place job
+  pub row : Nth (values jobs) place job
 
 found : {p : JobFound} {f : Found} → p ≡ nothing f → p .found ≡ f
 found e = ap (λ (x : JobFound). x .found) e

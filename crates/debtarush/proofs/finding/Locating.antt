@@ -12,7 +12,7 @@ use Rattle.book.specs.JobBook.{Jobs, count, JobBook}
 use Rattle.book.specs.counted.Places.{places}
 use Rattle.book.specs.Values.{values}
 use Rattle.book.specs.Says as book
-use Rattle.csv.specs.notes.Notes.{RowIn}
+use Rattle.csv.specs.notes.Notes.{Nth}
 use Rattle.book.specs.declared.counted.Book.{Book}
 use Rattle.book.specs.declared.counted.Count.{Count}
 use Rattle.book.specs.declared.counted.Count.the-variants.{Given}
@@ -42,7 +42,7 @@ held s b n w e =
     record { written = a .jobs; book = a .book; many = m; few = omega arith; are = h ∙ ap places (a .are) }
 
 module _ {s : List ℕ} {n : ℕ} {jobs : List Job} (h : Held s n jobs) (place : ℕ) where
-  job-at : (d : Job) → 1 ≤ place → place ≤ n → RowIn (values (h .written)) place (getD jobs (place - 1) d)
+  job-at : (d : Job) → 1 ≤ place → place ≤ n → Nth (values (h .written)) place (getD jobs (place - 1) d)
   job-at d low high =
       let vs = values (h .written) in
       let i = place - 1 in
@@ -56,13 +56,13 @@ module _ {s : List ℕ} {n : ℕ} {jobs : List Job} (h : Held s n jobs) (place :
         number = omega (arith, length-take-le i vs (omega arith));
       }
 
-  no-job-at : n < place → (job : Job) → RowIn (values (h .written)) place job → ⊥
+  no-job-at : n < place → (job : Job) → Nth (values (h .written)) place job → ⊥
   no-job-at k job r =
       let m = h .many in
       let a = r .number in
       omega (arith, ap length (r .are), length-append (r .before) (job ∷ r .behind))
 
-no-job-zero : {jobs : List Job} {place : ℕ} → place ≡ 0 → (job : Job) → RowIn jobs place job → ⊥
+no-job-zero : {jobs : List Job} {place : ℕ} → place ≡ 0 → (job : Job) → Nth jobs place job → ⊥
 no-job-zero z job r = let a = r .number in omega arith
 
 -- a place among the jobs of a book that is given
@@ -71,7 +71,7 @@ pub record JobThere (s : List ℕ) (jobs : List Job) (place : ℕ) : Type 0 wher
   pub book : JobBook s written
   pub low : 1 ≤ place
   pub high : place ≤ 64
-  pub row : (d : Job) → RowIn (values written) place (getD jobs (place - 1) d)
+  pub row : (d : Job) → Nth (values written) place (getD jobs (place - 1) d)
 
 module _ {s : List ℕ} {b : Book} (w : book.BookIs s b) (place : ℕ) {f : Found} where
   pub found-there : FoundIs (b .count) place f → f ≡ There → JobThere s (b .jobs) place
