@@ -33,17 +33,14 @@ fn print_named(i: usize) {
         return;
     }
     let got = io::read_full(file, &mut text);
-    let whole = (got == 65537) | has_ended(file);
-    if !whole {
+    if (got == 65537) | has_ended(file) {
+        io::write_all(STDOUT_FILENO, named);
+        io::write_all(STDOUT_FILENO, b"\r\n");
+        show::print_book(b"corpus", &text[..got]);
+    } else {
         fail(named);
     }
     libc::close(file);
-    if !whole {
-        return;
-    }
-    io::write_all(STDOUT_FILENO, named);
-    io::write_all(STDOUT_FILENO, b"\r\n");
-    show::print_book(b"corpus", &text[..got]);
 }
 
 fn main() {

@@ -60,16 +60,13 @@ fn show_book(i: usize) {
         return;
     }
     let got = io::read_full(file, &mut text);
-    let whole = (got == 65537) | has_ended(file);
-    if !whole {
+    if (got == 65537) | has_ended(file) {
+        io::write_all(STDOUT_FILENO, named);
+        show(&text[..got]);
+    } else {
         fail(named);
     }
     libc::close(file);
-    if !whole {
-        return;
-    }
-    io::write_all(STDOUT_FILENO, named);
-    show(&text[..got]);
 }
 
 fn main() {

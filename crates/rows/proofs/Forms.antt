@@ -36,11 +36,11 @@ form-one {cs} {a} {b} f g =
     let t = f .note ∙ sym (g .note) in
     λ i. record { keyed = record { key = record { member = m i; job = j i }; row = record { kind = k i; numbers = n i } }; note = t i }
 
-formed-one : (cs : List Cell) (a b : Bool) (j k : Keyed) → RowGiven a cs j → RowGiven b cs k → (a ≡ b) × (j ≡ k)
-formed-one cs true true j k p q = (refl, ap (λ (r : BookRow). r .keyed) (form-one p q))
-formed-one cs true false j k p q = absurd (q .0 _ p)
-formed-one cs false true j k p q = absurd (p .0 _ q)
-formed-one cs false false j k p q = (refl, p .1 ∙ sym (q .1))
+row-given-one : (cs : List Cell) (a b : Bool) (j k : Keyed) → RowGiven a cs j → RowGiven b cs k → (a ≡ b) × (j ≡ k)
+row-given-one cs true true j k p q = (refl, ap (λ (r : BookRow). r .keyed) (form-one p q))
+row-given-one cs true false j k p q = absurd (q .0 _ p)
+row-given-one cs false true j k p q = absurd (p .0 _ q)
+row-given-one cs false false j k p q = (refl, p .1 ∙ sym (q .1))
 
 pub row-read-one : {s : List ℕ} {start : ℕ} (a b : RowRead) → Readable (drop start s) → SeenAt s start a → SeenAt s start b → a ≡ b
 row-read-one {s} {start} a b w p q =
@@ -48,6 +48,6 @@ row-read-one {s} {start} a b w p q =
     let f : File (drop start s) (m .0 ∷ m .1) = subst (File (drop start s)) (m .2) (w .reading) in
     let x = p (m .0) (m .1) f in
     let y = q (m .0) (m .1) f in
-    let e = formed-one (m .0) (a .good) (b .good) (a .row) (b .row) (x .means) (y .means) in
+    let e = row-given-one (m .0) (a .good) (b .good) (a .row) (b .row) (x .means) (y .means) in
     let n = x .behind ∙ sym (y .behind) in
     λ i. record { good = e .0 i; row = e .1 i; next = n i }

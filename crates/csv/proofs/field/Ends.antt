@@ -11,7 +11,7 @@ use Rattle.csv.specs.field.Answer.{PlainTo, FieldTo, FieldAt, Stop}
 use Rattle.csv.specs.declared.field.Ended.the-variants.{Bad}
 use Rattle.csv.proofs.Lists.{tails}
 use Rattle.csv.proofs.rfc4180.Unique.{plain-unique, escaped-unique, closing-halts, plain-quote, stop-quote, stop-plain}
-use Rattle.csv.proofs.rfc4180.Parts.{part-more, part-rest, begins-is, begins-behind}
+use Rattle.csv.proofs.rfc4180.Parts.{part-more, part-rest, first-byte-is, first-byte-behind}
 use Rattle.csv.proofs.field.Scan.{byte-first}
 
 -- every field at this place with an end behind it has that end where ours has it
@@ -50,7 +50,7 @@ module _ (s : List ℕ) (at : ℕ) where
         let f = p .from in
         let n : i - at ≡ suc (i - (at + 1)) = omega arith in
         let first : part at i s ≡ DQUOTE ∷ part (at + 1) i s = rw (n, opening) in
-        let q : getD s i 0 ≡ DQUOTE = begins-is s i DQUOTE (drop (i + 1) s) (p .quote) in
+        let q : getD s i 0 ≡ DQUOTE = first-byte-is s i DQUOTE (drop (i + 1) s) (p .quote) in
         part-more s at i (omega arith) (p .within) ∙ rw (first, q)
 
     quoted-field : FieldTo s at (i + 1)
@@ -78,4 +78,4 @@ module _ (s : List ℕ) (at : ℕ) where
       → (r c t : List ℕ) → Field r c → Stop t → drop at s ≡ r ++ t → ⊥
   unclosed bq h r c t (plain g) k m = plain-quote g (λ v f. stop-quote k f) (sym m ∙ bq .begins)
   unclosed bq h r c t (quoted {s = x} g) k m =
-      h x c t g (λ b. stop-quote k (b .begins)) (begins-behind s at DQUOTE _ m ∙ append-assoc x (DQUOTE ∷ []) t)
+      h x c t g (λ b. stop-quote k (b .begins)) (first-byte-behind s at DQUOTE _ m ∙ append-assoc x (DQUOTE ∷ []) t)

@@ -9,7 +9,7 @@ use Rattle.csv.specs.field.Answer.{Stop, at-end, at-comma, at-row}
 use Rattle.csv.specs.rfc4180.Part.{part}
 use Rattle.csv.specs.quoted.Closing.{FirstByte}
 use Rattle.csv.proofs.Lists.{nil-cons}
-use Rattle.csv.proofs.rfc4180.Parts.{at-index, part-more, begins-at, begins-is, begins-lt, begins-behind}
+use Rattle.csv.proofs.rfc4180.Parts.{at-index, part-more, first-byte-at, first-byte-is, first-byte-lt, first-byte-behind}
 
 plain-snoc : {s : List ℕ} {b : ℕ} → Plain s → Textdata b → Plain (s ++ b ∷ [])
 plain-snoc none h = text h none
@@ -21,7 +21,7 @@ module _ (s : List ℕ) (at : ℕ) where
 
 -- what stands at e, from its first byte on
 pub byte-first : (s : List ℕ) (e b : ℕ) → FirstByte b (drop e s) → drop e s ≡ b ∷ drop (e + 1) s
-byte-first s e b g = begins-at s e b (begins-lt s e b (g .behind) (g .begins)) (begins-is s e b (g .behind) (g .begins))
+byte-first s e b g = first-byte-at s e b (first-byte-lt s e b (g .behind) (g .begins)) (first-byte-is s e b (g .behind) (g .begins))
 
 pub two-bytes-first : (s : List ℕ) (e a b : ℕ) → FirstByte a (drop e s) × FirstByte b (drop (e + 1) s) → drop e s ≡ a ∷ b ∷ drop (e + 2) s
 two-bytes-first s e a b g =
@@ -33,7 +33,7 @@ module _ (s : List ℕ) (e : ℕ) (h : e < length s) (nc : FirstByte COMMA (drop
   no-stop-at : {t : List ℕ} → Stop t → drop e s ≡ t → ⊥
   no-stop-at at-end q = nil-cons (sym q ∙ at-index s e h)
   no-stop-at at-comma q = nc (record { behind = _; begins = q })
-  no-stop-at at-row q = nr (record { behind = _; begins = q }, record { behind = _; begins = begins-behind s e CR _ q })
+  no-stop-at at-row q = nr (record { behind = _; begins = q }, record { behind = _; begins = first-byte-behind s e CR _ q })
 
   pub no-stop : Stop (drop e s) → ⊥
   no-stop q = no-stop-at q refl

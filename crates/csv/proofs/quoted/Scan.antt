@@ -6,26 +6,26 @@ use mathlib.Core.List.{List, [], _∷_, _++_, append-assoc}
 use lib.Dec.{eqb}
 use lib.ListN.{length, getD, drop}
 use Rattle.arithmetic.specs.decides.Decides.{Decides, decides-same, decides-equal}
-use Rattle.csv.specs.rfc4180.Rfc4180.{DQUOTE, Inside, Escaped, empty, byte, quotes}
+use Rattle.csv.specs.rfc4180.Rfc4180.{DQUOTE, Inside, Escaped, empty, byte, doubled}
 use Rattle.csv.specs.rfc4180.Part.{part}
 use Rattle.csv.specs.quoted.Closing.{FirstByte, EscapedTo}
 use Rattle.csv.proofs.rfc4180.Unique.{EscapedHalts, closing-halts, escaped-unique}
-use Rattle.csv.proofs.rfc4180.Parts.{part-none, part-more, part-rest, begins-at, begins-is, begins-lt}
+use Rattle.csv.proofs.rfc4180.Parts.{part-none, part-more, part-rest, first-byte-at, first-byte-is, first-byte-lt}
 
 escaped-snoc : {s c : List ℕ} {b : ℕ} → Escaped s c → Inside b → Escaped (s ++ b ∷ []) (c ++ b ∷ [])
 escaped-snoc empty h = byte h empty
 escaped-snoc (byte k p) h = byte k (escaped-snoc p h)
-escaped-snoc (quotes p) h = quotes (escaped-snoc p h)
+escaped-snoc (doubled p) h = doubled (escaped-snoc p h)
 
-quotes-snoc : {s c : List ℕ} → Escaped s c → Escaped (s ++ DQUOTE ∷ DQUOTE ∷ []) (c ++ DQUOTE ∷ [])
-quotes-snoc empty = quotes empty
-quotes-snoc (byte k p) = byte k (quotes-snoc p)
-quotes-snoc (quotes p) = quotes (quotes-snoc p)
+doubled-snoc : {s c : List ℕ} → Escaped s c → Escaped (s ++ DQUOTE ∷ DQUOTE ∷ []) (c ++ DQUOTE ∷ [])
+doubled-snoc empty = doubled empty
+doubled-snoc (byte k p) = byte k (doubled-snoc p)
+doubled-snoc (doubled p) = doubled (doubled-snoc p)
 
 -- what stands from a place of the text on begins with the byte that is there
-pub begins-decides : (s : List ℕ) (i b : ℕ) → i < length s → Decides (eqb (getD s i 0) b) (FirstByte b (drop i s))
-begins-decides s i b h =
-    decides-same (eqb (getD s i 0) b) (λ e. record { behind = _; begins = begins-at s i b h e }) (λ g. begins-is s i b (g .behind) (g .begins)) (decides-equal (getD s i 0) b)
+pub first-byte-decides : (s : List ℕ) (i b : ℕ) → i < length s → Decides (eqb (getD s i 0) b) (FirstByte b (drop i s))
+first-byte-decides s i b h =
+    decides-same (eqb (getD s i 0) b) (λ e. record { behind = _; begins = first-byte-at s i b h e }) (λ g. first-byte-is s i b (g .behind) (g .begins)) (decides-equal (getD s i 0) b)
 
 -- what stands between quotes from `at` up to i, with its content
 pub record Escape (s : List ℕ) (at i : ℕ) : Type 0 where
@@ -42,12 +42,12 @@ module _ (s : List ℕ) (at : ℕ) where
   -- two quotes
   pub escape-quotes : (i : ℕ) → at ≤ i → i < length s → getD s i 0 ≡ DQUOTE → FirstByte DQUOTE (drop (i + 1) s) → Escape s at i → Escape s at (i + 2)
   escape-quotes i h k e q p =
-      let k′ : i + 1 < length s = begins-lt s (i + 1) DQUOTE (q .behind) (q .begins) in
-      let e′ : getD s (i + 1) 0 ≡ DQUOTE = begins-is s (i + 1) DQUOTE (q .behind) (q .begins) in
+      let k′ : i + 1 < length s = first-byte-lt s (i + 1) DQUOTE (q .behind) (q .begins) in
+      let e′ : getD s (i + 1) 0 ≡ DQUOTE = first-byte-is s (i + 1) DQUOTE (q .behind) (q .begins) in
       let n : i + 2 ≡ i + 1 + 1 = omega arith in
       let m : part at (i + 2) s ≡ part at i s ++ DQUOTE ∷ DQUOTE ∷ [] =
       rw (n, part-more s at (i + 1) (omega arith) k′, part-more s at i h k, e, e′, append-assoc (part at i s) (DQUOTE ∷ []) (DQUOTE ∷ [])) in
-      record { content = p .content ++ DQUOTE ∷ []; escaped = rw m (quotes-snoc (p .escaped)) }
+      record { content = p .content ++ DQUOTE ∷ []; escaped = rw m (doubled-snoc (p .escaped)) }
 
   pub escape-closes : (i : ℕ) → at ≤ i → i < length s → getD s i 0 ≡ DQUOTE → (FirstByte DQUOTE (drop (i + 1) s) → ⊥) → Escape s at i → EscapedTo s at i
   escape-closes i h k e q p = record {
@@ -55,7 +55,7 @@ module _ (s : List ℕ) (at : ℕ) where
     within = k;
     content = p .content;
     escaped = p .escaped;
-    quote = begins-at s i DQUOTE k e;
+    quote = first-byte-at s i DQUOTE k e;
     alone = q;
   }
 

@@ -35,17 +35,17 @@ module _ (s : List ℕ) where
       sym (take-append-drop (e - at) (drop at s)) ∙ ap (λ (l : List ℕ). part at e s ++ l) q
 
   -- what begins with a byte is not past the end
-  pub begins-lt : (i b : ℕ) (t : List ℕ) → drop i s ≡ b ∷ t → i < length s
-  begins-lt i b t e = omega (arith, length-drop i s, ap length e)
+  pub first-byte-lt : (i b : ℕ) (t : List ℕ) → drop i s ≡ b ∷ t → i < length s
+  first-byte-lt i b t e = omega (arith, length-drop i s, ap length e)
 
-  pub begins-at : (i b : ℕ) → i < length s → getD s i 0 ≡ b → drop i s ≡ b ∷ drop (i + 1) s
-  begins-at i b h e = at-index i h ∙ ap (λ (x : ℕ). x ∷ drop (i + 1) s) e
+  pub first-byte-at : (i b : ℕ) → i < length s → getD s i 0 ≡ b → drop i s ≡ b ∷ drop (i + 1) s
+  first-byte-at i b h e = at-index i h ∙ ap (λ (x : ℕ). x ∷ drop (i + 1) s) e
 
-  pub begins-is : (i b : ℕ) (t : List ℕ) → drop i s ≡ b ∷ t → getD s i 0 ≡ b
-  begins-is i b t e = heads (sym (at-index i (begins-lt i b t e)) ∙ e)
+  pub first-byte-is : (i b : ℕ) (t : List ℕ) → drop i s ≡ b ∷ t → getD s i 0 ≡ b
+  first-byte-is i b t e = heads (sym (at-index i (first-byte-lt i b t e)) ∙ e)
 
-  pub begins-behind : (i b : ℕ) (t : List ℕ) → drop i s ≡ b ∷ t → drop (i + 1) s ≡ t
-  begins-behind i b t e = tails (sym (at-index i (begins-lt i b t e)) ∙ e)
+  pub first-byte-behind : (i b : ℕ) (t : List ℕ) → drop i s ≡ b ∷ t → drop (i + 1) s ≡ t
+  first-byte-behind i b t e = tails (sym (at-index i (first-byte-lt i b t e)) ∙ e)
 
-  pub past-begins : (i b : ℕ) (t : List ℕ) → length s ≤ i → drop i s ≡ b ∷ t → ⊥
-  past-begins i b t h e = nil-cons (sym (past i h) ∙ e)
+  pub past-first-byte : (i b : ℕ) (t : List ℕ) → length s ≤ i → drop i s ≡ b ∷ t → ⊥
+  past-first-byte i b t h e = nil-cons (sym (past i h) ∙ e)

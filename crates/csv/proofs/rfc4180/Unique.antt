@@ -4,7 +4,7 @@ use native.Mathlib.Omega.{arith}
 use mathlib.Core.Path.{_≡_, refl, sym, ap, ap₂, _∙_}
 use mathlib.Core.List.{List, [], _∷_, _++_, append-assoc, append-nil}
 use Rattle.csv.proofs.Lists.{nil-cons, heads, tails, conses}
-use Rattle.csv.specs.rfc4180.Rfc4180.{COMMA, CR, DQUOTE, LF, Textdata, low, middle, high, Plain, none, text, Inside, is-text, is-comma, is-cr, is-lf, Escaped, empty, byte, quotes, Field, plain, quoted, Cell, Record, only, then, File, last, closed, next}
+use Rattle.csv.specs.rfc4180.Rfc4180.{COMMA, CR, DQUOTE, LF, Textdata, low, middle, high, Plain, none, text, Inside, is-text, is-comma, is-cr, is-lf, Escaped, empty, byte, doubled, Field, plain, quoted, Cell, Record, only, then, File, last, closed, next}
 use Rattle.csv.specs.field.Answer.{Stop, at-end, at-comma, at-row}
 
 -- a byte of TEXTDATA is none of the four others
@@ -61,15 +61,15 @@ plain-unique (text b p) (text d q) ht hu e =
 pub escaped-unique : {r s c d t u : List ℕ} → Escaped r c → Escaped s d → EscapedHalts t → EscapedHalts u → r ++ t ≡ s ++ u → (r ≡ s) × (c ≡ d) × (t ≡ u)
 escaped-unique empty empty ht hu e = (refl, refl, e)
 escaped-unique empty (byte b q) ht hu e = absurd (ht .no-byte _ _ b e)
-escaped-unique empty (quotes q) ht hu e = absurd (ht .no-quotes _ e)
+escaped-unique empty (doubled q) ht hu e = absurd (ht .no-quotes _ e)
 escaped-unique (byte b p) empty ht hu e = absurd (hu .no-byte _ _ b (sym e))
 escaped-unique (byte b p) (byte d q) ht hu e =
     let h = escaped-unique p q ht hu (tails e) in
     (conses (heads e) (h .0), conses (heads e) (h .1), h .2)
-escaped-unique (byte b p) (quotes q) ht hu e = absurd (inside-quote b (heads e))
-escaped-unique (quotes p) empty ht hu e = absurd (hu .no-quotes _ (sym e))
-escaped-unique (quotes p) (byte d q) ht hu e = absurd (inside-quote d (sym (heads e)))
-escaped-unique (quotes p) (quotes q) ht hu e =
+escaped-unique (byte b p) (doubled q) ht hu e = absurd (inside-quote b (heads e))
+escaped-unique (doubled p) empty ht hu e = absurd (hu .no-quotes _ (sym e))
+escaped-unique (doubled p) (byte d q) ht hu e = absurd (inside-quote d (sym (heads e)))
+escaped-unique (doubled p) (doubled q) ht hu e =
     let h = escaped-unique p q ht hu (tails (tails e)) in
     (conses refl (conses refl (h .0)), conses refl (h .1), h .2)
 

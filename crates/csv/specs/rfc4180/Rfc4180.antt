@@ -40,7 +40,7 @@ pub data Inside (b : ℕ) : Type 0 where
 pub data Escaped : List ℕ → List ℕ → Type 0 where
   empty : Escaped [] []
   byte : {b : ℕ} {s c : List ℕ} → Inside b → Escaped s c → Escaped (b ∷ s) (b ∷ c)
-  quotes : {s c : List ℕ} → Escaped s c → Escaped (DQUOTE ∷ DQUOTE ∷ s) (DQUOTE ∷ c)
+  doubled : {s c : List ℕ} → Escaped s c → Escaped (DQUOTE ∷ DQUOTE ∷ s) (DQUOTE ∷ c)
 
 -- field = escaped / non-escaped, and its content; escaped = DQUOTE *(..) DQUOTE
 pub data Field : List ℕ → List ℕ → Type 0 where

@@ -9,7 +9,7 @@ use lib.ListN.{length, getD, drop, length-append}
 use lib.Seq.{getD-at}
 use Rattle.arithmetic.proofs.Cases.{impossible}
 use Rattle.arithmetic.specs.decides.Decides.{Decides, decided, refuted, decides-both, decides-equal}
-use Rattle.csv.specs.rfc4180.Rfc4180.{DQUOTE, Plain, none, text, is-text, Escaped, empty, byte, quotes, Field, plain, quoted}
+use Rattle.csv.specs.rfc4180.Rfc4180.{DQUOTE, Plain, none, text, is-text, Escaped, empty, byte, doubled, Field, plain, quoted}
 use Rattle.csv.specs.rfc4180.Part.{part}
 use Rattle.csv.proofs.Lists.{tails, lasts}
 use Rattle.csv.proofs.rfc4180.Unique.{text-quote}
@@ -23,7 +23,7 @@ plain-escaped (text b p) = byte (is-text b) (plain-escaped p)
 escaped-plain : {s c : List ℕ} → Escaped s c → Plain c → s ≡ c
 escaped-plain empty none = refl
 escaped-plain (byte {b} k p) (text h q) = ap (λ (l : List ℕ). b ∷ l) (escaped-plain p q)
-escaped-plain (quotes p) (text h q) = absurd (text-quote h refl)
+escaped-plain (doubled p) (text h q) = absurd (text-quote h refl)
 
 -- what stands between two quotes is one stretch
 pub between-one : {r s : List ℕ} → DQUOTE ∷ r ++ DQUOTE ∷ [] ≡ DQUOTE ∷ s ++ DQUOTE ∷ [] → r ≡ s

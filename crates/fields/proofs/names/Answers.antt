@@ -11,13 +11,13 @@ use Rattle.fields.specs.declared.names.NameRead.{NameRead}
 pub name-one : {raw : List ℕ} {m n : Name} → NameIn raw m → NameIn raw n → m ≡ n
 name-one p q = p .held ∙ ap name (content-unique (p .field) (q .field)) ∙ sym (q .held)
 
-named-one : (raw : List ℕ) (a b : Bool) (m n : Name) → NameGiven a raw m → NameGiven b raw n → (a ≡ b) × (m ≡ n)
-named-one raw true true m n p q = (refl, name-one p q)
-named-one raw true false m n p q = absurd (q .0 m p)
-named-one raw false true m n p q = absurd (p .0 n q)
-named-one raw false false m n p q = (refl, p .1 ∙ sym (q .1))
+name-given-one : (raw : List ℕ) (a b : Bool) (m n : Name) → NameGiven a raw m → NameGiven b raw n → (a ≡ b) × (m ≡ n)
+name-given-one raw true true m n p q = (refl, name-one p q)
+name-given-one raw true false m n p q = absurd (q .0 m p)
+name-given-one raw false true m n p q = absurd (p .0 n q)
+name-given-one raw false false m n p q = (refl, p .1 ∙ sym (q .1))
 
 pub name-at-one : (raw : List ℕ) (a b : NameRead) → NameAt raw a → NameAt raw b → a ≡ b
 name-at-one raw a b p q =
-    let w = named-one raw (a .good) (b .good) (a .name) (b .name) p q in
+    let w = name-given-one raw (a .good) (b .good) (a .name) (b .name) p q in
     λ i. record { good = w .0 i; name = w .1 i }

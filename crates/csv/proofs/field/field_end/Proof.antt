@@ -11,7 +11,7 @@ use Rattle.csv.specs.rfc4180.Rfc4180.{COMMA, CR, DQUOTE, LF}
 use Rattle.csv.specs.quoted.Closing.{FirstByte, ClosedAt}
 use Rattle.csv.specs.field.Answer.{FieldTo}
 use Rattle.arithmetic.specs.decides.Decides.{Decides, decided, refuted, decides-both}
-use Rattle.csv.proofs.rfc4180.Parts.{begins-lt}
+use Rattle.csv.proofs.rfc4180.Parts.{first-byte-lt}
 use Rattle.csv.proofs.field.Scan.{byte-first, two-bytes-first, no-stop}
 use Rattle.csv.proofs.field.Ends.{EndsAt, not-followed, plain-ends, quoted-ends, unclosed}
 use borrow.Author.Needs.{needs}
@@ -29,7 +29,7 @@ closing-requires c κs =
     let s = c .before .before .before .args .s .now in
     let at = c .before .before .before .args .at in
     let bq = decided (c .before .byte-is .result) (c .if1 .taken) (c .before .byte-is .ensures) in
-    let h : at < length s = begins-lt s at DQUOTE (bq .behind) (bq .begins) in
+    let h : at < length s = first-byte-lt s at DQUOTE (bq .behind) (bq .begins) in
     omega arith
 
 enum-known-i : tie.Need-enum-known-i

@@ -7,7 +7,7 @@ use lib.ListN.{length}
 use Rattle.csv.specs.rfc4180.Rfc4180.{Plain, none, Textdata}
 use Rattle.csv.specs.rfc4180.Part.{part}
 use Rattle.arithmetic.specs.decides.Decides.{decided, refuted}
-use Rattle.csv.proofs.rfc4180.Parts.{part-none, begins-is, past-begins}
+use Rattle.csv.proofs.rfc4180.Parts.{part-none, first-byte-is, past-first-byte}
 use Rattle.csv.proofs.field.plain_end.Statement.{statement}
 use Rattle.csv.proofs.field.plain_end.Tie as tie
 
@@ -48,7 +48,7 @@ returns c =
       from = inv .0;
       within = inv .1;
       all = inv .2;
-      halts = λ b t g. refuted (c .before .is-text .result) (c .if1 .left) (c .before .is-text .ensures) (subst Textdata (sym (begins-is s i b (g .behind) (g .begins))) t);
+      halts = λ b t g. refuted (c .before .is-text .result) (c .if1 .left) (c .before .is-text .ensures) (subst Textdata (sym (first-byte-is s i b (g .behind) (g .begins))) t);
     }
 
 returns-2 : tie.Need-returns-2 Inv-loop μ-loop
@@ -58,7 +58,7 @@ returns-2 c =
       from = inv .0;
       within = inv .1;
       all = inv .2;
-      halts = λ b t g. past-begins (c .before .before .before .args .s .now) (c .before .loop .i) b (g .behind) (c .loop-test .left) (g .begins);
+      halts = λ b t g. past-first-byte (c .before .before .before .args .s .now) (c .before .loop .i) b (g .behind) (c .loop-test .left) (g .begins);
     }
 
 pub plain-end-spec : {M : Type 1} → statement M

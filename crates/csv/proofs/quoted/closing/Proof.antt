@@ -7,7 +7,7 @@ use lib.ListN.{length, getD}
 use native.Mathlib.Omega.{arith}
 use Rattle.csv.specs.rfc4180.Rfc4180.{Inside, DQUOTE}
 use Rattle.arithmetic.specs.decides.Decides.{decided, refuted}
-use Rattle.csv.proofs.rfc4180.Parts.{begins-is, begins-lt, past-begins}
+use Rattle.csv.proofs.rfc4180.Parts.{first-byte-is, first-byte-lt, past-first-byte}
 use Rattle.csv.proofs.quoted.Bytes.{inside-decides}
 use Rattle.csv.proofs.quoted.Scan.{Escape, escape-none, escape-more, escape-quotes, escape-closes, never-closes}
 use Rattle.csv.proofs.quoted.closing.Statement.{statement}
@@ -42,7 +42,7 @@ loop-again c =
     let inv = c .before .before .before .before .before .loop .inv in
     let k = c .before .before .before .before .loop-test .taken in
     let two = decided (c .before .byte-is .result) (c .if2 .taken) (c .before .byte-is .ensures) in
-    let k′ = begins-lt _ (c .before .before .before .before .before .loop .i + 1) DQUOTE (two .behind) (two .begins) in
+    let k′ = first-byte-lt _ (c .before .before .before .before .before .loop .i + 1) DQUOTE (two .behind) (two .begins) in
     (search needs, omega arith, escape-quotes _ _ _ (inv .0) k (c .before .before .if1 .taken) two (inv .2))
 
 returns : tie.Need-returns Inv-loop μ-loop
@@ -75,8 +75,8 @@ returns-2 c =
     let i = at-loop .loop .i in
     let outside = refuted _ (c .if3 .left) (inside-decides (getD s i 0) (c .before .is-text .result) (c .before .is-text .ensures)) in
     never-closes _ _ _ (at-loop .loop .inv .0)
-    (λ b h g. outside (subst Inside (sym (begins-is s i b (g .behind) (g .begins))) h))
-    (λ g. c .before .before .if1 .left (begins-is s i _ (g .behind) (g .begins)))
+    (λ b h g. outside (subst Inside (sym (first-byte-is s i b (g .behind) (g .begins))) h))
+    (λ g. c .before .before .if1 .left (first-byte-is s i _ (g .behind) (g .begins)))
     (at-loop .loop .inv .2)
 
 returns-3 : tie.Need-returns-3 Inv-loop μ-loop
@@ -84,7 +84,7 @@ returns-3 c =
     let s = c .before .before .before .args .s .now in
     let i = c .before .loop .i in
     let inv = c .before .loop .inv in
-    never-closes s _ i (inv .0) (λ b h g. past-begins s i b (g .behind) (c .loop-test .left) (g .begins)) (λ g. past-begins s i _ (g .behind) (c .loop-test .left) (g .begins)) (inv .2)
+    never-closes s _ i (inv .0) (λ b h g. past-first-byte s i b (g .behind) (c .loop-test .left) (g .begins)) (λ g. past-first-byte s i _ (g .behind) (c .loop-test .left) (g .begins)) (inv .2)
 
 pub closing-spec : {M : Type 1} → statement M
 closing-spec =
