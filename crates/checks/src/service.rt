@@ -1,4 +1,4 @@
-// Which combinations are of service (document 01, Load sets): these have OP, OM and SL. PR they have all, and RK on rock.
+// Which combinations are of service (document 01, Load sets): these have OP, OM and SL. All have PR, and on rock RK.
 use sets::Combination;
 ghost use Rattle.arithmetic.specs.decides.Decides.{Decides};
 ghost use Rattle.checks.specs.service.Service.{Service};
