@@ -10,16 +10,9 @@ ghost use lib.ListN.{length, drop};
 ghost use Rattle.csv.specs.rfc4180.Rfc4180.{Readable};
 ghost use Rattle.book.specs.step.Step.{StepIs};
 
-// What a row does: it is refused, or it joins the job before it, or it starts the next.
-pub enum Way {
-    Refused(Refusal),
-    Joined,
-    Started,
-}
-
-// The job behind a row, and where the next row starts.
+// What a row does, the job behind it, and where the next row starts.
 pub struct Step {
-    pub way: Way,
+    pub way: Took,
     pub job: Job,
     pub next: usize,
 }
@@ -31,17 +24,13 @@ pub(crate) fn step_at(s: &[u8], at: usize, mut job: Job) -> Step
     ensures { λ r. ⌜ StepIs (now (s .entry)) at job r ⌝ }
 {
     let r = rows::read_row(s, at);
-    let mut way = Way::Refused(Refusal::NoForm);
+    let mut way = Took::Refused(Refusal::NoForm);
     if r.good {
         let keyed = r.row;
         let t = job.take(keyed);
         job = t.job;
         let answer = t.answer;
-        match answer {
-            Took::OutOfPlace => way = Way::Refused(Refusal::Misplaced),
-            Took::Joined => way = Way::Joined,
-            Took::Started => way = Way::Started,
-        }
+        way = answer;
     }
     Step {
         way,

@@ -8,8 +8,8 @@ use crate::counted;
 use crate::counted::Book;
 use crate::counted::Count;
 use crate::step;
-use crate::step::Way;
 use jobs::Job;
+use jobs::Took;
 use rows::keys::Beginning;
 use rows::refusals::Refusal;
 ghost use Prim.Native.Nat.{_≤_};
@@ -51,9 +51,9 @@ pub(crate) fn read_rows(s: &[u8]) -> Book
         at = step.next;
         let way = step.way;
         match way {
-            Way::Refused(why) => return counted::refused(why, row),
-            Way::Joined => {}
-            Way::Started => {
+            Took::Refused(why) => return counted::refused(why, row),
+            Took::Joined => {}
+            Took::Started => {
                 let key = job.key;
                 if let Beginning::Barred(why) = rows::keys::may_begin(keys, n, key) {
                     return counted::refused(why, row);

@@ -4,10 +4,11 @@ use mathlib.Core.Path.{_≡_}
 use Rattle.kinds.specs.Table.{role}
 use Rattle.kinds.specs.declared.Role.the-variants.{Base}
 use Rattle.rows.specs.declared.keys.Keyed.{Keyed}
+use Rattle.rows.specs.refusals.Numbers.{refusal-number}
 use Rattle.jobs.specs.Place.{InPlace, grown}
 use Rattle.jobs.specs.declared.Job.{Job}
 use Rattle.jobs.specs.declared.Took.{Took}
-use Rattle.jobs.specs.declared.Took.the-variants.{Started, Joined, OutOfPlace}
+use Rattle.jobs.specs.declared.Took.the-variants.{Refused, Joined, Started}
 use Rattle.jobs.specs.declared.Taken.{Taken}
 
 -- a row starts the next job, or joins this one, or is refused with a number
@@ -17,9 +18,9 @@ pub data TakeTold : Type 0 where
   refused : ℕ → TakeTold
 
 abbrev pub take-told : Took → TakeTold
-take-told Started = starts
+take-told (Refused why) = refused (refusal-number why)
 take-told Joined = joins
-take-told OutOfPlace = refused 4
+take-told Started = starts
 
 -- exactly when, and the job that comes of it: taken, with exactly that row more; refused, and the job as it stood
 abbrev pub TakeSays : Job → Keyed → TakeTold → Job → Type 0

@@ -11,6 +11,7 @@ use kinds::Role;
 use kinds::Row;
 use rows::keys::Key;
 use rows::keys::Keyed;
+use rows::refusals::Refusal;
 use stages::Stage;
 ghost use mathlib.Core.Path.{_≡_};
 ghost use Prim.Native.Nat.{_<_};
@@ -30,11 +31,11 @@ pub struct Job {
     pub loads: [Row; 16],
 }
 
-// What became of a row: it started a job, it joined the one before, or it is out of place (refusal 4).
+// What became of a row: it is refused, or it joined the job before it, or it started the next.
 pub enum Took {
-    Started,
+    Refused(Refusal),
     Joined,
-    OutOfPlace,
+    Started,
 }
 
 // What became of a row, and the job behind it.
@@ -122,7 +123,7 @@ impl Job {
         let other = row.key;
         let same = rows::keys::same_key(key, other);
         let good = stages::fits(role, stage, self.count, same);
-        let mut answer = Took::OutOfPlace;
+        let mut answer = Took::Refused(Refusal::Misplaced);
         let mut job = self;
         if good {
             match role {

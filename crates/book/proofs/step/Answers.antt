@@ -14,8 +14,8 @@ use Rattle.rows.proofs.Forms.{row-read-one}
 use Rattle.jobs.specs.Place.{InPlace}
 use Rattle.jobs.specs.declared.Job.{Job}
 use Rattle.book.specs.step.Step.{RefusesRow, Goes, StepIs}
-use Rattle.book.specs.declared.step.Way.{Way}
-use Rattle.book.specs.declared.step.Way.the-variants.{Refused, Joined, Started}
+use Rattle.jobs.specs.declared.Took.{Took}
+use Rattle.jobs.specs.declared.Took.the-variants.{Refused, Joined, Started}
 use Rattle.book.specs.declared.step.Step.{Step}
 
 module _ (j : Job) (good : Bool) (r : Keyed) where
@@ -45,7 +45,7 @@ module _ (j : Job) (good : Bool) (r : Keyed) where
   refused-not TooManyJobs p g i = p
   refused-not UsedKey p g i = p
 
-  goes-one : (v w : Way) (m n : Job) → Goes j good r v m → Goes j good r w n → (v ≡ w) × (m ≡ n)
+  goes-one : (v w : Took) (m n : Job) → Goes j good r v m → Goes j good r w n → (v ≡ w) × (m ≡ n)
   goes-one (Refused a) (Refused b) m n p q = (ap Refused (refuses-one a b (p .0) (q .0)), p .1 ∙ sym (q .1))
   goes-one (Refused a) Joined m n p q = absurd (refused-not a (p .0) (q .0) (q .1 .1))
   goes-one (Refused a) Started m n p q = absurd (refused-not a (p .0) (q .0) (q .1 .1))

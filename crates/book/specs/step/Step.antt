@@ -10,8 +10,8 @@ use Rattle.rows.specs.declared.keys.Keyed.{Keyed}
 use Rattle.jobs.specs.Place.{InPlace}
 use Rattle.jobs.specs.Taking.{starts, joins, TakeSays}
 use Rattle.jobs.specs.declared.Job.{Job}
-use Rattle.book.specs.declared.step.Way.{Way}
-use Rattle.book.specs.declared.step.Way.the-variants.{Refused, Joined, Started}
+use Rattle.jobs.specs.declared.Took.{Took}
+use Rattle.jobs.specs.declared.Took.the-variants.{Refused, Joined, Started}
 use Rattle.book.specs.declared.step.Step.{Step}
 
 -- a row is refused here with 3, without a form, or with 4, out of place, and with nothing else
@@ -24,7 +24,7 @@ RefusesRow j good r TooManyJobs = ⊥
 RefusesRow j good r UsedKey = ⊥
 
 -- exactly when, and the job that comes of it: refused, the job as it stood
-abbrev pub Goes : Job → Bool → Keyed → Way → Job → Type 0
+abbrev pub Goes : Job → Bool → Keyed → Took → Job → Type 0
 Goes j good r (Refused why) next = RefusesRow j good r why × (next ≡ j)
 Goes j good r Joined next = (good ≡ true) × TakeSays j r joins next
 Goes j good r Started next = (good ≡ true) × TakeSays j r starts next

@@ -1,35 +1,28 @@
--- A row without a form is refused with 3 and the job stays. Of a row with a form what the job answers is what the row does, case by case.
-use mathlib.Core.Path.{_≡_, refl, subst}
-use mathlib.Core.Bool.{true}
+-- A row without a form is refused with 3 and the job stays. Of a row with a form what the job answers is what the row does: a job refuses
+-- with 4 alone.
+use mathlib.Core.Path.{_≡_, refl}
+use mathlib.Core.Bool.{Bool, true}
 use borrow.Author.Needs.{needs}
+use Rattle.arithmetic.proofs.Cases.{unlike}
+use Rattle.rows.specs.declared.refusals.Refusal.the-variants.{TooLong, NotCsv, NoForm, Misplaced, TooManyJobs, UsedKey}
+use Rattle.rows.specs.declared.keys.Keyed.{Keyed}
 use Rattle.jobs.specs.Taking.{TakeSays, take-told}
+use Rattle.jobs.specs.declared.Job.{Job}
 use Rattle.jobs.specs.declared.Took.{Took}
-use Rattle.jobs.specs.declared.Took.the-variants.{OutOfPlace, Joined, Started}
-use Rattle.book.specs.step.Step.{Goes, StepIs}
-use Rattle.book.specs.declared.step.Way.{Way}
-use Rattle.book.specs.declared.step.Way.the-variants as way
-use Rattle.rows.specs.declared.refusals.Refusal.the-variants.{Misplaced}
-use denote.Ref.{now}
+use Rattle.jobs.specs.declared.Took.the-variants.{Refused, Joined, Started}
+use Rattle.book.specs.step.Step.{Goes}
 use Rattle.book.proofs.step.step_at.Statement.{statement}
 use Rattle.book.proofs.step.step_at.Tie as tie
 
--- a row with a form, which the job took or refused
-module _ (c : tie.After-job) where
-  abbrev row : tie.After-read-row
-  row = c .before .before .before .before
-
-  abbrev args : tie.Start
-  args = row .before .before
-
-  good : row .read-row .result .good ≡ true
-  good = c .before .before .before .if1 .taken
-
-  says : (a : Took) → c .before .take .result .answer ≡ a → TakeSays (args .args .job) (row .read-row .result .row) (take-told a) (c .before .take .result .job)
-  says a e = subst (λ (t : Took). TakeSays (args .args .job) (row .read-row .result .row) (take-told t) (c .before .take .result .job)) e (c .before .take .ensures)
-
-  does : (w : Way) → Goes (args .args .job) (row .read-row .result .good) (row .read-row .result .row) w (c .before .take .result .job)
-      → StepIs (now (args .args .s)) (args .args .at) (args .args .job) (record { way = w; job = c .before .take .result .job; next = row .read-row .result .next })
-  does w g = record { good = row .read-row .result .good; keyed = row .read-row .result .row; seen = row .read-row .ensures; goes = g }
+does : (j : Job) {good : Bool} (row : Keyed) → good ≡ true → (a : Took) (next : Job) → TakeSays j row (take-told a) next → Goes j good row a next
+does j row e (Refused TooLong) next t = unlike 1 4 refl (t .0)
+does j row e (Refused NotCsv) next t = unlike 2 4 refl (t .0)
+does j row e (Refused NoForm) next t = unlike 3 4 refl (t .0)
+does j row e (Refused Misplaced) next t = ((e, t .1), t .2)
+does j row e (Refused TooManyJobs) next t = unlike 5 4 refl (t .0)
+does j row e (Refused UsedKey) next t = unlike 6 4 refl (t .0)
+does j row e Joined next t = (e, t)
+does j row e Started next t = (e, t)
 
 read-row-requires : tie.Need-read-row-requires
 read-row-requires c κs = search needs
@@ -37,42 +30,18 @@ read-row-requires c κs = search needs
 take-requires : tie.Need-take-requires
 take-requires c κs = search needs
 
-enum-told : tie.Need-enum-told
-enum-told c = search needs
-
-enum-told-2 : tie.Need-enum-told-2
-enum-told-2 c = search needs
-
-enum-told-3 : tie.Need-enum-told-3
-enum-told-3 c = search needs
-
 returns : tie.Need-returns
 returns c =
-    let taken = c .before .before in
-    let w = says taken OutOfPlace (c .enum-told .given .1) in
-    does taken (way.Refused Misplaced) ((good taken, w .1), w .2)
+    let taken = c .before in
+    let row = taken .before .before .before in
+    let r = row .read-row in
+    let goes = does (row .before .before .args .job) (r .result .row) (taken .before .before .if1 .taken) (taken .take .result .answer) (taken .take .result .job) (taken .take .ensures) in
+    record { good = r .result .good; keyed = r .result .row; seen = r .ensures; goes = goes }
 
 returns-2 : tie.Need-returns-2
-returns-2 c = let taken = c .before .before in does taken way.Joined (good taken, says taken Joined (c .enum-told2 .given .1))
-
-returns-3 : tie.Need-returns-3
-returns-3 c = let taken = c .before .before in does taken way.Started (good taken, says taken Started (c .enum-told3 .given .1))
-
-returns-4 : tie.Need-returns-4
-returns-4 c =
+returns-2 c =
     let r = c .before .read-row in
     record { good = r .result .good; keyed = r .result .row; seen = r .ensures; goes = (c .if1 .left, refl) }
 
 pub step-at-spec : {M : Type 1} → statement M
-step-at-spec =
-    tie.close
-    (tie.spec
-    read-row-requires
-    take-requires
-    enum-told
-    enum-told-2
-    enum-told-3
-    returns
-    returns-2
-    returns-3
-    returns-4)
+step-at-spec = tie.close (tie.spec read-row-requires take-requires returns returns-2)

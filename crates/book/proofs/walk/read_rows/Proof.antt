@@ -11,8 +11,8 @@ use borrow.Author.Needs.{needs}
 use Rattle.rows.specs.declared.keys.Key.{Key}
 use Rattle.jobs.specs.declared.Job.{Job}
 use Rattle.book.specs.step.Step.{Goes}
-use Rattle.book.specs.declared.step.Way.{Way}
-use Rattle.book.specs.declared.step.Way.the-variants.{Refused, Joined, Started}
+use Rattle.jobs.specs.declared.Took.{Took}
+use Rattle.jobs.specs.declared.Took.the-variants.{Refused, Joined, Started}
 use Rattle.book.proofs.Walking.{Walk, walk-start, walk-on, walk-refused, walk-barred, begun-new, walk-some, After, walk-joined, walk-started, walk-more, walk-end, refused-is}
 use Rattle.book.proofs.walk.read_rows.Statement.{statement}
 use Rattle.book.proofs.walk.read_rows.Tie as tie
@@ -24,8 +24,8 @@ abbrev μ-loop : tie.MeasureT-loop
 μ-loop s job₀ jobs₀ keys₀ n₀ row₀ at₀ job jobs keys n row at = length s - at
 
 -- what the row does
-goes : (c : tie.After-step-at Inv-loop μ-loop) (w : Way) → c .step-at .result .way ≡ w → Goes (c .before .loop .job) (c .step-at .ensures .good) (c .step-at .ensures .keyed) w (c .step-at .result .job)
-goes c w e = subst (λ (w : Way). Goes (c .before .loop .job) (c .step-at .ensures .good) (c .step-at .ensures .keyed) w (c .step-at .result .job)) e (c .step-at .ensures .goes)
+goes : (c : tie.After-step-at Inv-loop μ-loop) (w : Took) → c .step-at .result .way ≡ w → Goes (c .before .loop .job) (c .step-at .ensures .good) (c .step-at .ensures .keyed) w (c .step-at .result .job)
+goes c w e = subst (λ (w : Took). Goes (c .before .loop .job) (c .step-at .ensures .good) (c .step-at .ensures .keyed) w (c .step-at .result .job)) e (c .step-at .ensures .goes)
 
 -- behind the row, which has a form and is the last job's
 record Behind (c : tie.After-step-at Inv-loop μ-loop) (ks : List Key) (m : ℕ) : Type 0 where
