@@ -4,12 +4,11 @@ use native.Mathlib.Omega.{arith}
 use mathlib.Core.Path.{_≡_, refl, sym, subst, _∙_}
 use mathlib.Core.Bool.{Bool, true, false, _&&_}
 use mathlib.Core.List.{List, _∷_}
-use lib.Dec.{eqb}
 use lib.ListN.{length, drop}
 use Rattle.csv.specs.rfc4180.Rfc4180.{Cell, Field, File}
 use Rattle.csv.proofs.rfc4180.Unique.{content-unique}
 use Rattle.arithmetic.proofs.Tests.{AllSix, all-six, decides-six}
-use Rattle.arithmetic.specs.decides.Decides.{Decides, decides-both, decides-equal, decides-flag}
+use Rattle.arithmetic.specs.decides.Decides.{Decides, decides-both, decides-flag}
 use Rattle.csv.specs.cells.Cells.{offset, RowAt, CellAt}
 use Rattle.csv.specs.declared.cells.Cells.{Cells}
 use Rattle.csv.proofs.cells.Fields.{row-fields}

@@ -15,7 +15,8 @@ use Rattle.sums.specs.declared.Sums.{Sums}
 use Rattle.sets.specs.Sets.{row, Bounded, Permitted}
 use Rattle.sets.specs.steps.Deciding.{Arises, Admits, RowFits}
 use Rattle.sums.specs.steps.Sums.{sums-of}
-use Rattle.sums.proofs.permitted.Admitted.{Fit, admitted-permitted, admitted}
+use Rattle.sets.proofs.Permitting.{Fit}
+use Rattle.sums.proofs.permitted.Admitted.{admitted-permitted, admitted}
 use Rattle.checks.specs.declared.Base.{Base}
 use Rattle.checks.specs.declared.Check.{Check}
 use Rattle.checks.specs.declared.Check.the-variants.{OP, OM, SL, PR, RK}
@@ -70,7 +71,7 @@ module _ (combination : Combination) (base : Base) (loads : Loads) (bounded : Bo
   unfolding set-of
   set-low k = lt-of-lt-of-le (pick-low (stance-at combination loads) (loads .count) k) (pow-mono {j = 16} (bounded .count))
 
-  fits : (k : ℕ) → Fit (base .width) loads (set-of combination loads k) combination
+  fits : (k : ℕ) → Fit combination loads (set-of combination loads k)
   unfolding Fit set-of stance-at
   fits k = (
     pick-low (stance-at combination loads) (loads .count) k,

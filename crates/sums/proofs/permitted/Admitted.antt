@@ -2,7 +2,7 @@
 use mathlib.Core.Path.{_≡_, refl, sym, subst}
 use mathlib.Core.Logic.{inl, inr, ⊎-elim}
 use mathlib.Core.Bool.{Bool}
-use Prim.Native.Nat.{ℕ, zero, suc, _^_, _<_}
+use Prim.Native.Nat.{ℕ, zero, suc, _<_}
 use native.Mathlib.Omega.{arith}
 use native.Mathlib.Decide.{ℕ-discrete}
 use Rattle.arithmetic.proofs.Cases.{by-cases}
@@ -14,8 +14,8 @@ use Rattle.sets.specs.declared.Combination.the-variants.{I, II, III, IV}
 use Rattle.sets.specs.declared.Load.{Load}
 use Rattle.sets.specs.declared.Loads.{Loads}
 use Rattle.sets.specs.Sets.{bit, row, Has, Mixed, Permitted}
-use Rattle.sets.specs.steps.Deciding.{RowFits, Arises, Together, Admits}
-use Rattle.sets.proofs.Occasions.{arises-erected}
+use Rattle.sets.specs.steps.Deciding.{Arises, Together, Admits}
+use Rattle.sets.proofs.Permitting.{Fit, fits-permitted}
 use Rattle.sums.specs.Totals.{sum, counted}
 use Rattle.sums.specs.steps.Sums.{is-wind, is-earthquake, sums-of}
 use Rattle.sums.proofs.Adding.{winds-is, earthquakes-is}
@@ -126,28 +126,13 @@ module _ (width : ℕ) (loads : Loads) (set : ℕ) where
 
   -- What is left to decide of a set whose rows may stand in it, of a combination that is checked.
   module _ (combination : Combination) where
-    unfoldable pub Fit : Type 0
-    Fit = (set < 2 ^ loads .count) × ((i : ℕ) → i < loads .count → RowFits combination (row loads i) (bit set i))
-
-    pub admitted-permitted : Fit → Arises combination loads → Admits combination ((sums-of width loads set) .winds) ((sums-of width loads set) .earthquakes) set → Permitted combination loads set
-    unfolding Fit
-    admitted-permitted f o a =
-        record {
-          some = a .some;
-          within = f .0;
-          permanent = λ i h. f .1 i h .permanent;
-          acting = λ i h. f .1 i h .acting;
-          mixed = mixed-of combination (a .together);
-          erection = arises-erected loads combination o;
-        }
+    pub admitted-permitted : Fit combination loads set → Arises combination loads → Admits combination ((sums-of width loads set) .winds) ((sums-of width loads set) .earthquakes) set
+        → Permitted combination loads set
+    admitted-permitted f o a = fits-permitted combination loads set f o (a .some) (mixed-of combination (a .together))
 
     pub admitted : Permitted combination loads set → Admits combination ((sums-of width loads set) .winds) ((sums-of width loads set) .earthquakes) set
     admitted p = record { some = p .some; together = together-of combination (p .mixed) }
 
-    pub permitted-fits : Permitted combination loads set → Fit
-    unfolding Fit
-    permitted-fits p = (p .within, λ i h. record { acting = p .acting i h; permanent = p .permanent i h })
-
-    pub decides-permitted : (r : Bool) → Fit → Arises combination loads → Decides r (Admits combination ((sums-of width loads set) .winds) ((sums-of width loads set) .earthquakes) set)
+    pub decides-permitted : (r : Bool) → Fit combination loads set → Arises combination loads → Decides r (Admits combination ((sums-of width loads set) .winds) ((sums-of width loads set) .earthquakes) set)
         → Decides r (Permitted combination loads set)
     decides-permitted r f o d = decides-same r (admitted-permitted f o) admitted d

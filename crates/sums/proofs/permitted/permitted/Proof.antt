@@ -17,7 +17,8 @@ use Rattle.sets.specs.steps.Deciding.{Admits, Arises, RowFits}
 use Rattle.sets.specs.Sets.{Permitted, row, bit}
 use Rattle.sets.proofs.Bits.{bit-is, next-bits, no-rest, no-bits-left}
 use Rattle.sets.proofs.Occasions.{permitted-arises}
-use Rattle.sums.proofs.permitted.Admitted.{Fit, permitted-fits, decides-permitted}
+use Rattle.sets.proofs.Permitting.{Fit, permitted-fits}
+use Rattle.sums.proofs.permitted.Admitted.{decides-permitted}
 use Rattle.sums.proofs.permitted.permitted.Statement.{statement}
 use Rattle.sums.proofs.permitted.permitted.Tie as tie
 
@@ -31,18 +32,18 @@ module _ (combination : Combination) (loads : Loads) (set : ℕ) where
       decides-same (fits && next) (λ p. below-more _ _ (p .0) (p .1)) (λ f. (λ j h. f j (omega arith), f i (omega arith)))
       (decides-both (Fitting i) (RowFits combination (row loads i) (bit set i)) fits next d e)
 
-  all-rows : (i rest : ℕ) (fits : Bool) → i ≤ loads .count → loads .count ≤ i → rest ≡ set / 2 ^ i → Decides fits (Fitting i) → Decides (fits && eqb rest 0) (Fit 0 loads set combination)
+  all-rows : (i rest : ℕ) (fits : Bool) → i ≤ loads .count → loads .count ≤ i → rest ≡ set / 2 ^ i → Decides fits (Fitting i) → Decides (fits && eqb rest 0) (Fit combination loads set)
   unfolding Fit
   all-rows i rest fits l m e d =
       decides-same (fits && eqb rest 0) (λ p. (no-rest set (loads .count) i rest l m e (p .1), λ j h. p .0 j (omega arith)))
       (λ f. (λ j h. f .1 j (omega arith), no-bits-left set (loads .count) i rest l m e (f .0)))
       (decides-both (Fitting i) (rest ≡ 0) fits (eqb rest 0) d (decides-equal rest 0))
 
-  permitted-by : (fit arises admitted : Bool) → Decides fit (Fit 0 loads set combination) → Decides arises (Arises combination loads)
+  permitted-by : (fit arises admitted : Bool) → Decides fit (Fit combination loads set) → Decides arises (Arises combination loads)
       → Decides admitted (Admits combination (sums-of 0 loads set .winds) (sums-of 0 loads set .earthquakes) set) → Decides ((fit && arises) && admitted) (Permitted combination loads set)
   permitted-by true true admitted f o a = decides-permitted 0 loads set combination admitted f o a
   permitted-by true false admitted f n a = λ p. n (permitted-arises loads combination set p)
-  permitted-by false arises admitted n o a = λ p. n (permitted-fits 0 loads set combination p)
+  permitted-by false arises admitted n o a = λ p. n (permitted-fits combination loads set p)
 
 abbrev Inv-loop : tie.InvT-loop
 Inv-loop combination set loads fits₀ i₀ rest₀ fits i rest = (i ≤ loads .count) × (rest ≡ set / 2 ^ i) × Decides fits (Fitting combination loads set i)
