@@ -9,8 +9,9 @@ use fields::Entry;
 use kinds::Kind;
 use kinds::Numbers;
 use kinds::Row;
-use loads::LoadsAnswer;
-ghost use Prim.Native.Nat.{_≤_};
+use sets::Combination;
+use sets::Loads;
+ghost use Rattle.sets.specs.Sets.{Bounded};
 ghost use Rattle.checks.specs.Sized.{Sized};
 
 pub(crate) fn filled(size: u32) -> Entry {
@@ -72,25 +73,25 @@ fn example_base() -> Base
     }
 }
 
-// A figure of the set of one DL row on that base; 0 where the row is refused.
-fn figure_of_row(check: Check, numbers: Numbers) -> u64 {
+// The loads of one DL row; none where it is refused.
+fn loads_of_row(numbers: Numbers) -> Loads
+    ensures { λ r. ⌜ Bounded r ⌝ }
+{
     let row = Row {
         kind: Kind::DL,
         numbers,
     };
     let rows = [row; 16];
-    let taken = loads::loads_of(rows, 1);
-    let told = taken.answer;
-    let loads = taken.loads;
-    match told {
-        LoadsAnswer::OutOfRange | LoadsAnswer::NoCoefficient | LoadsAnswer::TooManyOptional => 0,
-        LoadsAnswer::Given => figure_number(checks::set_figures::figure_of(
-            check,
-            example_base(),
-            loads,
-            1,
-        )),
+    loads::loads_of(rows, 1).loads
+}
+
+// A figure of the set of one DL row on that base; 0 where I does not permit it.
+fn figure_of_row(check: Check, numbers: Numbers) -> u64 {
+    let loads = loads_of_row(numbers);
+    if !sums::permitted::permitted(Combination::I, loads, 1) {
+        return 0;
     }
+    figure_number(checks::set_figures::figure_of(check, example_base(), loads, 1))
 }
 
 fn overturning(agree: u64, y: u32, says: u64) -> u64 {
@@ -104,25 +105,17 @@ fn overturning(agree: u64, y: u32, says: u64) -> u64 {
     )
 }
 
-// PR on that base.
-fn pressed(n: u64, m: u64) -> u64
-    requires { ⌜ (n ≤ 1000) × (m ≤ 2000000) ⌝ }
-{
-    let rank = checks::ranks::press_rank(4000, 8000, n, m);
-    figure_number(checks::figure_at(Check::PR, rank))
+// PR on that base of a row of V, and of an H at 1,000 mm that makes M.
+fn pressed(agree: u64, words: &[u8], v: u32, h: u32, says: u64) -> u64 {
+    let numbers = row(v, 0, h, 1000);
+    let totals = sums::set_sums::totals_of(4000, loads_of_row(numbers), 1);
+    let came = figure_of_row(Check::PR, numbers);
+    crate::asked::figure(agree, words, totals.m.size, came, says)
 }
 
 // Earth pressure, OP and PR, figure by figure: how many agree.
 pub(crate) fn borne(agree: u64) -> u64 {
     let a = overturning(overturning(pushed(agree), 10_000, 200), 10_001, 199);
-    let past = pressed(1000, 2_000_000);
-    let b = crate::asked::figure(
-        a,
-        b"PR on B 4000, L 8000 of N 1000, M ",
-        2_000_000,
-        past,
-        84,
-    );
-    let either = pressed(900, 1_200_000);
-    crate::asked::figure(b, b"PR on the same of N 900, M ", 1_200_000, either, 57)
+    let b = pressed(a, b"PR on B 4000, L 8000 of N 1000, M ", 1000, 1000, 84);
+    pressed(b, b"PR on the same of N 900, M ", 900, 600, 57)
 }

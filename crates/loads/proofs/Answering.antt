@@ -18,7 +18,7 @@ use Rattle.loads.proofs.Loaded.{loads-one}
 use Rattle.loads.specs.declared.LoadsAnswer.{LoadsAnswer}
 use Rattle.loads.specs.declared.LoadsAnswer.the-variants.{OutOfRange, NoCoefficient, TooManyOptional, Given}
 use Rattle.loads.specs.declared.LoadsRead.{LoadsRead}
-use Rattle.loads.specs.Answer.{LoadsTold, given, loads-told, loads-told-by, LoadsSays, out-of-range, blank, too-many, loaded, row-count, Beside, LoadsAnswered}
+use Rattle.loads.specs.Answer.{LoadsTold, given, loads-told, loads-told-by, LoadsSays, out-of-range, blank, too-many, loaded, row-count, no-loads, Beside, LoadsAnswered}
 
 -- ---- the rows are told one answer
 module _ (fill : ℕ → ℕ → Coefficient) (rows : List Row) (n : ℕ) where
@@ -91,3 +91,18 @@ given-bounded fill small rows count taken a e =
       each = λ i h. let k : i < row-count count = subst (λ (m : ℕ). i < m) (w .1 .count) h in
           exerts-bounded fill small (load-row rows i) _ (w .0 i k) (w .1 .each i k);
     }
+
+-- whatever the answer, the loads that stand beside it are bounded
+pub beside-bounded : (fill : ℕ → ℕ → Coefficient) → ((soil slope : ℕ) → LowCoefficient (fill soil slope)) → (rows : List Row) (count : ℕ) (taken : LoadsRead) → LoadsAnswered fill rows count taken
+    → Bounded (taken .loads)
+unfolding Beside no-loads
+beside-bounded fill small rows count taken a = go (taken .answer) refl (a .beside)
+  where
+    none : taken .loads ≡ no-loads → Bounded (taken .loads)
+    none e = subst⁻¹ Bounded e (record { count = omega arith; each = λ i h. absurd (omega arith) })
+
+    go : (x : LoadsAnswer) → taken .answer ≡ x → Beside x (taken .loads) → Bounded (taken .loads)
+    go OutOfRange e b = none b
+    go NoCoefficient e b = none b
+    go TooManyOptional e b = none b
+    go Given e b = given-bounded fill small rows count taken a e
