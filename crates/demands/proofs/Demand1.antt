@@ -21,6 +21,7 @@ use Rattle.debtarush.specs.CallTold.{written, refused}
 use Rattle.debtarush.specs.Called.{Called, no-book, no-place, too-short, lines}
 use Rattle.debtarush.proofs.Texts.{text-one}
 use Rattle.debtarush.proofs.Answers.{called-one}
+use Rattle.debtarush.proofs.Telling.{call-told-one}
 use Rattle.demands.specs.Demand1.{Demand1}
 use Rattle.demands.proofs.Numbers.{book-numbers}
 use Rattle.demands.proofs.Wrote.{call-on-job, wrote}
@@ -53,6 +54,7 @@ module _ (fill : ℕ → ℕ → Coefficient) {b : List ℕ} {place : ℕ} {befo
 pub demand1 : (fill : ℕ → ℕ → Coefficient) → Demand1 fill
 demand1 fill = record {
   one = called-one;
+  told-one = call-told-one;
   book-first = λ c n row s. called-one c (no-book s refl refl) .1;
   then-place = λ c js p q. called-one c (no-place p q refl refl) .1;
   then-buffer = λ c js job text p r t l. called-one c (too-short p r t l refl refl) .1;

@@ -2,12 +2,9 @@
 use Prim.Native.Nat.{ℕ}
 use mathlib.Core.Path.{_≡_, refl, sym, ap, subst, _∙_}
 use mathlib.Core.List.{List, _++_}
-use lib.ListN.{take}
 use Rattle.arithmetic.proofs.Cases.{impossible}
 use Rattle.rows.specs.declared.keys.Key.{Key}
 use Rattle.jobs.specs.declared.Job.{Job}
-use Rattle.book.specs.JobBook.{Jobs, JobBook}
-use Rattle.book.specs.Values.{values}
 use Rattle.earth.specs.declared.table2.Coefficient.{Coefficient}
 use Rattle.csv.specs.notes.Notes.{Nth}
 use Rattle.sets.specs.declared.Combination.{Combination}
@@ -24,9 +21,8 @@ use Rattle.answer.specs.Rules.{Unrefused}
 use Rattle.answer.specs.Answer.{base-of}
 use Rattle.printing.specs.Text.{line-text, texts, text}
 use Rattle.printing.proofs.Injective.{line-injective, texts-injective}
-use Rattle.debtarush.specs.CallTold.{written}
-use Rattle.debtarush.specs.Called.{Called}
-use Rattle.demands.specs.Words.{StartsWith, Tells, LinesOf, Sound, NamesSet}
+use Rattle.printing.specs.Keys.{IsKey}
+use Rattle.demands.specs.Words.{CallWrote, StartsWith, Tells, LinesOf, Sound, NamesSet}
 use Rattle.demands.specs.Demand2.{Demand2}
 use Rattle.demands.proofs.Keys.{job-key}
 use Rattle.demands.proofs.Sound.{sound-accepted, accepted-sound}
@@ -40,68 +36,70 @@ verdict-same Accepted e = refl
 verdict-same NotAccepted e = let v : accepted ≡ not-accepted = ap (λ (l : PrintedLine). l .value) e in impossible cc
 verdict-same (Refused n) e = let v : accepted ≡ number n = ap (λ (l : PrintedLine). l .value) e in impossible cc
 
-module _ (fill : ℕ → ℕ → Coefficient) {b : List ℕ} {place : ℕ} {before after : List ℕ} {len : ℕ} (c : Called fill b place before after (written len))
-    (js : Jobs) (job : Job) (book : JobBook b js) (at : Nth (values js) place job) where
-  own : WroteJob fill job before after len
-  own = wrote (call-on-job book at c)
+module _ (fill : ℕ → ℕ → Coefficient) {job : Job} {bytes : List ℕ} (c : CallWrote fill job bytes) where
+  is-key : IsKey (job .key)
+  is-key = job-key (c .is-book) (c .at)
 
-  bytes-are : take len after ≡ texts (job .key) (lines-of (own .text .answer))
+  own : WroteJob fill job (c .before) (c .after) (c .len)
+  own = wrote (call-on-job (c .is-book) (c .at) (c .call))
+
+  bytes-are : bytes ≡ texts (job .key) (lines-of (own .text .answer))
   unfolding own text
-  bytes-are = own .first ∙ own .text .are
+  bytes-are = c .wrote ∙ own .first ∙ own .text .are
 
-  told : (lines : List PrintedLine) × Tells (take len after) (job .key) lines × LinesOf fill job lines
+  told : (lines : List PrintedLine) × Tells bytes (job .key) lines × LinesOf fill job lines
   unfolding own
   told = (
     lines-of (own .text .answer),
-    record { is-key = job-key book at; are = bytes-are },
+    record { is-key = is-key; are = bytes-are },
     record { answer = own .text .answer; is = own .text .is; are = refl },
   )
 
-  lines-same : (key : Key) (lines : List PrintedLine) → Tells (take len after) key lines → lines ≡ lines-of (own .text .answer)
-  lines-same key lines t = texts-injective (t .is-key) (job-key book at) lines _ (sym (t .are) ∙ bytes-are)
+  lines-same : (key : Key) (lines : List PrintedLine) → Tells bytes key lines → lines ≡ lines-of (own .text .answer)
+  lines-same key lines t = texts-injective (t .is-key) is-key lines _ (sym (t .are) ∙ bytes-are)
 
   laid : texts (job .key) (lines-of (own .text .answer)) ≡ line-text (job .key) (verdict-line (own .text .answer .verdict)) ++ texts (job .key) (unless-refused (own .text .answer .verdict) (later-lines (own .text .answer)))
   unfolding texts lines-of
   laid = refl
 
-  key-same : (key : Key) (lines : List PrintedLine) → Tells (take len after) key lines → key ≡ job .key
+  key-same : (key : Key) (lines : List PrintedLine) → Tells bytes key lines → key ≡ job .key
   unfolding texts lines-of
   key-same key lines t =
       let e = lines-same key lines t in
-      line-injective (t .is-key) (job-key book at) _ _ _ _ (ap (texts key) (sym e) ∙ sym (t .are) ∙ bytes-are) .0
+      line-injective (t .is-key) is-key _ _ _ _ (ap (texts key) (sym e) ∙ sym (t .are) ∙ bytes-are) .0
 
-  nothing-else : (key : Key) (lines : List PrintedLine) → Tells (take len after) key lines → (key ≡ job .key) × LinesOf fill job lines
+  nothing-else : (key : Key) (lines : List PrintedLine) → Tells bytes key lines → (key ≡ job .key) × LinesOf fill job lines
   unfolding own
   nothing-else key lines t = (key-same key lines t, record { answer = own .text .answer; is = own .text .is; are = lines-same key lines t })
 
-  accepted-bytes : StartsWith (line-text (job .key) (verdict-line Accepted)) (take len after) → Sound fill job
+  accepted-bytes : StartsWith (line-text (job .key) (verdict-line Accepted)) bytes → Sound fill job
   unfolding own
   accepted-bytes p =
-      let k = job-key book at in
-      let e = line-injective k k _ _ (p .rest) _ (sym (p .are) ∙ bytes-are ∙ laid) .1 in
+      let e = line-injective is-key is-key _ _ (p .rest) _ (sym (p .are) ∙ bytes-are ∙ laid) .1 in
       accepted-sound fill job (own .text .answer) (own .text .is) (verdict-same (own .text .answer .verdict) e)
 
-  accepts : Sound fill job → StartsWith (line-text (job .key) (verdict-line Accepted)) (take len after)
+  accepts : Sound fill job → StartsWith (line-text (job .key) (verdict-line Accepted)) bytes
   unfolding own
   accepts s =
       let v = sound-accepted fill job (own .text .answer) (own .text .is) s in
       record {
         rest = texts (job .key) (unless-refused (own .text .answer .verdict) (later-lines (own .text .answer)));
-        are = subst (λ (x : Verdict). take len after ≡ line-text (job .key) (verdict-line x) ++ texts (job .key) (unless-refused (own .text .answer .verdict) (later-lines (own .text .answer)))) v (bytes-are ∙ laid);
+        are = subst (λ (x : Verdict). bytes ≡ line-text (job .key) (verdict-line x) ++ texts (job .key) (unless-refused (own .text .answer .verdict) (later-lines (own .text .answer)))) v (bytes-are ∙ laid);
       }
 
-  named : (key : Key) (lines : List PrintedLine) → Tells (take len after) key lines
-      → (n : ℕ) (line : PrintedLine) (combination : Combination) (of : Check) → Nth lines n line → line .name ≡ check combination of → NamesSet fill job combination of line
+  named : (key : Key) (lines : List PrintedLine) → Tells bytes key lines → (n : ℕ) (line : PrintedLine) → Nth lines n line
+      → (combination : Combination) (of : Check) → line .name ≡ check combination of → NamesSet fill job combination of line
   unfolding own
-  named key lines t n line combination of r e = line-named fill job (own .text .is) (subst (λ (l : List PrintedLine). Nth l n line) (lines-same key lines t) r) e
+  named key lines t n line r combination of e = line-named fill job (own .text .is) (subst (λ (l : List PrintedLine). Nth l n line) (lines-same key lines t) r) e
 
-  shown : (key : Key) (lines : List PrintedLine) → Tells (take len after) key lines → (loads : Loads) (combination : Combination) (of : Check) (set : ℕ) → Unrefused fill job
-      → AreLoads fill (job .loads) (row-count (job .count)) loads → HasCheck combination of (base-of (job .base)) → Permitted combination loads set
+  shown : (key : Key) (lines : List PrintedLine) → Tells bytes key lines → Unrefused fill job → (loads : Loads) → AreLoads fill (job .loads) (row-count (job .count)) loads
+      → (combination : Combination) (of : Check) (set : ℕ) → HasCheck combination of (base-of (job .base)) → Permitted combination loads set
       → (n : ℕ) × (line : PrintedLine) × Nth lines n line × (line .name ≡ check combination of)
   unfolding own
-  shown key lines t loads combination of set u are h p =
+  shown key lines t u loads are combination of set h p =
       subst (λ (l : List PrintedLine). (n : ℕ) × (line : PrintedLine) × Nth l n line × (line .name ≡ check combination of)) (sym (lines-same key lines t))
       (line-shown fill job loads are (own .text .answer) combination of set (own .text .is) u h p)
 
 pub demand2 : (fill : ℕ → ℕ → Coefficient) → Demand2 fill
-demand2 fill = record { told = told fill; nothing-else = nothing-else fill; accepted = accepted-bytes fill; accepts = accepts fill; named = named fill; shown = shown fill }
+demand2 fill job bytes c =
+    record { told = told fill c; nothing-else = nothing-else fill c; accepted = accepted-bytes fill c; accepts = accepts fill c; named = named fill c; shown = shown fill c }

@@ -16,12 +16,15 @@ use Rattle.lines.specs.Lines.{verdict-line}
 use Rattle.answer.specs.Rules.{Refuses}
 use Rattle.printing.specs.Text.{line-text}
 use Rattle.debtarush.specs.Lines.{TextOf}
-use Rattle.debtarush.specs.CallTold.{CallTold, written, refused}
+use Rattle.debtarush.specs.declared.Written.{Written}
+use Rattle.debtarush.specs.CallTold.{CallTold, written, refused, call-told}
 use Rattle.debtarush.specs.Called.{Called}
 
 pub record Demand1 (fill : ℕ → ℕ → Coefficient) : Type 0 where
   -- one answer, and one state of the buffer
   pub one : {b : List ℕ} {place : ℕ} {before x y : List ℕ} {t u : CallTold} → Called fill b place before x t → Called fill b place before y u → (x ≡ y) × (t ≡ u)
+  -- and no two answers of `job_lines` are told alike
+  pub told-one : (a b : Written) → call-told a ≡ call-told b → a ≡ b
   -- first the book's refusal, whatever the place and the buffer
   pub book-first : {b : List ℕ} {place : ℕ} {before after : List ℕ} {t : CallTold} → Called fill b place before after t
       → (n row : ℕ) → book.BookSays b (book.refused n row) → t ≡ refused n row

@@ -1,12 +1,9 @@
--- Demand 2: each answer is the code's. It is said of the bytes that a call wrote, which are the first `len` of the buffer.
+-- Demand 2: each answer is the code's. It is said of the bytes that a call wrote for a job of a book.
 use Prim.Native.Nat.{ℕ}
 use mathlib.Core.Path.{_≡_}
 use mathlib.Core.List.{List}
-use lib.ListN.{take}
 use Rattle.rows.specs.declared.keys.Key.{Key}
 use Rattle.jobs.specs.declared.Job.{Job}
-use Rattle.book.specs.JobBook.{Jobs, JobBook}
-use Rattle.book.specs.Values.{values}
 use Rattle.earth.specs.declared.table2.Coefficient.{Coefficient}
 use Rattle.csv.specs.notes.Notes.{Nth}
 use Rattle.sets.specs.declared.Combination.{Combination}
@@ -21,29 +18,24 @@ use Rattle.lines.specs.Lines.{PrintedLine, check, verdict-line}
 use Rattle.answer.specs.Rules.{Unrefused}
 use Rattle.answer.specs.Answer.{base-of}
 use Rattle.printing.specs.Text.{line-text}
-use Rattle.debtarush.specs.CallTold.{written}
-use Rattle.debtarush.specs.Called.{Called}
-use Rattle.demands.specs.Words.{StartsWith, Tells, LinesOf, Sound, NamesSet}
+use Rattle.demands.specs.Words.{CallWrote, StartsWith, Tells, LinesOf, Sound, NamesSet}
 
-pub record Demand2 (fill : ℕ → ℕ → Coefficient) : Type 0 where
+-- what is demanded of the bytes that a call wrote for a job
+pub record CodeAnswer (fill : ℕ → ℕ → Coefficient) (job : Job) (bytes : List ℕ) : Type 0 where
   -- they are lines of the job's key: those of its answer
-  pub told : {b : List ℕ} {place : ℕ} {before after : List ℕ} {len : ℕ} → Called fill b place before after (written len)
-      → (js : Jobs) (job : Job) → JobBook b js → Nth (values js) place job → (lines : List PrintedLine) × Tells (take len after) (job .key) lines × LinesOf fill job lines
+  pub told : (lines : List PrintedLine) × Tells bytes (job .key) lines × LinesOf fill job lines
   -- and no other key or lines can be read from them
-  pub nothing-else : {b : List ℕ} {place : ℕ} {before after : List ℕ} {len : ℕ} → Called fill b place before after (written len)
-      → (js : Jobs) (job : Job) → JobBook b js → Nth (values js) place job → (key : Key) (lines : List PrintedLine) → Tells (take len after) key lines
-      → (key ≡ job .key) × LinesOf fill job lines
+  pub nothing-else : (key : Key) (lines : List PrintedLine) → Tells bytes key lines → (key ≡ job .key) × LinesOf fill job lines
   -- they begin with the key and VERDICT,A exactly if the job isn't refused and every check passes under every permitted set, and SC and CL pass
-  pub accepted : {b : List ℕ} {place : ℕ} {before after : List ℕ} {len : ℕ} → Called fill b place before after (written len)
-      → (js : Jobs) (job : Job) → JobBook b js → Nth (values js) place job → StartsWith (line-text (job .key) (verdict-line Accepted)) (take len after) → Sound fill job
-  pub accepts : {b : List ℕ} {place : ℕ} {before after : List ℕ} {len : ℕ} → Called fill b place before after (written len)
-      → (js : Jobs) (job : Job) → JobBook b js → Nth (values js) place job → Sound fill job → StartsWith (line-text (job .key) (verdict-line Accepted)) (take len after)
+  pub accepted : StartsWith (line-text (job .key) (verdict-line Accepted)) bytes → Sound fill job
+  pub accepts : Sound fill job → StartsWith (line-text (job .key) (verdict-line Accepted)) bytes
   -- each line of a check names a permitted set that reaches its figure, and no permitted set of its combination is worse
-  pub named : {b : List ℕ} {place : ℕ} {before after : List ℕ} {len : ℕ} → Called fill b place before after (written len)
-      → (js : Jobs) (job : Job) → JobBook b js → Nth (values js) place job → (key : Key) (lines : List PrintedLine) → Tells (take len after) key lines
-      → (n : ℕ) (line : PrintedLine) (combination : Combination) (of : Check) → Nth lines n line → line .name ≡ check combination of → NamesSet fill job combination of line
+  pub named : (key : Key) (lines : List PrintedLine) → Tells bytes key lines → (n : ℕ) (line : PrintedLine) → Nth lines n line
+      → (combination : Combination) (of : Check) → line .name ≡ check combination of → NamesSet fill job combination of line
   -- and no check that a combination has, and under which a set is permitted, is left out
-  pub shown : {b : List ℕ} {place : ℕ} {before after : List ℕ} {len : ℕ} → Called fill b place before after (written len)
-      → (js : Jobs) (job : Job) → JobBook b js → Nth (values js) place job → (key : Key) (lines : List PrintedLine) → Tells (take len after) key lines
-      → (loads : Loads) (combination : Combination) (of : Check) (set : ℕ) → Unrefused fill job → AreLoads fill (job .loads) (row-count (job .count)) loads
-      → HasCheck combination of (base-of (job .base)) → Permitted combination loads set → (n : ℕ) × (line : PrintedLine) × Nth lines n line × (line .name ≡ check combination of)
+  pub shown : (key : Key) (lines : List PrintedLine) → Tells bytes key lines → Unrefused fill job → (loads : Loads) → AreLoads fill (job .loads) (row-count (job .count)) loads
+      → (combination : Combination) (of : Check) (set : ℕ) → HasCheck combination of (base-of (job .base)) → Permitted combination loads set
+      → (n : ℕ) × (line : PrintedLine) × Nth lines n line × (line .name ≡ check combination of)
+
+abbrev pub Demand2 : (ℕ → ℕ → Coefficient) → Type 0
+Demand2 fill = (job : Job) (bytes : List ℕ) → CallWrote fill job bytes → CodeAnswer fill job bytes

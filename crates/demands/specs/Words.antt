@@ -3,10 +3,15 @@ use Prim.Native.Nat.{ℕ, _≤_}
 use mathlib.Core.Path.{_≡_}
 use mathlib.Core.Bool.{Bool, true}
 use mathlib.Core.List.{List, [], _∷_, _++_}
+use lib.ListN.{take}
 use Rattle.kinds.specs.ranges.Range.{value}
 use Rattle.rows.specs.declared.keys.Key.{Key}
 use Rattle.jobs.specs.declared.Job.{Job}
-use Rattle.book.specs.JobBook.{WrittenJob, Jobs, none, _and_}
+use Rattle.book.specs.JobBook.{WrittenJob, Jobs, none, _and_, JobBook}
+use Rattle.book.specs.Values.{values}
+use Rattle.csv.specs.notes.Notes.{Nth}
+use Rattle.debtarush.specs.CallTold.{written}
+use Rattle.debtarush.specs.Called.{Called}
 use Rattle.scour.specs.Scour as scour
 use Rattle.arithmetic.specs.signed.Whole.{signed}
 use Rattle.clearance.specs.ClearanceTold.{given}
@@ -35,6 +40,19 @@ use Rattle.printing.specs.Keys.{IsKey}
 use Rattle.printing.specs.Text.{texts}
 
 -- ---- what bytes say
+
+-- a call wrote these bytes for this job of a book: they are the first so many of the buffer
+pub record CallWrote (fill : ℕ → ℕ → Coefficient) (job : Job) (bytes : List ℕ) : Type 0 where
+  pub book : List ℕ
+  pub jobs : Jobs
+  pub is-book : JobBook book jobs
+  pub place : ℕ
+  pub at : Nth (values jobs) place job
+  pub before : List ℕ
+  pub after : List ℕ
+  pub len : ℕ
+  pub call : Called fill book place before after (written len)
+  pub wrote : bytes ≡ take len after
 
 pub record StartsWith (front bytes : List ℕ) : Type 0 where
   pub rest : List ℕ
