@@ -14,7 +14,7 @@ use Rattle.sets.specs.declared.Combination.{Combination}
 use Rattle.sets.specs.declared.Loads.{Loads}
 use Rattle.sets.specs.Sets.{Permitted}
 use Rattle.checks.specs.declared.Check.{Check}
-use Rattle.checks.specs.service.Service.{HasCheck}
+use Rattle.checks.specs.limits.Limits.{Limit}
 use Rattle.loads.specs.LoadRows.{AreLoads}
 use Rattle.loads.specs.Answer.{row-count}
 use Rattle.lines.specs.declared.Verdict.{Verdict}
@@ -96,12 +96,12 @@ module _ (fill : ℕ → ℕ → Coefficient) {b : List ℕ} {place : ℕ} {befo
   named key lines t n line combination of r e = line-named fill job (own .text .is) (subst (λ (l : List PrintedLine). Nth l n line) (lines-same key lines t) r) e
 
   shown : (key : Key) (lines : List PrintedLine) → Tells (take len after) key lines → (loads : Loads) (combination : Combination) (of : Check) (set : ℕ) → Unrefused fill job
-      → AreLoads fill (job .loads) (row-count (job .count)) loads → HasCheck combination of (base-of (job .base)) → Permitted combination loads set
+      → AreLoads fill (job .loads) (row-count (job .count)) loads → (limit : ℕ) → Limit combination of (base-of (job .base)) limit → Permitted combination loads set
       → (n : ℕ) × (line : PrintedLine) × Nth lines n line × (line .name ≡ check combination of)
   unfolding own
-  shown key lines t loads combination of set u are h p =
+  shown key lines t loads combination of set u are limit h p =
       subst (λ (l : List PrintedLine). (n : ℕ) × (line : PrintedLine) × Nth l n line × (line .name ≡ check combination of)) (sym (lines-same key lines t))
-      (line-shown fill job loads are (own .text .answer) combination of set (own .text .is) u h p)
+      (line-shown fill job loads are (own .text .answer) combination of set (own .text .is) u limit h p)
 
 pub demand2 : (fill : ℕ → ℕ → Coefficient) → Demand2 fill
 demand2 fill = record { told = told fill; nothing-else = nothing-else fill; accepted = accepted-bytes fill; accepts = accepts fill; named = named fill; shown = shown fill }

@@ -13,7 +13,7 @@ use Rattle.sets.specs.declared.Combination.{Combination}
 use Rattle.sets.specs.declared.Loads.{Loads}
 use Rattle.sets.specs.Sets.{Permitted}
 use Rattle.checks.specs.declared.Check.{Check}
-use Rattle.checks.specs.service.Service.{HasCheck}
+use Rattle.checks.specs.limits.Limits.{Limit}
 use Rattle.loads.specs.LoadRows.{AreLoads}
 use Rattle.loads.specs.Answer.{row-count}
 use Rattle.lines.specs.declared.Verdict.the-variants.{Accepted}
@@ -42,8 +42,8 @@ pub record Demand2 (fill : ℕ → ℕ → Coefficient) : Type 0 where
   pub named : {b : List ℕ} {place : ℕ} {before after : List ℕ} {len : ℕ} → Called fill b place before after (written len)
       → (js : Jobs) (job : Job) → JobBook b js → Nth (values js) place job → (key : Key) (lines : List PrintedLine) → Tells (take len after) key lines
       → (n : ℕ) (line : PrintedLine) (combination : Combination) (of : Check) → Nth lines n line → line .name ≡ check combination of → NamesSet fill job combination of line
-  -- and no check that a combination has, and under which a set is permitted, is left out
+  -- and no check that a combination has a limit for, and under which a set is permitted, is left out
   pub shown : {b : List ℕ} {place : ℕ} {before after : List ℕ} {len : ℕ} → Called fill b place before after (written len)
       → (js : Jobs) (job : Job) → JobBook b js → Nth (values js) place job → (key : Key) (lines : List PrintedLine) → Tells (take len after) key lines
       → (loads : Loads) (combination : Combination) (of : Check) (set : ℕ) → Unrefused fill job → AreLoads fill (job .loads) (row-count (job .count)) loads
-      → HasCheck combination of (base-of (job .base)) → Permitted combination loads set → (n : ℕ) × (line : PrintedLine) × Nth lines n line × (line .name ≡ check combination of)
+      → (limit : ℕ) → Limit combination of (base-of (job .base)) limit → Permitted combination loads set → (n : ℕ) × (line : PrintedLine) × Nth lines n line × (line .name ≡ check combination of)
