@@ -4,7 +4,7 @@ use crate::Base;
 use crate::Check;
 use sets::Combination;
 ghost use Prim.Native.Nat.{_≤_};
-ghost use Rattle.checks.specs.service.Service.{HasCheck};
+ghost use Rattle.checks.specs.steps.HasCheck.{HasCheck};
 ghost use Rattle.checks.specs.limits.Limits.{Limit};
 
 // The limit of RK, in thousandths of the base: N falls within its middle half (002, 6.5.3 note).

@@ -8,21 +8,15 @@ use Rattle.jobs.specs.declared.Job.{Job}
 use Rattle.earth.specs.declared.table2.Coefficient.{Coefficient}
 use Rattle.csv.specs.notes.Notes.{Nth}
 use Rattle.sets.specs.declared.Combination.{Combination}
-use Rattle.sets.specs.declared.Loads.{Loads}
-use Rattle.sets.specs.Sets.{Permitted}
 use Rattle.checks.specs.declared.Check.{Check}
-use Rattle.checks.specs.service.Service.{HasCheck}
-use Rattle.loads.specs.LoadRows.{AreLoads}
-use Rattle.loads.specs.Answer.{row-count}
 use Rattle.lines.specs.declared.Verdict.{Verdict}
 use Rattle.lines.specs.declared.Verdict.the-variants.{Accepted, NotAccepted, Refused}
 use Rattle.lines.specs.Lines.{PrintedLine, check, accepted, not-accepted, number, verdict-value, verdict-line, unless-refused, later-lines, lines-of}
 use Rattle.answer.specs.Rules.{Unrefused}
-use Rattle.answer.specs.Answer.{base-of}
 use Rattle.printing.specs.Text.{line-text, texts, text}
 use Rattle.printing.proofs.Injective.{line-injective, texts-injective}
 use Rattle.printing.specs.Keys.{IsKey}
-use Rattle.demands.specs.Words.{CallWrote, StartsWith, Tells, LinesOf, Sound, NamesSet}
+use Rattle.demands.specs.Words.{CallWrote, StartsWith, Tells, LinesOf, Sound, NamesSet, Checked, HasLine}
 use Rattle.demands.specs.Demand2.{Demand2}
 use Rattle.demands.proofs.Keys.{job-key}
 use Rattle.demands.proofs.Sound.{sound-accepted, accepted-sound}
@@ -92,13 +86,13 @@ module _ (fill : ℕ → ℕ → Coefficient) {job : Job} {bytes : List ℕ} (c 
   unfolding own
   named key lines t n line r combination of e = line-named fill job (own .text .is) (subst (λ (l : List PrintedLine). Nth l n line) (lines-same key lines t) r) e
 
-  shown : (key : Key) (lines : List PrintedLine) → Tells bytes key lines → Unrefused fill job → (loads : Loads) → AreLoads fill (job .loads) (row-count (job .count)) loads
-      → (combination : Combination) (of : Check) (set : ℕ) → HasCheck combination of (base-of (job .base)) → Permitted combination loads set
-      → (n : ℕ) × (line : PrintedLine) × Nth lines n line × (line .name ≡ check combination of)
+  shown : (key : Key) (lines : List PrintedLine) → Tells bytes key lines → Unrefused fill job
+      → (combination : Combination) (of : Check) → Checked fill job combination of → HasLine lines combination of
   unfolding own
-  shown key lines t u loads are combination of set h p =
-      subst (λ (l : List PrintedLine). (n : ℕ) × (line : PrintedLine) × Nth l n line × (line .name ≡ check combination of)) (sym (lines-same key lines t))
-      (line-shown fill job loads are (own .text .answer) combination of set (own .text .is) u h p)
+  shown key lines t u combination of h =
+      subst (λ (l : List PrintedLine). HasLine l combination of) (sym (lines-same key lines t))
+      (let w = line-shown fill job (h .loads) (h .are) (own .text .answer) combination of (h .set) (own .text .is) u (h .limit) (h .limited) (h .permitted) in
+      record { place = w .0; line = w .1; at = w .2; is = w .3 })
 
 pub demand2 : (fill : ℕ → ℕ → Coefficient) → Demand2 fill
 demand2 fill job bytes c =

@@ -14,7 +14,7 @@ use Rattle.checks.specs.declared.Check.the-variants.{OP, OM, SL, PR, RK}
 use Rattle.lines.specs.declared.Line.{Line}
 use Rattle.lines.specs.declared.Line.the-variants.{Missing, Shown}
 use Rattle.lines.specs.declared.Lines.{Lines}
-use Rattle.checks.specs.service.Service.{HasCheck}
+use Rattle.checks.specs.limits.Limits.{Limit}
 use Rattle.worst.specs.Lines as worst
 use Rattle.loads.specs.LoadRows.{AreLoads}
 use Rattle.loads.specs.Answer.{row-count}
@@ -103,13 +103,13 @@ IsOf : Combination → Check → PrintedLine → Type 0
 IsOf combination of l = l .name ≡ check combination of
 
 module _ (fill : ℕ → ℕ → Coefficient) (job : Job) (loads : Loads) (are : AreLoads fill (job .loads) (row-count (job .count)) loads) where
-  module _ (c : Combination) (set : ℕ) (permitted : Permitted c loads set) where
-    check-shown : (k : Check) (l : Line) → worst.LineSays c k (base-of (job .base)) loads l → HasCheck c k (base-of (job .base)) → all.Some (IsOf c k) (check-line c k l)
+  module _ (c : Combination) (set limit : ℕ) (permitted : Permitted c loads set) where
+    check-shown : (k : Check) (l : Line) → worst.LineSays c k (base-of (job .base)) loads l → Limit c k (base-of (job .base)) limit → all.Some (IsOf c k) (check-line c k l)
     unfolding IsOf check-line worst.LineSays
-    check-shown k Missing p h = absurd (p h set permitted)
+    check-shown k Missing p h = absurd (p limit h set permitted)
     check-shown k (Shown figure limit s passes) p h = all.here refl
 
-    lines-shown : (k : Check) (l : Lines) → LinesAre c (base-of (job .base)) loads l → HasCheck c k (base-of (job .base)) → all.Some (IsOf c k) (combination-lines c l)
+    lines-shown : (k : Check) (l : Lines) → LinesAre c (base-of (job .base)) loads l → Limit c k (base-of (job .base)) limit → all.Some (IsOf c k) (combination-lines c l)
     unfolding combination-lines worst.line
     lines-shown OP l p h = all.some-front _ (check-shown OP (l .op) (p OP) h)
     lines-shown OM l p h = all.some-behind (check-line c OP (l .op)) (all.some-front _ (check-shown OM (l .om) (p OM) h))
@@ -122,19 +122,19 @@ module _ (fill : ℕ → ℕ → Coefficient) (job : Job) (loads : Loads) (are :
         (all.some-behind (check-line c OM (l .om))
         (all.some-behind (check-line c SL (l .sl)) (all.some-behind (check-line c PR (l .pr)) (check-shown RK (l .rk) (p RK) h))))
 
-  later-shown : (c : Combination) (k : Check) (set : ℕ) → Permitted c loads set → HasCheck c k (base-of (job .base)) → (a : Answer) (g : LinesGiven fill job a) → g .loads ≡ loads → all.Some (IsOf c k) (later-lines a)
+  later-shown : (c : Combination) (k : Check) (set limit : ℕ) → Permitted c loads set → Limit c k (base-of (job .base)) limit → (a : Answer) (g : LinesGiven fill job a) → g .loads ≡ loads → all.Some (IsOf c k) (later-lines a)
   unfolding later-lines
-  later-shown I k set p h a g e = all.some-front _ (lines-shown I set p k (a .one) (subst (λ (l : Loads). LinesAre I (base-of (job .base)) l (a .one)) e (g .one)) h)
-  later-shown II k set p h a g e =
-      all.some-behind (combination-lines I (a .one)) (all.some-front _ (lines-shown II set p k (a .two) (subst (λ (l : Loads). LinesAre II (base-of (job .base)) l (a .two)) e (g .two)) h))
-  later-shown III k set p h a g e =
+  later-shown I k set limit p h a g e = all.some-front _ (lines-shown I set limit p k (a .one) (subst (λ (l : Loads). LinesAre I (base-of (job .base)) l (a .one)) e (g .one)) h)
+  later-shown II k set limit p h a g e =
+      all.some-behind (combination-lines I (a .one)) (all.some-front _ (lines-shown II set limit p k (a .two) (subst (λ (l : Loads). LinesAre II (base-of (job .base)) l (a .two)) e (g .two)) h))
+  later-shown III k set limit p h a g e =
       all.some-behind (combination-lines I (a .one))
-      (all.some-behind (combination-lines II (a .two)) (all.some-front _ (lines-shown III set p k (a .three) (subst (λ (l : Loads). LinesAre III (base-of (job .base)) l (a .three)) e (g .three)) h)))
-  later-shown IV k set p h a g e =
+      (all.some-behind (combination-lines II (a .two)) (all.some-front _ (lines-shown III set limit p k (a .three) (subst (λ (l : Loads). LinesAre III (base-of (job .base)) l (a .three)) e (g .three)) h)))
+  later-shown IV k set limit p h a g e =
       all.some-behind (combination-lines I (a .one))
       (all.some-behind (combination-lines II (a .two))
       (all.some-behind (combination-lines III (a .three))
-      (all.some-front _ (lines-shown IV set p k (a .four) (subst (λ (l : Loads). LinesAre IV (base-of (job .base)) l (a .four)) e (g .four)) h))))
+      (all.some-front _ (lines-shown IV set limit p k (a .four) (subst (λ (l : Loads). LinesAre IV (base-of (job .base)) l (a .four)) e (g .four)) h))))
 
   unless-shown : (v : Verdict) (a : Answer) (c : Combination) (k : Check) {later : List PrintedLine} → VerdictIs v a → all.Some (IsOf c k) later → all.Some (IsOf c k) (unless-refused v later)
   unfolding unless-refused
@@ -142,10 +142,10 @@ module _ (fill : ℕ → ℕ → Coefficient) (job : Job) (loads : Loads) (are :
   unless-shown NotAccepted a c k p s = s
   unless-shown (Refused n) a c k p s = absurd p
 
-  pub line-shown : (a : Answer) (c : Combination) (k : Check) (set : ℕ) → AnswerIs fill job a → Unrefused fill job → HasCheck c k (base-of (job .base)) → Permitted c loads set
+  pub line-shown : (a : Answer) (c : Combination) (k : Check) (set : ℕ) → AnswerIs fill job a → Unrefused fill job → (limit : ℕ) → Limit c k (base-of (job .base)) limit → Permitted c loads set
       → (n : ℕ) × (l : PrintedLine) × Nth (lines-of a) n l × (l .name ≡ check c k)
   unfolding lines-of IsOf
-  line-shown a c k set (refused {n} p e) u h s = absurd (u n (p .holds))
-  line-shown a c k set (answered g) u h s =
+  line-shown a c k set (refused {n} p e) u limit h s = absurd (u n (p .holds))
+  line-shown a c k set (answered g) u limit h s =
       let e = loads-one fill (job .loads) (row-count (job .count)) (g .loads) loads (g .are) are in
-      all.some-at (all.later (unless-shown (a .verdict) a c k (g .verdict) (later-shown c k set s h a g e)))
+      all.some-at (all.later (unless-shown (a .verdict) a c k (g .verdict) (later-shown c k set limit s h a g e)))

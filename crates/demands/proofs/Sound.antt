@@ -18,11 +18,10 @@ use Rattle.checks.specs.declared.Check.the-variants.{OP, OM, SL, PR, RK}
 use Rattle.checks.specs.declared.Figure.{Figure}
 use Rattle.checks.specs.set_figures.Figures.{Shows}
 use Rattle.checks.specs.Order.{side}
-use Rattle.checks.specs.limits.Limits.{Limit, TippingLimit, SlidingLimit}
+use Rattle.checks.specs.limits.Limits.{Limit}
 use Rattle.lines.specs.declared.Line.{Line}
 use Rattle.lines.specs.declared.Line.the-variants.{Missing, Shown}
 use Rattle.lines.specs.declared.Lines.{Lines}
-use Rattle.checks.specs.service.Service.{HasCheck, Service}
 use Rattle.checks.specs.passing.Passing.{Passes}
 use Rattle.checks.proofs.limits.Limiting.{limit-one}
 use Rattle.worst.specs.Lines as worst
@@ -41,27 +40,6 @@ use Rattle.lines.specs.verdicts.Verdict.{LineYes, LinesYes, RiverYes, AllYes, V
 use Rattle.answer.specs.Answer.{base-of, LinesAre, LinesGiven, AnswerIs, refused, answered}
 use Rattle.demands.specs.Words.{Bears, Deep, Clear, Sound}
 
--- a combination that has a limit for a check has the check
-has-limit : (combination : Combination) (check : Check) (base : Base) (limit : ℕ) → Limit combination check base limit → HasCheck combination check base
-unfolding Limit TippingLimit SlidingLimit HasCheck Service
-has-limit I OP base limit h = tt
-has-limit II OP base limit h = tt
-has-limit III OP base limit h = tt
-has-limit I OM base limit h = tt
-has-limit II OM base limit h = tt
-has-limit III OM base limit h = tt
-has-limit I SL base limit h = tt
-has-limit II SL base limit h = tt
-has-limit III SL base limit h = tt
-has-limit I PR base limit h = tt
-has-limit II PR base limit h = tt
-has-limit III PR base limit h = tt
-has-limit IV PR base limit h = tt
-has-limit I RK base limit h = h .0
-has-limit II RK base limit h = h .0
-has-limit III RK base limit h = h .0
-has-limit IV RK base limit h = h .0
-
 -- every permitted set of one combination passes one check
 AllPass : Combination → Check → Base → Loads → Type 0
 AllPass combination check base loads =
@@ -70,7 +48,7 @@ AllPass combination check base loads =
 module _ (combination : Combination) (base : Base) (loads : Loads) where
   line-holds : (check : Check) (l : Line) → worst.LineSays combination check base loads l → LineYes l → AllPass combination check base loads
   unfolding worst.LineSays AllPass
-  line-holds check Missing p y limit h set figure a b = absurd (p (has-limit combination check base limit h) set a)
+  line-holds check Missing p y limit h set figure a b = absurd (p limit h set a)
   line-holds check (Shown v n s passes) p y limit h set figure a b =
       let d = decided passes y (worst-decides combination check base loads v n s passes p) set figure a b in
       subst (λ (m : ℕ). Passes (side check) m figure) (limit-one combination check base n limit (p .limited) h) d

@@ -7,18 +7,12 @@ use Rattle.jobs.specs.declared.Job.{Job}
 use Rattle.earth.specs.declared.table2.Coefficient.{Coefficient}
 use Rattle.csv.specs.notes.Notes.{Nth}
 use Rattle.sets.specs.declared.Combination.{Combination}
-use Rattle.sets.specs.declared.Loads.{Loads}
-use Rattle.sets.specs.Sets.{Permitted}
 use Rattle.checks.specs.declared.Check.{Check}
-use Rattle.checks.specs.service.Service.{HasCheck}
-use Rattle.loads.specs.LoadRows.{AreLoads}
-use Rattle.loads.specs.Answer.{row-count}
 use Rattle.lines.specs.declared.Verdict.the-variants.{Accepted}
 use Rattle.lines.specs.Lines.{PrintedLine, check, verdict-line}
 use Rattle.answer.specs.Rules.{Unrefused}
-use Rattle.answer.specs.Answer.{base-of}
 use Rattle.printing.specs.Text.{line-text}
-use Rattle.demands.specs.Words.{CallWrote, StartsWith, Tells, LinesOf, Sound, NamesSet}
+use Rattle.demands.specs.Words.{CallWrote, StartsWith, Tells, LinesOf, Sound, NamesSet, Checked, HasLine}
 
 -- what is demanded of the bytes that a call wrote for a job
 pub record CodeAnswer (fill : ℕ → ℕ → Coefficient) (job : Job) (bytes : List ℕ) : Type 0 where
@@ -33,9 +27,8 @@ pub record CodeAnswer (fill : ℕ → ℕ → Coefficient) (job : Job) (bytes : 
   pub named : (key : Key) (lines : List PrintedLine) → Tells bytes key lines → (n : ℕ) (line : PrintedLine) → Nth lines n line
       → (combination : Combination) (of : Check) → line .name ≡ check combination of → NamesSet fill job combination of line
   -- and no check that a combination has, and under which a set is permitted, is left out
-  pub shown : (key : Key) (lines : List PrintedLine) → Tells bytes key lines → Unrefused fill job → (loads : Loads) → AreLoads fill (job .loads) (row-count (job .count)) loads
-      → (combination : Combination) (of : Check) (set : ℕ) → HasCheck combination of (base-of (job .base)) → Permitted combination loads set
-      → (n : ℕ) × (line : PrintedLine) × Nth lines n line × (line .name ≡ check combination of)
+  pub shown : (key : Key) (lines : List PrintedLine) → Tells bytes key lines → Unrefused fill job
+      → (combination : Combination) (of : Check) → Checked fill job combination of → HasLine lines combination of
 
 abbrev pub Demand2 : (ℕ → ℕ → Coefficient) → Type 0
 Demand2 fill = (job : Job) (bytes : List ℕ) → CallWrote fill job bytes → CodeAnswer fill job bytes

@@ -113,6 +113,22 @@ pub record NamesSet (fill : ℕ → ℕ → Coefficient) (job : Job) (combinatio
   pub printed : Printed combination of (base-of (job .base)) loads figure limit set passes
   pub is : line ≡ record { name = check combination of; value = value-of figure; limit = holds limit; set = holds set; mark = mark-of passes }
 
+-- the combination has the check, by its limit, and permits a set of the job's loads
+pub record Checked (fill : ℕ → ℕ → Coefficient) (job : Job) (combination : Combination) (of : Check) : Type 0 where
+  pub loads : Loads
+  pub are : AreLoads fill (job .loads) (row-count (job .count)) loads
+  pub limit : ℕ
+  pub limited : Limit combination of (base-of (job .base)) limit
+  pub set : ℕ
+  pub permitted : Permitted combination loads set
+
+-- one of the lines is that of the check in the combination
+pub record HasLine (lines : List PrintedLine) (combination : Combination) (of : Check) : Type 0 where
+  pub place : ℕ
+  pub line : PrintedLine
+  pub at : Nth lines place line
+  pub is : line .name ≡ check combination of
+
 -- ---- the jobs of a book, as it writes them
 
 abbrev pub listed : Jobs → List WrittenJob

@@ -30,20 +30,21 @@ is-on : (on : Bool) → Dec (on ≡ true)
 is-on true = yes refl
 is-on false = no (λ e. true≢false (sym e))
 
-weighed : (serves : Bool) (base : Base) (check : Check) → Dec (Weighed serves base check)
+-- whether a check is weighed is decided
+pub weighed-or-not : (serves : Bool) (base : Base) (check : Check) → Dec (Weighed serves base check)
 unfolding Weighed
-weighed serves base OP = is-on serves
-weighed serves base OM = is-on serves
-weighed serves base SL = is-on serves
-weighed serves base PR = yes tt
-weighed serves base RK = is-on (base .rock)
+weighed-or-not serves base OP = is-on serves
+weighed-or-not serves base OM = is-on serves
+weighed-or-not serves base SL = is-on serves
+weighed-or-not serves base PR = yes tt
+weighed-or-not serves base RK = is-on (base .rock)
 
 -- No second answer meets the promise of `weigh`.
 module _ (serves : Bool) (base : Base) (sums : Sums) {b r t : Worst} (low : Low b) (few : sums .set < 65536) (x : Weighs serves base sums b r) (y : Weighs serves base sums b t) where
   ranked-one : (check : Check) → ranked-of check r ≡ ranked-of check t
   unfolding Low
   ranked-one check =
-      by-cases (weighed serves base check)
+      by-cases (weighed-or-not serves base check)
       (λ o. offered-one (by-sums-one check base sums) (low check) few (x .offered check o) (y .offered check o))
       (λ n. x .left check n ∙ sym (y .left check n))
 

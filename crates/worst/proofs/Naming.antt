@@ -26,8 +26,8 @@ module _ (combination : Combination) (check : Check) (base : Base) (loads : Load
   pub line-says-one : (a b : Line) → LineSays combination check base loads a → LineSays combination check base loads b → a ≡ b
   unfolding LineSays
   line-says-one Missing Missing p q = refl
-  line-says-one Missing (Shown v l s y) p q = absurd (p (q .has) s (q .named .permitted))
-  line-says-one (Shown v l s y) Missing p q = absurd (q (p .has) s (p .named .permitted))
+  line-says-one Missing (Shown v l s y) p q = absurd (p l (q .limited) s (q .named .permitted))
+  line-says-one (Shown v l s y) Missing p q = absurd (q l (p .limited) s (p .named .permitted))
   line-says-one (Shown v l s y) (Shown w m t z) p q =
       λ i. Shown (named-figure (p .named) (q .named) i) (limit-one combination check base l m (p .limited) (q .limited) i) (named-set (p .named) (q .named) i) (passing i)
     where

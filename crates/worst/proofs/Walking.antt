@@ -8,7 +8,7 @@ use native.Mathlib.Nat.{lt-of-lt-of-le}
 use native.Mathlib.Decide.{decLt}
 use lib.Pow.{pow-mono}
 use Rattle.arithmetic.proofs.Cases.{by-cases}
-use Rattle.arithmetic.specs.decides.Decides.{Decides, decided, not-both}
+use Rattle.arithmetic.specs.decides.Decides.{Decides, decided}
 use Rattle.sets.specs.declared.Combination.{Combination}
 use Rattle.sets.specs.declared.Loads.{Loads}
 use Rattle.sums.specs.declared.Sums.{Sums}
@@ -24,7 +24,10 @@ use Rattle.checks.specs.declared.Figure.{Figure}
 use Rattle.checks.specs.set_figures.Figures.{Shows}
 use Rattle.checks.specs.steps.BySums.{ShowsBySums}
 use Rattle.checks.specs.Order.{side}
-use Rattle.checks.specs.service.Service.{Service, HasCheck}
+use Rattle.checks.specs.limits.Limits.{Limit}
+use Rattle.checks.specs.service.Service.{Service}
+use Rattle.checks.specs.steps.HasCheck.{HasCheck}
+use Rattle.checks.proofs.limits.Limiting.{serves-sliding, sliding-serves, pressure-limited}
 use Rattle.checks.proofs.Ranking.{ranks-map}
 use Rattle.checks.proofs.set_figures.Showing.{by-sums-shows, shows-one}
 use Rattle.weighing.specs.declared.Worst.{Worst}
@@ -36,6 +39,7 @@ use Rattle.weighing.specs.steps.Weighs.{ranked-of, Weighed, Weighs, Visits}
 use Rattle.worst.specs.steps.Terms.{terms-at}
 use Rattle.worst.specs.steps.TermTable.{TableIs}
 use Rattle.worst.specs.steps.Search.{Walked}
+use Rattle.weighing.proofs.Weighing.{weighed-or-not}
 use Rattle.weighing.proofs.Searching.{Extends, nothing-yet, offer, skip, ends-named, ends-empty}
 use Rattle.worst.proofs.choices.Choices.{pick-low, pick-bit, KeepsStances, Made, made, sums-number, Tabled, pick-sums}
 use Rattle.worst.proofs.choices.Rows.{stance-says, held-never, held-always, stance-fits}
@@ -52,19 +56,6 @@ GoneThrough combination loads n t = (k : ℕ) × (k < n) × (t ≡ set-of combin
 pub record SoFar (combination : Combination) (base : Base) (loads : Loads) (serves : Bool) (n : ℕ) (none : RankedSet) (worst : Worst) : Type 0 where
   pub weighed : (check : Check) → Weighed serves base check → Extends (side check) (Permitted combination loads) (Shows check base loads) (GoneThrough combination loads n) none (ranked-of check worst)
   pub only : (check : Check) → ((ranked-of check worst) .set ≡ 0 → ⊥) → Weighed serves base check
-
--- whether a check is weighed is decided
-is-true : (b : Bool) → Dec (b ≡ true)
-is-true true = yes refl
-is-true false = no (λ e. not-both e refl)
-
-weighed-or-not : (serves : Bool) (base : Base) (check : Check) → Dec (Weighed serves base check)
-unfolding Weighed
-weighed-or-not serves base OP = is-true serves
-weighed-or-not serves base OM = is-true serves
-weighed-or-not serves base SL = is-true serves
-weighed-or-not serves base PR = yes tt
-weighed-or-not serves base RK = is-true (base .rock)
 
 module _ (combination : Combination) (base : Base) (loads : Loads) (bounded : Bounded loads) (arises : Arises combination loads) where
   pub set-low : (k : ℕ) → set-of combination loads k < 65536
@@ -147,7 +138,7 @@ module _ (combination : Combination) (base : Base) (loads : Loads) (bounded : Bo
 
   pub all-found : (serves : Bool) (n : ℕ) (none : RankedSet) (worst : Worst) → n ≡ 2 ^ choosable (stance-at combination loads) (loads .count) → none .set ≡ 0 → none .rank ≡ 2 ^ 64 - 1
       → Decides serves (Service combination) → SoFar combination base loads serves n none worst → Walked combination base loads worst
-  unfolding Weighed HasCheck
+  unfolding Weighed HasCheck Limit Service
   all-found serves n none worst e z l d so =
       record {
         has = λ check found. had check (so .only check found);
@@ -160,9 +151,9 @@ module _ (combination : Combination) (base : Base) (loads : Loads) (bounded : Bo
       had : (check : Check) → Weighed serves base check → HasCheck combination check base
       had OP h = decided serves h d
       had OM h = decided serves h d
-      had SL h = decided serves h d
-      had PR h = tt
-      had RK h = h
+      had SL h = serves-sliding combination (decided serves h d)
+      had PR h = pressure-limited combination (base .allowable)
+      had RK h = (250, (h, refl))
 
       serving : (serves : Bool) → Decides serves (Service combination) → Service combination → serves ≡ true
       serving true d s = refl
@@ -171,9 +162,9 @@ module _ (combination : Combination) (base : Base) (loads : Loads) (bounded : Bo
       weighed : (check : Check) → HasCheck combination check base → Weighed serves base check
       weighed OP h = serving serves d h
       weighed OM h = serving serves d h
-      weighed SL h = serving serves d h
+      weighed SL h = serving serves d (sliding-serves combination h)
       weighed PR h = tt
-      weighed RK h = h
+      weighed RK h = h .1 .0
 
       over : (check : Check) → HasCheck combination check base → Extends (side check) (Permitted combination loads) (Shows check base loads) (GoneThrough combination loads (2 ^ choosable (stance-at combination loads) (loads .count))) none (ranked-of check worst)
       over check has = subst (λ (m : ℕ). Extends (side check) (Permitted combination loads) (Shows check base loads) (GoneThrough combination loads m) none (ranked-of check worst)) e (so .weighed check (weighed check has))

@@ -20,7 +20,7 @@ ghost use Rattle.sets.specs.declared.Loads.{Loads};
 ghost use Rattle.sets.specs.Sets.{Bounded};
 ghost use Rattle.sets.specs.steps.Deciding.{Arises};
 ghost use Rattle.checks.specs.Sized.{Sized};
-ghost use Rattle.checks.specs.service.Service.{HasCheck};
+ghost use Rattle.checks.specs.steps.HasCheck.{HasCheck};
 ghost use Rattle.worst.specs.Lines.{LineSays, line};
 ghost use Rattle.worst.specs.steps.Search.{FoundWorst, Walked};
 

@@ -1,23 +1,8 @@
--- Document 01, Load sets: which checks a combination has.
-use mathlib.Core.Path.{_≡_}
-use mathlib.Core.Bool.{true}
+-- What `serves` answers: the combination has OP, OM and SL (document 01, Load sets, Limits). No demand rests on it.
+use Prim.Native.Nat.{ℕ}
 use Rattle.sets.specs.declared.Combination.{Combination}
-use Rattle.sets.specs.declared.Combination.the-variants.{I, II, III, IV}
-use Rattle.checks.specs.declared.Base.{Base}
-use Rattle.checks.specs.declared.Check.{Check}
-use Rattle.checks.specs.declared.Check.the-variants.{OP, OM, SL, PR, RK}
+use Rattle.checks.specs.limits.Limits.{TippingLimit}
 
--- I, II and III are of service, IV of erection
+-- 002 gives it a factor against overturning; against sliding it gives one to the same combinations (`serves-sliding`, `sliding-serves`)
 unfoldable pub Service : Combination → Type 0
-Service I = Unit {0}
-Service II = Unit {0}
-Service III = Unit {0}
-Service IV = ⊥
-
--- the combination has the check
-unfoldable pub HasCheck : Combination → Check → Base → Type 0
-HasCheck combination OP base = Service combination
-HasCheck combination OM base = Service combination
-HasCheck combination SL base = Service combination
-HasCheck combination PR base = Unit {0}
-HasCheck combination RK base = base .rock ≡ true
+Service combination = (limit : ℕ) × TippingLimit combination limit

@@ -1,7 +1,7 @@
 -- A line is missing where the walk found no set. Else its figure is read back from the rank, and what the walk found says of that figure and
 -- set that they are the ones to name.
 use borrow.Author.Needs.{needs}
-use Rattle.checks.specs.service.Service.{HasCheck}
+use Rattle.checks.specs.steps.HasCheck.{HasCheck}
 use Rattle.worst.specs.Lines.{LineSays}
 use Rattle.worst.proofs.line_at.Statement.{statement}
 use Rattle.worst.proofs.line_at.Tie as tie
@@ -11,8 +11,8 @@ has : (c : tie.Else1) → let a = c .before .args in HasCheck (a .combination) (
 has c = c .before .pre .1 (c .if1 .left)
 
 returns : tie.Need-returns
-unfolding LineSays
-returns c = λ loads found h t p. found h .none (c .if1 .taken) t p
+unfolding LineSays HasCheck
+returns c = λ loads found limit h t p. found (limit, h) .none (c .if1 .taken) t p
 
 figure-at-requires : tie.Need-figure-at-requires
 figure-at-requires c κs = search needs
@@ -28,7 +28,7 @@ unfolding LineSays
 returns-2 c =
     let at-set = c .before .before .before in
     let figure = c .before .before .figure-at .ensures in
-    λ loads found. record { has = has at-set; named = found (has at-set) .named (at-set .if1 .left) _ (figure .0) (figure .1); limited = c .before .limit-of .ensures; marked = c .passes .ensures }
+    λ loads found. record { named = found (has at-set) .named (at-set .if1 .left) _ (figure .0) (figure .1); limited = c .before .limit-of .ensures; marked = c .passes .ensures }
 
 pub line-at-spec : {M : Type 1} → statement M
 line-at-spec =

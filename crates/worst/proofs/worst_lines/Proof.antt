@@ -22,11 +22,11 @@ module _ (combination : Combination) (base : Base) (loads : Loads) where
   -- a combination that no row raises has no line
   all-missing : (Arises combination loads → ⊥) → (check : Check) → LineSays combination check base loads (line check no-lines)
   unfolding LineSays line
-  all-missing n OP = λ h set p. n (permitted-arises loads combination set p)
-  all-missing n OM = λ h set p. n (permitted-arises loads combination set p)
-  all-missing n SL = λ h set p. n (permitted-arises loads combination set p)
-  all-missing n PR = λ h set p. n (permitted-arises loads combination set p)
-  all-missing n RK = λ h set p. n (permitted-arises loads combination set p)
+  all-missing n OP = λ limit h set p. n (permitted-arises loads combination set p)
+  all-missing n OM = λ limit h set p. n (permitted-arises loads combination set p)
+  all-missing n SL = λ limit h set p. n (permitted-arises loads combination set p)
+  all-missing n PR = λ limit h set p. n (permitted-arises loads combination set p)
+  all-missing n RK = λ limit h set p. n (permitted-arises loads combination set p)
 
   -- the lines, check by check
   each : (r : Lines) → LineSays combination OP base loads (r .op) → LineSays combination OM base loads (r .om) → LineSays combination SL base loads (r .sl)

@@ -10,7 +10,7 @@ use Rattle.checks.specs.declared.Figure.{Figure}
 use Rattle.checks.specs.set_figures.Figures.{Shows}
 use Rattle.checks.specs.Order.{side}
 use Rattle.checks.specs.steps.Ranks.{rank, HasRank}
-use Rattle.checks.specs.service.Service.{HasCheck}
+use Rattle.checks.specs.steps.HasCheck.{HasCheck}
 use Rattle.weighing.specs.declared.ranked.RankedSet.{RankedSet}
 use Rattle.weighing.specs.declared.Worst.{Worst}
 use Rattle.weighing.specs.Named.{Named}

@@ -1,5 +1,5 @@
 -- The limit of each check in each combination is the number that the definition gives, or what `arithmetic::rounding::down` promises of the product. That OP, OM and
--- SL are asked only of a combination in service, and RK only on rock, is read off what it is to have the check.
+-- SL are asked only of a combination that has a limit for them, and RK only on rock, is read off what it is to have the check.
 use borrow.Author.Needs.{needs}
 use mathlib.Core.Path.{refl, subst}
 use mathlib.Core.List.{[], _∷_}
@@ -13,7 +13,7 @@ use Rattle.checks.proofs.Check as checks
 use Rattle.checks.proofs.Sides.{check-arm}
 use Rattle.checks.specs.declared.Check.{Check}
 use Rattle.checks.specs.declared.Check.the-variants.{OP, OM, SL, PR}
-use Rattle.checks.specs.service.Service.{Service, HasCheck}
+use Rattle.checks.specs.steps.HasCheck.{HasCheck}
 use Rattle.checks.specs.limits.Limits.{TippingLimit, SlidingLimit, PressureLimit, Limit}
 use Rattle.checks.proofs.limits.limit_of.Statement.{statement}
 use Rattle.checks.proofs.limits.limit_of.Tie as tie
@@ -77,11 +77,11 @@ returns-2 c =
     of-tipping (λ k. Limit (a .combination) k (a .base) 150) (of-second-third (λ j. Limit j OP (a .base) 150) refl refl (a .combination) (c .match2 .keys2)) (of-second-third (λ j. Limit j OM (a .base) 150) refl refl (a .combination) (c .match2 .keys2)) (a .check) (c .before .match .keys1)
 
 returns-3 : tie.Need-returns-3
-unfolding HasCheck Service
+unfolding HasCheck Limit TippingLimit
 returns-3 c =
     let start = c .before .before .before in
     let a = start .args in
-    absurd (of-tipping (λ k. HasCheck IV k (a .base) → ⊥) (λ h. h) (λ h. h) (a .check) (c .before .before .match .keys1) (subst (λ (j : Combination). HasCheck j (a .check) (a .base)) (c .enum-told2 .given .1) (start .pre .1)))
+    absurd (of-tipping (λ k. HasCheck IV k (a .base) → ⊥) (λ h. h .1) (λ h. h .1) (a .check) (c .before .before .match .keys1) (subst (λ (j : Combination). HasCheck j (a .check) (a .base)) (c .enum-told2 .given .1) (start .pre .1)))
 
 returns-4 : tie.Need-returns-4
 unfolding Limit SlidingLimit
@@ -94,11 +94,11 @@ returns-5 c =
     rw (c .before .enum-told3 .given .1) (of-second-third (λ j. Limit j SL (a .base) 125) refl refl (a .combination) (c .match3 .keys2))
 
 returns-6 : tie.Need-returns-6
-unfolding HasCheck Service
+unfolding HasCheck Limit SlidingLimit
 returns-6 c =
     let start = c .before .before .before .before in
     let a = start .args in
-    absurd (subst (λ (j : Combination). HasCheck j SL (a .base)) (c .enum-told5 .given .1) (subst (λ (k : Check). HasCheck (a .combination) k (a .base)) (c .before .before .enum-told3 .given .1) (start .pre .1)))
+    absurd (subst (λ (j : Combination). HasCheck j SL (a .base)) (c .enum-told5 .given .1) (subst (λ (k : Check). HasCheck (a .combination) k (a .base)) (c .before .before .enum-told3 .given .1) (start .pre .1)) .1)
 
 returns-7 : tie.Need-returns-7
 unfolding Limit PressureLimit
@@ -119,7 +119,7 @@ unfolding Limit HasCheck
 returns-10 c =
     let start = c .before .before in
     let a = start .args in
-    rw (c .enum-told9 .given .1) (subst (λ (k : Check). HasCheck (a .combination) k (a .base)) (c .enum-told9 .given .1) (start .pre .1), refl)
+    rw (c .enum-told9 .given .1) (subst (λ (k : Check). HasCheck (a .combination) k (a .base)) (c .enum-told9 .given .1) (start .pre .1) .1 .0, refl)
 
 pub limit-of-spec : {M : Type 1} → statement M
 limit-of-spec =
