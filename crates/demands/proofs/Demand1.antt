@@ -1,7 +1,7 @@
 -- Demand 1 holds.
 use Prim.Native.Nat.{ℕ, _≤_}
 use native.Mathlib.Omega.{arith}
-use mathlib.Core.Path.{_≡_, refl, sym, ap, _∙_}
+use mathlib.Core.Path.{_≡_, refl, sym, ap, subst, _∙_}
 use mathlib.Core.Logic.{_⊎_, inl, inr}
 use mathlib.Core.List.{List, _++_, append-nil}
 use lib.ListN.{length, drop}
@@ -17,12 +17,12 @@ use Rattle.answer.specs.Rules.{Refuses}
 use Rattle.answer.specs.Answer as answer
 use Rattle.printing.specs.Text.{line-text, texts, text}
 use Rattle.debtarush.specs.Lines.{TextOf}
-use Rattle.debtarush.specs.CallTold.{written, refused}
+use Rattle.debtarush.specs.CallTold.{CallTold, written, refused}
 use Rattle.debtarush.specs.Called.{Called, no-book, no-place, too-short, lines}
 use Rattle.debtarush.proofs.Texts.{text-one}
 use Rattle.debtarush.proofs.Answers.{called-one}
 use Rattle.debtarush.proofs.Telling.{call-told-one}
-use Rattle.demands.specs.Demand1.{Demand1}
+use Rattle.demands.specs.Demand1.{CallInOrder, Demand1}
 use Rattle.demands.proofs.Numbers.{book-numbers}
 use Rattle.demands.proofs.Wrote.{call-on-job, wrote}
 
@@ -31,35 +31,36 @@ refused-text : {fill : ℕ → ℕ → Coefficient} {job : Job} {n : ℕ} → Re
 unfolding text texts lines-of unless-refused
 refused-text {n = n} r = record { answer = answer.refusal n; is = answer.refused r refl; are = sym (append-nil _) }
 
-module _ (fill : ℕ → ℕ → Coefficient) {b : List ℕ} {place : ℕ} {before after : List ℕ} where
-  numbers : {n row : ℕ} → Called fill b place before after (refused n row) → ((1 ≤ n) × (n ≤ 7)) ⊎ (n ≡ 10)
-  numbers {n} (no-book {n = m} s a e) = let z : n ≡ m = cc in let w = book-numbers s in inl (omega arith, omega arith)
-  numbers {n} (no-place p q a e) = let z : n ≡ 10 = cc in inr z
-  numbers {n} (too-short p r s l a e) = let z : n ≡ 7 = cc in inl (omega arith, omega arith)
-  numbers (lines p r s l a e) = impossible cc
+module _ (fill : ℕ → ℕ → Coefficient) {b : List ℕ} {place : ℕ} {before after : List ℕ} {t : CallTold} where
+  numbers : Called fill b place before after t → (n row : ℕ) → t ≡ refused n row → ((1 ≤ n) × (n ≤ 7)) ⊎ (n ≡ 10)
+  numbers (no-book {n = m} s a e) n row f = let z : n ≡ m = cc in let w = book-numbers s in inl (omega arith, omega arith)
+  numbers (no-place p q a e) n row f = let z : n ≡ 10 = cc in inr z
+  numbers (too-short p r s l a e) n row f = let z : n ≡ 7 = cc in inl (omega arith, omega arith)
+  numbers (lines p r s l a e) n row f = impossible cc
 
-  untouched : {n row : ℕ} → Called fill b place before after (refused n row) → after ≡ before
-  untouched (no-book s a e) = a
-  untouched (no-place p q a e) = a
-  untouched (too-short p r s l a e) = a
-  untouched (lines p r s l a e) = impossible cc
+  untouched : Called fill b place before after t → (n row : ℕ) → t ≡ refused n row → after ≡ before
+  untouched (no-book s a e) n row f = a
+  untouched (no-place p q a e) n row f = a
+  untouched (too-short p r s l a e) n row f = a
+  untouched (lines p r s l a e) n row f = impossible cc
 
-  alone : {len : ℕ} → Called fill b place before after (written len) → (js : Jobs) (job : Job) (n : ℕ) → JobBook b js → Nth (values js) place job → Refuses fill job n
+  alone : Called fill b place before after t → (len n : ℕ) (js : Jobs) (job : Job) → t ≡ written len → JobBook b js → Nth (values js) place job → Refuses fill job n
       → (len ≡ length (line-text (job .key) (verdict-line (Refused n)))) × (after ≡ line-text (job .key) (verdict-line (Refused n)) ++ drop len before)
-  alone {len} c js job n p r q =
-      let w = wrote (call-on-job p r c) in
+  alone c len n js job f p r q =
+      let w = wrote (call-on-job p r (subst (Called fill b place before after) f c)) in
       let e = text-one refl (w .text) (refused-text q) in
-      (w .long ∙ ap length e, w .whole ∙ ap (λ (t : List ℕ). t ++ drop len before) e)
+      (w .long ∙ ap length e, w .whole ∙ ap (λ (x : List ℕ). x ++ drop len before) e)
+
+  in-order : Called fill b place before after t → CallInOrder fill b place before after t
+  in-order c = record {
+    book-first = λ n row s. called-one c (no-book s refl refl) .1;
+    then-place = λ js p q. called-one c (no-place p q refl refl) .1;
+    then-buffer = λ js job text p r s l. called-one c (too-short p r s l refl refl) .1;
+    then-lines = λ js job text p r s l. let w = called-one c (lines p r s l refl refl) in (w .1, w .0);
+    numbers = numbers c;
+    untouched = untouched c;
+    alone = alone c;
+  }
 
 pub demand1 : (fill : ℕ → ℕ → Coefficient) → Demand1 fill
-demand1 fill = record {
-  one = called-one;
-  told-one = call-told-one;
-  book-first = λ c n row s. called-one c (no-book s refl refl) .1;
-  then-place = λ c js p q. called-one c (no-place p q refl refl) .1;
-  then-buffer = λ c js job text p r t l. called-one c (too-short p r t l refl refl) .1;
-  then-lines = λ c js job text p r t l. let w = called-one c (lines p r t l refl refl) in (w .1, w .0);
-  numbers = numbers fill;
-  untouched = untouched fill;
-  alone = alone fill;
-}
+demand1 fill = record { one = called-one; told-one = call-told-one; in-order = in-order fill }

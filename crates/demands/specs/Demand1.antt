@@ -20,29 +20,29 @@ use Rattle.debtarush.specs.declared.Written.{Written}
 use Rattle.debtarush.specs.CallTold.{CallTold, written, refused, call-told}
 use Rattle.debtarush.specs.Called.{Called}
 
+-- what is demanded of a call, with the refusals in the paper's order
+pub record CallInOrder (fill : ℕ → ℕ → Coefficient) (b : List ℕ) (place : ℕ) (before after : List ℕ) (t : CallTold) : Type 0 where
+  -- first the book's refusal, whatever the place and the buffer
+  pub book-first : (n row : ℕ) → book.BookSays b (book.refused n row) → t ≡ refused n row
+  -- then 10, whatever the buffer
+  pub then-place : (js : Jobs) → JobBook b js → ((job : Job) → Nth (values js) place job → ⊥) → t ≡ refused 10 0
+  -- then 7
+  pub then-buffer : (js : Jobs) (job : Job) (text : List ℕ) → JobBook b js → Nth (values js) place job → TextOf fill job text → length before < length text → t ≡ refused 7 0
+  -- else exactly the lines' bytes from the start, and the rest untouched
+  pub then-lines : (js : Jobs) (job : Job) (text : List ℕ) → JobBook b js → Nth (values js) place job → TextOf fill job text → length text ≤ length before
+      → (t ≡ written (length text)) × (after ≡ text ++ drop (length text) before)
+  -- no other number
+  pub numbers : (n row : ℕ) → t ≡ refused n row → ((1 ≤ n) × (n ≤ 7)) ⊎ (n ≡ 10)
+  -- a refused call writes nothing
+  pub untouched : (n row : ℕ) → t ≡ refused n row → after ≡ before
+  -- a job refused with 11 to 16 has its one line and no other
+  pub alone : (len n : ℕ) (js : Jobs) (job : Job) → t ≡ written len → JobBook b js → Nth (values js) place job → Refuses fill job n
+      → (len ≡ length (line-text (job .key) (verdict-line (Refused n)))) × (after ≡ line-text (job .key) (verdict-line (Refused n)) ++ drop len before)
+
 pub record Demand1 (fill : ℕ → ℕ → Coefficient) : Type 0 where
   -- one answer, and one state of the buffer
   pub one : {b : List ℕ} {place : ℕ} {before x y : List ℕ} {t u : CallTold} → Called fill b place before x t → Called fill b place before y u → (x ≡ y) × (t ≡ u)
   -- and no two answers of `job_lines` are told alike
   pub told-one : (a b : Written) → call-told a ≡ call-told b → a ≡ b
-  -- first the book's refusal, whatever the place and the buffer
-  pub book-first : {b : List ℕ} {place : ℕ} {before after : List ℕ} {t : CallTold} → Called fill b place before after t
-      → (n row : ℕ) → book.BookSays b (book.refused n row) → t ≡ refused n row
-  -- then 10, whatever the buffer
-  pub then-place : {b : List ℕ} {place : ℕ} {before after : List ℕ} {t : CallTold} → Called fill b place before after t
-      → (js : Jobs) → JobBook b js → ((job : Job) → Nth (values js) place job → ⊥) → t ≡ refused 10 0
-  -- then 7
-  pub then-buffer : {b : List ℕ} {place : ℕ} {before after : List ℕ} {t : CallTold} → Called fill b place before after t
-      → (js : Jobs) (job : Job) (text : List ℕ) → JobBook b js → Nth (values js) place job → TextOf fill job text → length before < length text → t ≡ refused 7 0
-  -- else exactly the lines' bytes from the start, and the rest untouched
-  pub then-lines : {b : List ℕ} {place : ℕ} {before after : List ℕ} {t : CallTold} → Called fill b place before after t
-      → (js : Jobs) (job : Job) (text : List ℕ) → JobBook b js → Nth (values js) place job → TextOf fill job text → length text ≤ length before
-      → (t ≡ written (length text)) × (after ≡ text ++ drop (length text) before)
-  -- no other number
-  pub numbers : {b : List ℕ} {place : ℕ} {before after : List ℕ} {n row : ℕ} → Called fill b place before after (refused n row) → ((1 ≤ n) × (n ≤ 7)) ⊎ (n ≡ 10)
-  -- a refused call writes nothing
-  pub untouched : {b : List ℕ} {place : ℕ} {before after : List ℕ} {n row : ℕ} → Called fill b place before after (refused n row) → after ≡ before
-  -- a job refused with 11 to 16 has its one line and no other
-  pub alone : {b : List ℕ} {place : ℕ} {before after : List ℕ} {len : ℕ} → Called fill b place before after (written len)
-      → (js : Jobs) (job : Job) (n : ℕ) → JobBook b js → Nth (values js) place job → Refuses fill job n
-      → (len ≡ length (line-text (job .key) (verdict-line (Refused n)))) × (after ≡ line-text (job .key) (verdict-line (Refused n)) ++ drop len before)
+  -- lines or a numbered refusal, in the paper's order
+  pub in-order : {b : List ℕ} {place : ℕ} {before after : List ℕ} {t : CallTold} → Called fill b place before after t → CallInOrder fill b place before after t
