@@ -8,6 +8,7 @@ use Rattle.csv.specs.rfc4180.Rfc4180.{Cell}
 use Rattle.csv.specs.notes.Notes.{Nth, NoteIn, cell, no-cell, NoteAt}
 use Rattle.csv.proofs.notes.Answers.{nth-one}
 use Rattle.rows.specs.Form.{BookRow, Form}
+use Rattle.rows.proofs.Forms.{note-is}
 use Rattle.book.specs.JobBook.{Jobs, Forms, form, JobBook}
 use Rattle.book.specs.Notes.{NoteIs, there, no-row, no-book}
 use Rattle.book.proofs.Answers.{reading-one}
@@ -55,7 +56,7 @@ book-note {s = s} {n = n} {note} b h = by (h (b .rows) (b .text))
     by : NoteIn (b .rows) n note → NoteIs s n note
     by (cell {cs} r e) =
         let f = form-at (r .before) cs (r .behind) (subst (λ (l : List (List Cell)). Forms l (b .typed)) (r .are) (b .forms)) in
-        there b (subst (λ (k : ℕ). Nth (b .typed) k (f .row)) (sym (r .number)) (f .at)) (e ∙ sym (f .is .note))
+        there b (subst (λ (k : ℕ). Nth (b .typed) k (f .row)) (sym (r .number)) (f .at)) (e ∙ sym (note-is (f .is)))
     by (no-cell m e) =
         no-row b
         (λ r q.

@@ -4,7 +4,7 @@ use mathlib.Core.Path.{_≡_, refl, sym, ap, subst, _∙_}
 use mathlib.Core.List.{List, [], _∷_, _++_, map, map-append}
 use lib.ListN.{length-map}
 use Rattle.csv.specs.rfc4180.Rfc4180.{Cell}
-use Rattle.rows.specs.Form.{BookRow, Form, content}
+use Rattle.rows.specs.Form.{BookRow, Form}
 use Rattle.jobs.specs.declared.Job.{Job}
 use Rattle.book.specs.JobBook.{WrittenJob, job, Jobs, none, _and_, job-rows, rows-of, GoodJob, Forms, no-form, form, Whole, no-whole, one-whole, JobBook}
 use Rattle.book.specs.Values.{job-value, values}
@@ -14,12 +14,12 @@ use Rattle.demands.specs.Words.{listed}
 use Rattle.demands.proofs.All as all
 
 form-key : {cs : List Cell} {r : BookRow} → Form cs r → IsKey (r .keyed .key)
-form-key {cs} f = record {
-  member = content cs 0;
-  job = content cs 1;
-  member-named = f .member .0;
-  job-named = f .job .0;
-  held = λ i. record { member = f .member .1 i; job = f .job .1 i };
+form-key f = record {
+  member = f .ten .member .content;
+  job = f .ten .job .content;
+  member-named = f .member .is;
+  job-named = f .job .is;
+  held = λ i. record { member = f .member .held i; job = f .job .held i };
 }
 
 HasKey : BookRow → Type 0

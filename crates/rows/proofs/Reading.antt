@@ -12,7 +12,7 @@ use Rattle.arithmetic.specs.decides.Decides.{Decides, decides-both, decides-fla
 use Rattle.csv.specs.cells.Cells.{offset, RowAt, CellAt}
 use Rattle.csv.specs.declared.cells.Cells.{Cells}
 use Rattle.csv.proofs.cells.Fields.{row-fields}
-use Rattle.fields.specs.names.Names.{ContentNamed, NameIn, NameGiven, NameAt}
+use Rattle.fields.specs.names.Names.{NameOf, NameIn, NameGiven, NameAt}
 use Rattle.fields.specs.Numbers.{EntryAt}
 use Rattle.fields.specs.declared.names.Name.{Name}
 use Rattle.fields.specs.declared.names.NameRead.{NameRead}
@@ -26,12 +26,13 @@ use Rattle.kinds.specs.declared.Kind.{Kind}
 use Rattle.kinds.specs.declared.letters.KindRead.the-variants.{Known, Unknown}
 use Rattle.kinds.specs.declared.Numbers.{Numbers}
 use Rattle.kinds.proofs.letters.Letters.{letters-one}
-use Rattle.rows.specs.Form.{BookRow, raw, content, Six, Form}
+use Rattle.rows.specs.Form.{BookRow, Six, Form}
 use Rattle.rows.specs.keys.Keyed.{no-row}
-use Rattle.rows.specs.Answer.{TenAt, entered, NumbersGiven, RowSeen}
+use Rattle.rows.specs.Answer.{raw, content, first-ten, TenAt, entered, NumbersGiven, RowSeen}
 use Rattle.rows.specs.declared.EntryRead.{EntryRead}
 use Rattle.rows.specs.declared.RowRead.{RowRead}
 use Rattle.rows.specs.declared.keys.Keyed.{Keyed}
+use Rattle.rows.proofs.Forms.{form-length, kind-is, numbers-are}
 
 module _ {s : List ℕ} {c : Cells} {cs : List Cell} (t : TenAt s c cs) where
   -- a cell's stretch is a field of its content
@@ -45,18 +46,18 @@ module _ {s : List ℕ} {c : Cells} {cs : List Cell} (t : TenAt s c cs) where
         subst (λ (l : List ℕ). Field l (content cs k)) (sym e) (t .field k h)
 
     -- so the content is what the stretch was found to be
-    pub cell-name : (n : NameRead) → n .good ≡ true → NameAt r n → ContentNamed true (content cs k) (n .name)
+    pub cell-name : (n : NameRead) → n .good ≡ true → NameAt r n → NameOf (content cs k) (n .name)
     cell-name n g p =
         let w : NameIn r (n .name) = subst (λ (b : Bool). NameGiven b r (n .name)) g p in
         let e = content-unique (w .field) cell-field in
-        subst (λ (l : List ℕ). ContentNamed true l (n .name)) e (w .is, w .held)
+        subst (λ (l : List ℕ). NameOf l (n .name)) e (w .named)
 
-    pub cell-good : (n : NameRead) → NameAt r n → (m : Name) → ContentNamed true (content cs k) m → n .good ≡ true
+    pub cell-good : (n : NameRead) → NameAt r n → (m : Name) → NameOf (content cs k) m → n .good ≡ true
     cell-good n p m w = go (n .good) p
       where
         go : (b : Bool) → NameGiven b r (n .name) → b ≡ true
         go true q = refl
-        go false q = absurd (q .0 m (record { content = content cs k; field = cell-field; is = w .0; held = w .1 }))
+        go false q = absurd (q .0 m (record { content = content cs k; field = cell-field; named = w }))
 
     pub cell-kind : (kind : Kind) → KindAt r (Known kind) → content cs k ≡ letters kind
     cell-kind kind p = content-unique cell-field p
@@ -83,20 +84,20 @@ module _ (a b c d e f : Bool) where
   EachFlag = AllSix (a ≡ true) (b ≡ true) (c ≡ true) (d ≡ true) (e ≡ true) (f ≡ true)
 
   -- the six numbers are good if each of them is
-  pub six-by : (n : Numbers) (kind : Kind) (cs : List Cell) (k : Columns) → k ≡ columns kind → (EachFlag → Six k cs n) → ((m : Numbers) → Six k cs m → EachFlag) → NumbersGiven (all-six a b c d e f) n kind cs
+  pub six-by : (n : Numbers) (kind : Kind) (cs : List Cell) (k : Columns) → k ≡ columns kind → (EachFlag → Six k (first-ten cs) n) → ((m : Numbers) → Six k (first-ten cs) m → EachFlag) → NumbersGiven (all-six a b c d e f) n kind cs
   six-by n kind cs k z some none =
       go (all-six a b c d e f)
       (decides-six (a ≡ true) (b ≡ true) (c ≡ true) (d ≡ true) (e ≡ true) (f ≡ true) a b c d e f (decides-flag a) (decides-flag b) (decides-flag c) (decides-flag d) (decides-flag e) (decides-flag f))
     where
       go : (r : Bool) → Decides r EachFlag → NumbersGiven r n kind cs
-      go true h = subst (λ (j : Columns). Six j cs n) z (some h)
-      go false h = λ m s. h (none m (subst (λ (j : Columns). Six j cs m) (sym z) s))
+      go true h = subst (λ (j : Columns). Six j (first-ten cs) n) z (some h)
+      go false h = λ m s. h (none m (subst (λ (j : Columns). Six j (first-ten cs) m) (sym z) s))
 
 -- numbers that the columns of the one kind do not give
-no-numbers : (kind : Kind) (cs : List Cell) → content cs 2 ≡ letters kind → ((n : Numbers) → Six (columns kind) cs n → ⊥) → (q : BookRow) → Form cs q → ⊥
+no-numbers : (kind : Kind) (cs : List Cell) → content cs 2 ≡ letters kind → ((n : Numbers) → Six (columns kind) (first-ten cs) n → ⊥) → (q : BookRow) → Form cs q → ⊥
 no-numbers kind cs e h q f =
     h (q .keyed .row .numbers)
-    (subst (λ (k : Kind). Six (columns k) cs (q .keyed .row .numbers)) (letters-one (q .keyed .row .kind) kind (sym (f .kind) ∙ e)) (f .numbers))
+    (subst (λ (k : Kind). Six (columns k) (first-ten cs) (q .keyed .row .numbers)) (letters-one (q .keyed .row .kind) kind (sym (kind-is f) ∙ e)) (numbers-are f))
 
 pub numbers-good : (kind : Kind) (cs : List Cell) → content cs 2 ≡ letters kind → (g : Bool) (n : Numbers) → NumbersGiven g n kind cs → (q : BookRow) → Form cs q → g ≡ true
 numbers-good kind cs e true n h q f = refl
@@ -118,7 +119,7 @@ module _ {s : List ℕ} {start : ℕ} {r : Cells} (h : RowAt s start r) (cs : Li
   seen-none u e n =
       let i = h cs css q in
       let p : u ≡ record { good = false; row = no-row; next = r .next } = λ t. record { good = e .0 t; row = e .1 t; next = e .2 t } in
-      let none : (b : BookRow) → Form cs b → ⊥ = λ b f. let m : r .count ≡ 10 = i .count ∙ f .ten in n m (ten-at m) b f in
+      let none : (b : BookRow) → Form cs b → ⊥ = λ b f. let m : r .count ≡ 10 = i .count ∙ form-length f in n m (ten-at m) b f in
       subst (RowSeen s start cs css) (sym p) (record { means = (none, refl); behind = i .behind; on = i .on; rest = i .rest })
 
 -- the test of a row's names and numbers

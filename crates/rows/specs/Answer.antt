@@ -4,8 +4,8 @@ use mathlib.Core.Path.{_≡_}
 use mathlib.Core.Bool.{Bool, true, false}
 use mathlib.Core.List.{List, _∷_}
 use lib.ListN.{length, getD, drop}
-use Rattle.csv.specs.rfc4180.Rfc4180.{Cell, Field, File, no-cell}
-use Rattle.csv.specs.cells.Cells.{Stretch, offset, Rest}
+use Rattle.csv.specs.rfc4180.Rfc4180.{Cell, Field, File}
+use Rattle.csv.specs.cells.Cells.{no-cell, Stretch, offset, Rest}
 use Rattle.csv.specs.declared.cells.Cells.{Cells}
 use Rattle.fields.specs.declared.Entry.{Entry}
 use Rattle.fields.specs.declared.Entered.{Entered}
@@ -13,11 +13,33 @@ use Rattle.fields.specs.declared.Entered.the-variants.{Is, Wrong}
 use Rattle.kinds.specs.Table.{columns}
 use Rattle.kinds.specs.declared.Kind.{Kind}
 use Rattle.kinds.specs.declared.Numbers.{Numbers}
-use Rattle.rows.specs.Form.{BookRow, raw, content, Six, Form}
+use Rattle.rows.specs.Form.{BookRow, Ten, Six, Form}
 use Rattle.rows.specs.keys.Keyed.{no-row}
 use Rattle.rows.specs.declared.keys.Keyed.{Keyed}
 use Rattle.rows.specs.declared.NumbersRead.{NumbersRead}
 use Rattle.rows.specs.declared.RowRead.{RowRead}
+
+-- a cell of a row by its place, the first being 0
+abbrev pub raw : List Cell → ℕ → List ℕ
+raw cs k = getD cs k no-cell .raw
+
+abbrev pub content : List Cell → ℕ → List ℕ
+content cs k = getD cs k no-cell .content
+
+-- the first ten of them
+abbrev pub first-ten : List Cell → Ten
+first-ten cs = record {
+  member = getD cs 0 no-cell;
+  job = getD cs 1 no-cell;
+  kind = getD cs 2 no-cell;
+  n1 = getD cs 3 no-cell;
+  n2 = getD cs 4 no-cell;
+  n3 = getD cs 5 no-cell;
+  n4 = getD cs 6 no-cell;
+  n5 = getD cs 7 no-cell;
+  n6 = getD cs 8 no-cell;
+  note = getD cs 9 no-cell;
+}
 
 -- the ten cells of a row stand where these places say
 pub record TenAt (s : List ℕ) (c : Cells) (cs : List Cell) : Type 0 where
@@ -33,8 +55,8 @@ entered false x = Wrong
 
 -- the six numbers; or that the cells have none by the columns of the kind
 abbrev pub NumbersGiven : Bool → Numbers → Kind → List Cell → Type 0
-NumbersGiven true n kind cs = Six (columns kind) cs n
-NumbersGiven false n kind cs = (m : Numbers) → Six (columns kind) cs m → ⊥
+NumbersGiven true n kind cs = Six (columns kind) (first-ten cs) n
+NumbersGiven false n kind cs = (m : Numbers) → Six (columns kind) (first-ten cs) m → ⊥
 
 abbrev pub NumbersAre : List ℕ → Cells → Kind → NumbersRead → Type 0
 NumbersAre s c kind r = (cs : List Cell) → TenAt s c cs → NumbersGiven (r .good) (r .numbers) kind cs

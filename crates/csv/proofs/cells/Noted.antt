@@ -9,7 +9,7 @@ use mathlib.Core.List.{List, [], _∷_, _++_, append-assoc, append-nil}
 use lib.ListN.{length, getD, set, drop, replicate, length-append, length-set, length-drop}
 use lib.Seq.{getD-set-same, getD-set-other, getD-at, length-take-le}
 use Rattle.arithmetic.proofs.Cases.{by-cases}
-use Rattle.csv.specs.rfc4180.Rfc4180.{COMMA, CR, LF, Cell, File, Readable, no-cell}
+use Rattle.csv.specs.rfc4180.Rfc4180.{COMMA, CR, LF, Cell, File, Readable}
 use Rattle.csv.specs.rfc4180.Part.{part}
 use Rattle.csv.specs.field.Answer.{FieldTo, FieldAt}
 use Rattle.csv.specs.declared.field.Ended.the-variants.{Comma, Row, End}
@@ -17,7 +17,7 @@ use Rattle.csv.proofs.rfc4180.Parts.{part-rest, past}
 use Rattle.csv.proofs.rfc4180.First.{cell, comma-rows, row-rows, end-rows}
 use Rattle.csv.proofs.Steps.{step-comma, step-row}
 use Rattle.csv.specs.declared.cells.Cells.{Cells}
-use Rattle.csv.specs.cells.Cells.{Stretch, offset, RowIs, RowAt, Rest, nothing}
+use Rattle.csv.specs.cells.Cells.{no-cell, Stretch, offset, RowIs, RowAt, Rest, nothing}
 
 pub offset-none : (fs : List Cell) → offset fs 0 ≡ 0
 unfolding offset

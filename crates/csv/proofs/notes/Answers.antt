@@ -6,7 +6,7 @@ use mathlib.Core.List.{List}
 use lib.ListN.{getD}
 use Rattle.csv.proofs.Lists.{level}
 use Rattle.csv.specs.rfc4180.Rfc4180.{Cell, Readable}
-use Rattle.csv.specs.rfc4180.Rfc4180 as rfc4180
+use Rattle.csv.specs.cells.Cells as cells
 use Rattle.csv.specs.notes.Notes.{Nth, NoteIn, cell, no-cell, NoteAt}
 
 pub nth-one : {A : Type 0} {rs : List A} {n : ℕ} {x y : A} → Nth rs n x → Nth rs n y → x ≡ y
@@ -16,7 +16,7 @@ nth-one {x = x} {y} p q =
     level (p .before) (q .before) (p .behind) (q .behind) x y (sym (p .are) ∙ q .are) (omega arith) .1
 
 note-in-one : {rows : List (List Cell)} {n : ℕ} {a b : List ℕ} → NoteIn rows n a → NoteIn rows n b → a ≡ b
-note-in-one (cell r p) (cell q f) = p ∙ ap (λ (cs : List Cell). getD cs 9 rfc4180.no-cell .raw) (nth-one r q) ∙ sym f
+note-in-one (cell r p) (cell q f) = p ∙ ap (λ (cs : List Cell). getD cs 9 cells.no-cell .raw) (nth-one r q) ∙ sym f
 note-in-one (cell {cs} r p) (no-cell m f) = absurd (m cs r)
 note-in-one (no-cell m p) (cell {cs} r f) = absurd (m cs r)
 note-in-one (no-cell m p) (no-cell k f) = p ∙ sym f

@@ -10,7 +10,6 @@ use Rattle.arithmetic.proofs.Cases.{by-cases}
 use Rattle.csv.specs.rfc4180.Rfc4180.{Cell, Readable}
 use Rattle.csv.specs.rfc4180.Part.{part}
 use Rattle.csv.proofs.rfc4180.Unique.{file-unique}
-use Rattle.csv.specs.rfc4180.Rfc4180 as rfc4180
 use Rattle.csv.specs.cells.Cells as cells
 use Rattle.csv.specs.declared.cells.Cells.{Cells}
 use Rattle.csv.specs.notes.Notes.{NoteIn, cell, no-cell, NoteAt}
@@ -35,7 +34,7 @@ module _ {s : List ℕ} {row n at : ℕ} {c : Cells} (i : Passing s row n at) (h
   pub passing-on : c .next < length s → at < c .next
   passing-on k = is .on k
 
-  tenth : {note : List ℕ} → cells.CellAt s c 9 note → note ≡ getD cs 9 rfc4180.no-cell .raw
+  tenth : {note : List ℕ} → cells.CellAt s c 9 note → note ≡ getD cs 9 cells.no-cell .raw
   tenth a =
       by-cases (decLt 9 (length cs))
       (λ l.
@@ -49,7 +48,7 @@ module _ {s : List ℕ} {row n at : ℕ} {c : Cells} (i : Passing s row n at) (h
       let q = u .1 in
       a .there (record { few = lit< tt; order = omega arith; within = omega arith })
       ∙ (λ i. part (p i) (q i) s)
-      ∙ sym (ap (λ (x : Cell). x .raw) (List·getD-eq-default cs rfc4180.no-cell (omega arith))))
+      ∙ sym (ap (λ (x : Cell). x .raw) (List·getD-eq-default cs cells.no-cell (omega arith))))
 
   pub passing-found : {note : List ℕ} → n ≡ row → cells.CellAt s c 9 note → NoteAt s row note
   passing-found {note} e a rows q =

@@ -5,7 +5,7 @@ use mathlib.Core.Path.{_≡_}
 use mathlib.Core.List.{List, [], _∷_, _++_}
 use lib.ListN.{length, getD}
 use Rattle.csv.specs.rfc4180.Rfc4180.{Cell, File}
-use Rattle.csv.specs.rfc4180.Rfc4180 as rfc4180
+use Rattle.csv.specs.cells.Cells as cells
 
 -- x is the n-th of a list, the first being 1
 pub record Nth {A : Type 0} (xs : List A) (n : ℕ) (x : A) : Type 0 where
@@ -16,7 +16,7 @@ pub record Nth {A : Type 0} (xs : List A) (n : ℕ) (x : A) : Type 0 where
 
 -- the note of a row of a text: its tenth cell; nothing where it has none, and where there is no such row
 pub data NoteIn (rows : List (List Cell)) (n : ℕ) (note : List ℕ) : Type 0 where
-  cell : {cs : List Cell} → Nth rows n cs → note ≡ getD cs 9 rfc4180.no-cell .raw → NoteIn rows n note
+  cell : {cs : List Cell} → Nth rows n cs → note ≡ getD cs 9 cells.no-cell .raw → NoteIn rows n note
   no-cell : ((cs : List Cell) → Nth rows n cs → ⊥) → note ≡ [] → NoteIn rows n note
 
 abbrev pub NoteAt : List ℕ → ℕ → List ℕ → Type 0

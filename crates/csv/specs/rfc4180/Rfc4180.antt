@@ -1,6 +1,6 @@
 -- RFC 4180, section 2, as a relation between a text's bytes and its rows. Every line of the ABNF has its own data type here, with a constructor for
 -- each alternative. Two choices that the ABNF leaves open are the customer's: a final CRLF closes the last row and starts none, and the empty text
--- is one row with one empty field. Nothing here reads a text: a text and its rows are related, or they are not.
+-- is one row with one empty field. A text and its rows are related, or they are not.
 use Prim.Native.Nat.{ℕ, _≤_}
 use mathlib.Core.Path.{_≡_}
 use mathlib.Core.List.{List, [], _∷_, _++_}
@@ -51,10 +51,6 @@ pub data Field : List ℕ → List ℕ → Type 0 where
 pub record Cell : Type 0 where
   pub raw : List ℕ
   pub content : List ℕ
-
--- no field: what stands where a row has none
-abbrev pub no-cell : Cell
-no-cell = record { raw = []; content = [] }
 
 -- record = field *(COMMA field)
 pub data Record : List ℕ → List Cell → Type 0 where

@@ -9,7 +9,7 @@ use Rattle.fields.specs.declared.names.Name.{Name}
 use Rattle.fields.specs.declared.names.NameRead.{NameRead}
 
 pub name-one : {raw : List ℕ} {m n : Name} → NameIn raw m → NameIn raw n → m ≡ n
-name-one p q = p .held ∙ ap name (content-unique (p .field) (q .field)) ∙ sym (q .held)
+name-one p q = p .named .held ∙ ap name (content-unique (p .field) (q .field)) ∙ sym (q .named .held)
 
 name-given-one : (raw : List ℕ) (a b : Bool) (m n : Name) → NameGiven a raw m → NameGiven b raw n → (a ≡ b) × (m ≡ n)
 name-given-one raw true true m n p q = (refl, name-one p q)

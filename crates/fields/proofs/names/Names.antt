@@ -33,8 +33,8 @@ name-plain c n = letters-plain c (n .letters)
 
 -- a field is a name exactly if the stretch between its quotes is
 pub name-field : {raw r : List ℕ} → Bare raw r → (b : Bool) (n : Name) → ContentNamed b r n → NameGiven b raw n
-name-field {raw} {r} h true n w = record { content = r; field = bare-field (name-plain r (w .0)) h; is = w .0; held = w .1 }
-name-field h false n w = (λ m q. content-none IsName name-plain h (w .0) (q .content) (q .field) (q .is), w .1)
+name-field {raw} {r} h true n w = record { content = r; field = bare-field (name-plain r (w .is)) h; named = w }
+name-field h false n w = (λ m q. content-none IsName name-plain h (w .0) (q .content) (q .field) (q .named .is), w .1)
 
 -- the first i bytes, with zeros behind them
 abbrev pub filled : ℕ → List ℕ → List ℕ
@@ -115,7 +115,7 @@ module _ (c : List ℕ) where
         let k = h .3 in
         let j : i ≡ length c = omega arith in
         let w = h .2 ∙ ap (λ (m : ℕ). filled m c) j ∙ filled-all c in
-        (record { some = h .0; few = h .1; letters = λ m q. h .4 m (omega arith) }, λ t. record { len = length c; bytes = w t })
+        record { is = record { some = h .0; few = h .1; letters = λ m q. h .4 m (omega arith) }; held = λ t. record { len = length c; bytes = w t } }
     read-name false e f h = absurd (not-both e refl)
 
     pub read-none : (r : Bool) → r ≡ false → Read c bytes i r → (n : Name) → n ≡ no-name → ContentNamed r c n

@@ -24,6 +24,11 @@ pub record IsName (c : List ℕ) : Type 0 where
 abbrev pub name : List ℕ → Name
 name c = record { len = length c; bytes = c ++ replicate (12 - length c) 0 }
 
+-- the content is a name, and this is its value
+pub record NameOf (c : List ℕ) (n : Name) : Type 0 where
+  pub is : IsName c
+  pub held : n ≡ name c
+
 abbrev pub no-name : Name
 no-name = name []
 
@@ -31,12 +36,11 @@ no-name = name []
 pub record NameIn (raw : List ℕ) (n : Name) : Type 0 where
   pub content : List ℕ
   pub field : Field raw content
-  pub is : IsName content
-  pub held : n ≡ name content
+  pub named : NameOf content n
 
 -- the answer for a content: its name; or that it is none, and no name
 abbrev pub ContentNamed : Bool → List ℕ → Name → Type 0
-ContentNamed true c n = IsName c × (n ≡ name c)
+ContentNamed true c n = NameOf c n
 ContentNamed false c n = (IsName c → ⊥) × (n ≡ no-name)
 
 -- the answer for a stretch: its name; or that it has none, and no name

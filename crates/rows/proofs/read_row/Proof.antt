@@ -6,7 +6,8 @@ use lib.Dec.{lit<}
 use borrow.Author.Needs.{needs}
 use Rattle.arithmetic.specs.decides.Decides.{decided, refuted}
 use Rattle.kinds.specs.letters.Form.{KindAt}
-use Rattle.rows.specs.Answer.{NumbersGiven}
+use Rattle.rows.specs.Answer.{first-ten, NumbersGiven}
+use Rattle.rows.proofs.Forms.{ten-cells, member-is, job-is, kind-is}
 use Rattle.rows.proofs.Reading.{cell-name, cell-good, cell-kind, cell-no-kind, numbers-good, seen-row, seen-none, passed}
 use Rattle.rows.proofs.read_row.Statement.{statement}
 use Rattle.rows.proofs.read_row.Tie as tie
@@ -41,7 +42,7 @@ returns-2 : tie.Need-returns-2
 returns-2 c = λ cs css q.
     let at-kind = c .before .before .before in
     seen-none (at-kind .before .before .before .before .cells-at .ensures) cs css q (c .unread2 .result) (c .unread2 .ensures)
-    (λ n t b f. cell-no-kind t 2 _ (lit< tt) (at-kind .before .cell .ensures) (subst (KindAt _) (c .before .enum-told .given .1) (at-kind .kind-at .ensures)) (b .keyed .row .kind) (f .kind))
+    (λ n t b f. cell-no-kind t 2 _ (lit< tt) (at-kind .before .cell .ensures) (subst (KindAt _) (c .before .enum-told .given .1) (at-kind .kind-at .ensures)) (b .keyed .row .kind) (kind-is f))
 
 numbers-of-requires : tie.Need-numbers-of-requires
 numbers-of-requires c κs = search needs
@@ -70,7 +71,8 @@ returns-3 c = λ cs css q.
     let at-ten = at-kind .before .before in
     let tests = decided _ (c .before .before .before .if2 .taken) (passed (at-member .name-at .result .good) (at-job .name-at2 .result .good) (numbers .good)) in
     seen-row (at-ten .before .before .cells-at .ensures) cs css q (at-ten .if1 .left) _ (λ t. record {
-      ten = t .ten;
+      ten = first-ten cs;
+      are = ten-cells cs (t .ten);
       member = cell-name t 0 _ (lit< tt) (at-member .before .cell2 .ensures) (at-member .name-at .result) (tests .0 .0) (at-member .name-at .ensures);
       job = cell-name t 1 _ (lit< tt) (at-job .before .cell3 .ensures) (at-job .name-at2 .result) (tests .0 .1) (at-job .name-at2 .ensures);
       kind = cell-kind t 2 _ (lit< tt) (at-kind .before .cell .ensures) kind (subst (KindAt _) (at-x .kind .given .1) (at-kind .kind-at .ensures));
@@ -94,8 +96,8 @@ returns-4 c = λ cs css q.
     let tests = refuted _ (c .before .if2 .left) (passed (at-member .name-at .result .good) (at-job .name-at2 .result .good) (numbers .good)) in
     seen-none (at-ten .before .before .cells-at .ensures) cs css q (c .unread3 .result) (c .unread3 .ensures)
     (λ n t b f.
-    let m = cell-good t 0 _ (lit< tt) (at-member .before .cell2 .ensures) (at-member .name-at .result) (at-member .name-at .ensures) (b .keyed .key .member) (f .member) in
-    let j = cell-good t 1 _ (lit< tt) (at-job .before .cell3 .ensures) (at-job .name-at2 .result) (at-job .name-at2 .ensures) (b .keyed .key .job) (f .job) in
+    let m = cell-good t 0 _ (lit< tt) (at-member .before .cell2 .ensures) (at-member .name-at .result) (at-member .name-at .ensures) (b .keyed .key .member) (member-is f) in
+    let j = cell-good t 1 _ (lit< tt) (at-job .before .cell3 .ensures) (at-job .name-at2 .result) (at-job .name-at2 .ensures) (b .keyed .key .job) (job-is f) in
     let e = cell-kind t 2 _ (lit< tt) (at-kind .before .cell .ensures) kind (subst (KindAt _) (at-x .kind .given .1) (at-kind .kind-at .ensures)) in
     let g = numbers-good kind cs e (numbers .good) (numbers .numbers) (at-numbers .numbers-of .ensures cs t) b f in
     tests ((m, j), g))
