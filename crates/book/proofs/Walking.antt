@@ -60,9 +60,9 @@ used-twice u (new-key d n) = n u
 
 -- where a job begins, it is one of 64, and its key is new
 pub begun-new : {ks : List Key} {n : ℕ} {k : Key} {b : Beginning} → beginning.BeginningIs ks n k b → b ≡ Allowed → (n < 64) × (Among ks n k → ⊥)
-begun-new (beginning.surplus m e) f = impossible cc
-begun-new (beginning.reused m a e) f = impossible cc
-begun-new (beginning.allowed m a e) f = (m, a)
+begun-new (beginning.surplus m e) f = let g = ap beginning.beginning-told f in impossible cc
+begun-new (beginning.reused m a e) f = let g = ap beginning.beginning-told f in impossible cc
+begun-new (beginning.unused m a e) f = (m, a)
 
 -- an answer, from what it is told
 pub refused-is : {s : List ℕ} (b : Book) (why : Refusal) (row : ℕ) → (b .count ≡ Refused why row) × (b .jobs ≡ places []) → BookSays s (refused (refusal-number why) row) → BookIs s b
@@ -204,12 +204,14 @@ module _ {s : List ℕ} {last : Job} {jobs : List Job} {keys : List Key} {n row 
       -- a job that may not begin
       pub walk-barred : {b : Beginning} (why : Refusal) → beginning.BeginningIs keys n (next .key) b → b ≡ Barred why → BookSays s (refused (refusal-number why) row)
       walk-barred why (beginning.surplus m e) f =
-          let q : TooManyJobs ≡ why = cc in
-          subst (λ (x : Refusal). BookSays s (refused (refusal-number x) row)) q (walk-surplus m)
+          let g = ap beginning.beginning-told f in
+          let q : 5 ≡ refusal-number why = cc in
+          subst (λ (k : ℕ). BookSays s (refused k row)) q (walk-surplus m)
       walk-barred why (beginning.reused m a e) f =
-          let q : UsedKey ≡ why = cc in
-          subst (λ (x : Refusal). BookSays s (refused (refusal-number x) row)) q (walk-reused m a)
-      walk-barred why (beginning.allowed m a e) f = impossible cc
+          let g = ap beginning.beginning-told f in
+          let q : 6 ≡ refusal-number why = cc in
+          subst (λ (k : ℕ). BookSays s (refused k row)) q (walk-reused m a)
+      walk-barred why (beginning.unused m a e) f = let g = ap beginning.beginning-told f in impossible cc
 
       pub walk-started : n < 64 → (Among keys n (next .key) → ⊥) → After next (set jobs (n + 1 - 1) next) (set keys n (next .key)) (n + 1)
       walk-started m a =

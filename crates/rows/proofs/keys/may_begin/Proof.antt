@@ -8,7 +8,7 @@ use borrow.Author.Needs.{needs}
 use borrow.Author.Count.{below-more}
 use Rattle.arithmetic.specs.decides.Decides.{decided, refuted}
 use Rattle.rows.specs.keys.Among.{void-key}
-use Rattle.rows.specs.keys.Beginning.{surplus, reused, allowed}
+use Rattle.rows.specs.keys.Beginning.{surplus, reused, unused}
 use Rattle.rows.proofs.keys.may_begin.Statement.{statement}
 use Rattle.rows.proofs.keys.may_begin.Tie as tie
 
@@ -55,7 +55,7 @@ loop-again c =
 returns-3 : tie.Need-returns-3 Inv-loop μ-loop
 returns-3 c =
     let inv = c .before .loop .inv in
-    allowed (inv .0) (λ a. let h = a .within in inv .2 (a .at) (omega arith) (a .is)) refl
+    unused (inv .0) (λ a. let h = a .within in inv .2 (a .at) (omega arith) (a .is)) refl
 
 pub may-begin-spec : {M : Type 1} → statement M
 may-begin-spec =
