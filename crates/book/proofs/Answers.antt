@@ -14,7 +14,8 @@ use Rattle.csv.proofs.Lists.{level}
 use Rattle.rows.specs.Form.{BookRow, Form}
 use Rattle.rows.proofs.Forms.{form-one}
 use Rattle.jobs.specs.declared.Job.{Job}
-use Rattle.book.specs.JobBook.{Jobs, count, Loaded, Different, Placed, rows-of, Forms, no-form, form, Begins, JobBook, Shaped, no-job, one-more, Whole, no-whole, one-whole}
+use Rattle.book.specs.JobBook.{Jobs, count, Different, rows-of, Forms, no-form, form, JobBook}
+use Rattle.book.specs.Beginning.{Loaded, Placed, Begins}
 use Rattle.book.specs.counted.Places.{places}
 use Rattle.book.specs.Values.{values}
 use Rattle.book.specs.Says.{BookTold, given, refused, Fault, formless, misplaced, surplus, reused, number, Unplaced, Surplus, Reused, Bad, FirstBad, Unfinished, BookSays, too-long, not-csv, bad-row, unfinished, book, book-told, jobs-told, BookIs, CountIs}
@@ -23,7 +24,7 @@ use Rattle.rows.proofs.refusals.Numbers.{number-one}
 use Rattle.book.specs.declared.counted.Count.{Count}
 use Rattle.book.specs.declared.counted.Count.the-variants.{Given, Refused}
 use Rattle.book.specs.declared.counted.Book.{Book}
-use Rattle.book.proofs.Steps.{retract, placed-one, step-count, step-keys}
+use Rattle.book.proofs.Steps.{whole-shaped, shaped-whole, retract, placed-one, step-count, step-keys}
 
 forms-one : {css : List (List Cell)} {rs qs : List BookRow} → Forms css rs → Forms css qs → rs ≡ qs
 forms-one no-form no-form = refl
@@ -180,15 +181,6 @@ rows-one (lacking u p) (all b l q) = absurd (u .missing (subst Loaded (begins-on
 rows-one (all b l p) (bad f q) = absurd (none-begun f (begun-by b))
 rows-one (all b l p) (lacking u q) = absurd (u .missing (subst Loaded (begins-one b (u .begins)) l))
 rows-one (all b l p) (all c k q) = let e = begins-one b c in p ∙ (cc) ∙ sym q
-
--- jobs of which each has a load row
-whole-shaped : {js : Jobs} → Whole js → Shaped js × Loaded js
-whole-shaped no-whole = (no-job, tt)
-whole-shaped (one-whole w g l) = let h = whole-shaped w in (one-more (h .0) (h .1) g, l)
-
-pub shaped-whole : {js : Jobs} → Shaped js → Loaded js → Whole js
-shaped-whole no-job l = no-whole
-shaped-whole (one-more s k g) l = one-whole (shaped-whole s k) g l
 
 -- a job book is what a job book begins with, with no load row missing
 pub book-begins : {s : List ℕ} {js : Jobs} (b : JobBook s js) → Begins (b .rows) (b .typed) js

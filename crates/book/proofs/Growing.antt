@@ -17,7 +17,8 @@ use Rattle.jobs.specs.stages.Fits.{Fits}
 use Rattle.jobs.specs.Place.{InPlace, with-row, grown}
 use Rattle.jobs.specs.declared.Job.{Job}
 use Rattle.jobs.specs.declared.stages.Stage.the-variants.{Unbegun}
-use Rattle.book.specs.JobBook.{River, dry, scoured, crossed, job, Jobs, none, _and_, Loaded}
+use Rattle.book.specs.JobBook.{River, dry, scoured, crossed, job, Jobs, none, _and_}
+use Rattle.book.specs.Beginning.{Loaded}
 use Rattle.book.specs.Values.{stage-of, scour-of, clearance-of, load-rows}
 use Rattle.book.specs.walk.Kept.{last-value}
 use Rattle.book.proofs.Steps.{GrowsBy, starts, scours, crosses, bears}

@@ -7,9 +7,19 @@ use lib.ListN.{length, length-append}
 use Rattle.arithmetic.proofs.Cases.{impossible}
 use Rattle.rows.specs.Form.{BookRow}
 use Rattle.kinds.specs.declared.Role.the-variants.{Base, Scour, Clearance, Load}
-use Rattle.book.specs.JobBook.{IsA, SameKey, River, dry, scoured, crossed, job, river-rows, LoadRows, no-load, load, is-dry, is-scoured, is-crossed, good, Jobs, none, _and_, count, rows-of, Loaded, Shaped, one-more, Different, new-key, Placed}
+use Rattle.book.specs.JobBook.{IsA, SameKey, River, dry, scoured, crossed, job, river-rows, LoadRows, no-load, load, is-dry, is-scoured, is-crossed, good, Jobs, none, _and_, count, rows-of, Whole, no-whole, one-whole, Different, new-key}
+use Rattle.book.specs.Beginning.{Shaped, no-job, one-more, Loaded, Placed}
 use Rattle.csv.proofs.Lists.{not-empty, lasts}
 use Rattle.book.proofs.Ends.{EmptyOrLast, empty, ended, ends}
+
+-- whole jobs are those that rows may be placed in with no load row missing
+pub whole-shaped : {js : Jobs} → Whole js → Shaped js × Loaded js
+whole-shaped no-whole = (no-job, tt)
+whole-shaped (one-whole w g l) = (one-more w g, l)
+
+pub shaped-whole : {js : Jobs} → Shaped js → Loaded js → Whole js
+shaped-whole no-job l = no-whole
+shaped-whole (one-more w g) l = one-whole w g l
 
 -- the jobs grow by a row
 pub data GrowsBy : Jobs → BookRow → Jobs → Type 0 where
@@ -36,19 +46,19 @@ extended : {ts l k : List BookRow} (r : BookRow) → ts ≡ l → l ++ r ∷ [] 
 extended r e f = ap (λ (t : List BookRow). t ++ r ∷ []) e ∙ f
 
 pub extend : {ts : List BookRow} {js ks : Jobs} {r : BookRow} → Placed ts js → GrowsBy js r ks → Placed (ts ++ r ∷ []) ks
-extend {r = r} p (starts {js} l k) = record { are = extended r (p .are) refl; shaped = one-more (p .shaped) l (good k is-dry no-load (omega arith)) }
+extend {r = r} p (starts {js} l k) = record { are = extended r (p .are) refl; shaped = one-more (shaped-whole (p .shaped) l) (good k is-dry no-load (omega arith)) }
 extend {r = r} p (scours {js} {b} k e) = record { are = extended r (p .are) (append-assoc (rows-of js) (b ∷ []) (r ∷ [])); shaped = scoured-on (p .shaped) k e }
   where
     scoured-on : {js : Jobs} {b r : BookRow} → Shaped (js and job b dry []) → IsA Scour r → SameKey b r → Shaped (js and job b (scoured r) [])
-    scoured-on (one-more s l (good h v ls f)) k e = one-more s l (good h (is-scoured k e) ls f)
+    scoured-on (one-more s (good h v ls f)) k e = one-more s (good h (is-scoured k e) ls f)
 extend {r = r} p (crosses {js} {b} {s} k e) = record { are = extended r (p .are) (append-assoc (rows-of js) (b ∷ s ∷ []) (r ∷ [])); shaped = crossed-on (p .shaped) k e }
   where
     crossed-on : {js : Jobs} {b s r : BookRow} → Shaped (js and job b (scoured s) []) → IsA Clearance r → SameKey b r → Shaped (js and job b (crossed s r) [])
-    crossed-on (one-more s l (good h (is-scoured a i) ls f)) k e = one-more s l (good h (is-crossed a i k e) ls f)
+    crossed-on (one-more s (good h (is-scoured a i) ls f)) k e = one-more s (good h (is-crossed a i k e) ls f)
 extend {r = r} p (bears {js} {b} {v = v} {ls} k e n) = record { are = extended r (p .are) (grown js b v ls r); shaped = borne-on (p .shaped) k e n }
   where
     borne-on : {js : Jobs} {b r : BookRow} {v : River} {ls : List BookRow} → Shaped (js and job b v ls) → IsA Load r → SameKey b r → length ls < 16 → Shaped (js and job b v (ls ++ r ∷ []))
-    borne-on {r = r} {ls = ls} (one-more s l (good h v ms f)) k e n = one-more s l (good h v (loads-more ms k e) (omega (arith, length-append ls (r ∷ []))))
+    borne-on {r = r} {ls = ls} (one-more s (good h v ms f)) k e n = one-more s (good h v (loads-more ms k e) (omega (arith, length-append ls (r ∷ []))))
 
 -- the jobs before the last row
 pub record Back (ts : List BookRow) (r : BookRow) (ks : Jobs) : Type 0 where
@@ -67,17 +77,17 @@ retract {ts} {r} none p = absurd (not-empty ts r (p .are))
 retract {ts} {r} (js and job b v ls) p = by-loads (ends ls) (p .are) (p .shaped)
   where
     by-river : (v : River) → ts ++ r ∷ [] ≡ rows-of (js and job b v []) → Shaped (js and job b v []) → Back ts r (js and job b v [])
-    by-river dry e (one-more s l (good h w ms f)) = back-to js e s (starts l h)
-    by-river (scoured a) e (one-more s l (good h (is-scoured k i) ms f)) =
-        back-to (js and job b dry []) (e ∙ sym (append-assoc (rows-of js) (b ∷ []) (a ∷ []))) (one-more s l (good h is-dry ms f)) (scours k i)
-    by-river (crossed a c) e (one-more s l (good h (is-crossed k i m n) ms f)) =
-        back-to (js and job b (scoured a) []) (e ∙ sym (append-assoc (rows-of js) (b ∷ a ∷ []) (c ∷ []))) (one-more s l (good h (is-scoured k i) ms f)) (crosses m n)
+    by-river dry e (one-more s (good h w ms f)) = let t = whole-shaped s in back-to js e (t .0) (starts (t .1) h)
+    by-river (scoured a) e (one-more s (good h (is-scoured k i) ms f)) =
+        back-to (js and job b dry []) (e ∙ sym (append-assoc (rows-of js) (b ∷ []) (a ∷ []))) (one-more s (good h is-dry ms f)) (scours k i)
+    by-river (crossed a c) e (one-more s (good h (is-crossed k i m n) ms f)) =
+        back-to (js and job b (scoured a) []) (e ∙ sym (append-assoc (rows-of js) (b ∷ a ∷ []) (c ∷ []))) (one-more s (good h (is-scoured k i) ms f)) (crosses m n)
 
     by-last : (fs : List BookRow) (x : BookRow) → ts ++ r ∷ [] ≡ rows-of (js and job b v (fs ++ x ∷ [])) → Shaped (js and job b v (fs ++ x ∷ [])) → Back ts r (js and job b v (fs ++ x ∷ []))
-    by-last fs x e (one-more s l (good h w ms f)) =
+    by-last fs x e (one-more s (good h w ms f)) =
         let m = loads-front fs ms in
         let n = length-append fs (x ∷ []) in
-        back-to (js and job b v fs) (e ∙ sym (grown js b v fs x)) (one-more s l (good h w (m .0) (omega arith))) (bears (m .1) (m .2) (omega arith))
+        back-to (js and job b v fs) (e ∙ sym (grown js b v fs x)) (one-more s (good h w (m .0) (omega arith))) (bears (m .1) (m .2) (omega arith))
 
     by-loads : {ls : List BookRow} → EmptyOrLast ls → ts ++ r ∷ [] ≡ rows-of (js and job b v ls) → Shaped (js and job b v ls) → Back ts r (js and job b v ls)
     by-loads (empty q) e s =

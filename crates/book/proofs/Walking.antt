@@ -16,7 +16,8 @@ use Rattle.rows.specs.declared.RowRead.{RowRead}
 use Rattle.jobs.specs.Place.{InPlace, grown}
 use Rattle.jobs.specs.Taking as taking
 use Rattle.jobs.specs.declared.Job.{Job}
-use Rattle.book.specs.JobBook.{Jobs, none, _and_, job, dry, count, Loaded, no-job, Forms, no-form, form, Begins, JobBook, Different, no-key, new-key, Used}
+use Rattle.book.specs.JobBook.{Jobs, none, _and_, job, dry, count, Forms, no-form, form, JobBook, Different, no-key, new-key, Used}
+use Rattle.book.specs.Beginning.{no-job, Loaded, Begins}
 use Rattle.rows.specs.keys.Among.{Among}
 use Rattle.rows.specs.keys.Beginning as beginning
 use Rattle.rows.specs.declared.keys.Beginning.{Beginning}

@@ -1,4 +1,5 @@
--- Document 01, the job book: what a job is, what a book of jobs is, and what the beginning of one is. Nothing here reads.
+-- Document 01, the job book: "A job is a B row, at most one S, at most one C (only after S), then 1 to 16 load rows .., all with one key.
+-- The next B starts the next job. At most 64 jobs, all keys different." What a job is, and what a book of jobs is.
 use Prim.Native.Nat.{ℕ, suc, _≤_}
 use mathlib.Core.Path.{_≡_}
 use mathlib.Core.List.{List, [], _∷_, _++_}
@@ -9,6 +10,7 @@ use Rattle.kinds.specs.declared.Role.{Role}
 use Rattle.kinds.specs.declared.Role.the-variants.{Base, Scour, Clearance, Load}
 use Rattle.rows.specs.Form.{BookRow, Form}
 
+-- what a row is to its job
 abbrev pub IsA : Role → BookRow → Type 0
 IsA p r = role (r .keyed .row .kind) ≡ p
 
@@ -45,12 +47,13 @@ pub data LoadRows (b : BookRow) : List BookRow → Type 0 where
   no-load : LoadRows b []
   load : {r : BookRow} {rs : List BookRow} → IsA Load r → SameKey b r → LoadRows b rs → LoadRows b (r ∷ rs)
 
+-- an S row and a C row where there are any, with the key of the B row
 pub data Rivers (b : BookRow) : River → Type 0 where
   is-dry : Rivers b dry
   is-scoured : {s : BookRow} → IsA Scour s → SameKey b s → Rivers b (scoured s)
   is-crossed : {s c : BookRow} → IsA Scour s → SameKey b s → IsA Clearance c → SameKey b c → Rivers b (crossed s c)
 
--- a job that is being taken up: at most 16 load rows, and perhaps none yet
+-- a B row, its river rows, and at most 16 load rows, all with one key
 pub data GoodJob : WrittenJob → Type 0 where
   good : {b : BookRow} {v : River} {ls : List BookRow} → IsA Base b → Rivers b v → LoadRows b ls → length ls ≤ 16 → GoodJob (job b v ls)
 
@@ -69,16 +72,6 @@ abbrev pub rows-of : Jobs → List BookRow
 rows-of none = []
 rows-of (js and j) = rows-of js ++ job-rows j
 
--- no load row is missing in the last of them
-abbrev pub Loaded : Jobs → Type 0
-Loaded none = Unit {0}
-Loaded (js and j) = 1 ≤ length (loads j)
-
--- each a good job; a next one only where the one before has a load row
-pub data Shaped : Jobs → Type 0 where
-  no-job : Shaped none
-  one-more : {js : Jobs} {j : WrittenJob} → Shaped js → Loaded js → GoodJob j → Shaped (js and j)
-
 -- a job among them has the row's key
 pub data Used (r : BookRow) : Jobs → Type 0 where
   last : {js : Jobs} {j : WrittenJob} → SameKey (base j) r → Used r (js and j)
@@ -89,29 +82,17 @@ pub data Different : Jobs → Type 0 where
   no-key : Different none
   new-key : {js : Jobs} {j : WrittenJob} → Different js → (Used (base j) js → ⊥) → Different (js and j)
 
--- each row in its place: these rows are those of these jobs, of which the last may lack load rows yet
-pub record Placed (rs : List BookRow) (js : Jobs) : Type 0 where
-  pub are : rs ≡ rows-of js
-  pub shaped : Shaped js
-
 -- the rows of a text, by their forms
 pub data Forms : List (List Cell) → List BookRow → Type 0 where
   no-form : Forms [] []
   form : {cs : List Cell} {r : BookRow} {css : List (List Cell)} {rs : List BookRow} → Form cs r → Forms css rs → Forms (cs ∷ css) (r ∷ rs)
-
--- rows that a job book may begin with
-pub record Begins (css : List (List Cell)) (rs : List BookRow) (js : Jobs) : Type 0 where
-  pub forms : Forms css rs
-  pub placed : Placed rs js
-  pub few : count js ≤ 64
-  pub different : Different js
 
 -- each job has 1 to 16 load rows
 pub data Whole : Jobs → Type 0 where
   no-whole : Whole none
   one-whole : {js : Jobs} {j : WrittenJob} → Whole js → GoodJob j → 1 ≤ length (loads j) → Whole (js and j)
 
--- the bytes are a book of these jobs
+-- the bytes are a book of these jobs: an RFC 4180 text whose rows have forms, and are those of the jobs one after the other
 pub record JobBook (s : List ℕ) (js : Jobs) : Type 0 where
   pub size : length s ≤ 65536
   pub rows : List (List Cell)

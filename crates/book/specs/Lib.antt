@@ -1,4 +1,5 @@
 pub mod JobBook
+pub mod Beginning
 pub mod Values
 pub mod Says
 pub mod Notes

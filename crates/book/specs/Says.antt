@@ -7,7 +7,8 @@ use Rattle.csv.specs.rfc4180.Rfc4180.{Cell, File, Readable}
 use Rattle.rows.specs.Form.{BookRow, Form}
 use Rattle.jobs.specs.declared.Job.{Job}
 use Rattle.rows.specs.refusals.Numbers.{refusal-number}
-use Rattle.book.specs.JobBook.{Jobs, count, Loaded, Different, Placed, Begins, JobBook}
+use Rattle.book.specs.JobBook.{Jobs, count, Different, JobBook}
+use Rattle.book.specs.Beginning.{Loaded, Placed, Begins}
 use Rattle.book.specs.counted.Places.{places}
 use Rattle.book.specs.Values.{values}
 use Rattle.book.specs.declared.counted.Count.{Count}

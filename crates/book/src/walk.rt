@@ -1,9 +1,9 @@
 // The rows of a job book, one by one (document 01, "The job book" and "Refusals of a book"): the jobs that they are; or the first bad row,
 // with its refusal, 3 to 6.
 //
-// What a job book is stands in `specs/JobBook.antt`, with no reader in it. The loop's invariant is in the same words:
-// the rows passed are rows that a job book may begin with, and the values held are those of their jobs. What is hard
-// is that the first bad row is the first with which no job book begins, wherever one might cut the jobs.
+// What a job book is stands in `specs/JobBook.antt`, and what rows one may begin with in `specs/Beginning.antt`, with no reader in either.
+// The loop's invariant is in the same words: the rows passed are rows that a job book may begin with, and the values held are those of
+// their jobs. What is hard is that the first bad row is the first with which no job book begins, wherever one might cut the jobs.
 use crate::counted;
 use crate::counted::Book;
 use crate::counted::Count;
