@@ -218,9 +218,12 @@ sorted-one {t = t} (text h f r) (text k g u) = rows-one (subst (λ (x : List (Li
 pub book-says-one : {s : List ℕ} {t u : BookTold} → BookSays s t → BookSays s u → t ≡ u
 book-says-one p q = sorted-one (sorted p) (sorted q)
 
--- a job book has one list of jobs, and one reading
+-- a job book has one reading: its rows with their cells, its jobs, and what its rows mean
+pub cells-one : {s : List ℕ} {js ks : Jobs} (b : JobBook s js) (c : JobBook s ks) → b .rows ≡ c .rows
+cells-one b c = file-unique (b .text) (c .text) refl
+
 pub book-one : {s : List ℕ} {js ks : Jobs} → JobBook s js → JobBook s ks → js ≡ ks
-book-one {ks = ks} b c = begins-one (book-begins b) (subst (λ (x : List (List Cell)). Begins x (c .typed) ks) (file-unique (c .text) (b .text) refl) (book-begins c))
+book-one {ks = ks} b c = begins-one (book-begins b) (subst (λ (x : List (List Cell)). Begins x (c .typed) ks) (cells-one c b) (book-begins c))
 
 pub reading-one : {s : List ℕ} {js ks : Jobs} (b : JobBook s js) (c : JobBook s ks) → b .typed ≡ c .typed
 reading-one b c = b .parts ∙ ap rows-of (book-one b c) ∙ sym (c .parts)

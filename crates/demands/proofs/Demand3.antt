@@ -51,7 +51,7 @@ demand3 fill = record {
   refused-none = refused-none fill;
   none-refused = none-refused fill;
   one-book = read.book-one;
-  one-reading = read.reading-one;
+  one-reading = λ x y. (read.cells-one x y, read.reading-one x y);
   same-lines = λ {js = js} {ks = ks} c d x y r s e.
       let v = wrote (call-on-job x (value-at js r) c) in
       let w = wrote (call-on-job y (value-at ks s) d) in

@@ -17,9 +17,9 @@ pub record Demand3 (fill : ℕ → ℕ → Coefficient) : Type 0 where
       → (js : Jobs) → JobBook b js → ⊥
   pub none-refused : {b : List ℕ} {place : ℕ} {before after : List ℕ} {t : CallTold} → Called fill b place before after t
       → ((js : Jobs) → JobBook b js → ⊥) → (n : ℕ) × (row : ℕ) × (t ≡ refused n row) × (1 ≤ n) × (n ≤ 6)
-  -- a book has one reading, of its jobs and of its rows with their notes
+  -- a book has one reading, of its jobs and of its rows, with their cells and their notes
   pub one-book : {b : List ℕ} {js ks : Jobs} → JobBook b js → JobBook b ks → js ≡ ks
-  pub one-reading : {b : List ℕ} {js ks : Jobs} (x : JobBook b js) (y : JobBook b ks) → x .typed ≡ y .typed
+  pub one-reading : {b : List ℕ} {js ks : Jobs} (x : JobBook b js) (y : JobBook b ks) → (x .rows ≡ y .rows) × (x .typed ≡ y .typed)
   -- two calls that wrote, for jobs with the same key, kinds and numbers, wrote the same bytes
   pub same-lines : {b c : List ℕ} {p q : ℕ} {before before′ after after′ : List ℕ} {m n : ℕ} {js ks : Jobs} {j k : WrittenJob}
       → Called fill b p before after (written m) → Called fill c q before′ after′ (written n)
