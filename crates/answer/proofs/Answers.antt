@@ -9,11 +9,11 @@ use Rattle.sets.specs.declared.Combination.the-variants.{I, II, III, IV}
 use Rattle.sets.specs.declared.Loads.{Loads}
 use Rattle.lines.specs.declared.Lines.{Lines}
 use Rattle.worst.proofs.Naming.{lines-one}
-use Rattle.loads.specs.Answer.{row-count}
 use Rattle.loads.proofs.Loaded.{loads-one}
 use Rattle.lines.specs.declared.Answer.{Answer}
 use Rattle.lines.proofs.verdicts.Answers.{Alike, alike-one}
 use Rattle.answer.proofs.river.Answers.{depth-one, clear-one}
+use Rattle.answer.specs.Rules.{load-rows-of}
 use Rattle.answer.specs.Answer.{base-of, LinesAre, LinesGiven, refusal, AnswerIs, refused, answered}
 
 module _ (fill : ℕ → ℕ → Coefficient) (job : Job) where
@@ -22,7 +22,7 @@ module _ (fill : ℕ → ℕ → Coefficient) (job : Job) where
 
   given-one : (a b : Answer) → LinesGiven fill job a → LinesGiven fill job b → a ≡ b
   given-one a b p q =
-      let e = loads-one fill (job .loads) (row-count (job .count)) (p .loads) (q .loads) (p .are) (q .are) in
+      let e = loads-one fill (load-rows-of job) (p .loads) (q .loads) (p .are) (q .are) in
       let k : Alike a b = record {
         one = lines-same I (a .one) (b .one) e (p .one) (q .one);
         two = lines-same II (a .two) (b .two) e (p .two) (q .two);

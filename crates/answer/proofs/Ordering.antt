@@ -14,7 +14,7 @@ use Rattle.earth.specs.declared.table2.Coefficient.{Coefficient}
 use Rattle.sets.specs.declared.Loads.{Loads}
 use Rattle.checks.specs.Sized.{Sized}
 use Rattle.loads.specs.LoadRows.{AllRanged, NoneBlank, optionals, AreLoads}
-use Rattle.loads.specs.Answer.{row-count, LoadsTold, refused, given, loads-told, loads-told-by, LoadsSays, out-of-range, blank, too-many, loaded, LoadsAnswered}
+use Rattle.loads.specs.Answer.{LoadsTold, refused, given, loads-told, loads-told-by, LoadsSays, out-of-range, blank, too-many, loaded, LoadsAnswered}
 use Rattle.loads.specs.declared.LoadsAnswer as answering
 use Rattle.loads.specs.declared.LoadsAnswer.the-variants as taking
 use Rattle.loads.specs.declared.LoadsRead.{LoadsRead}
@@ -23,37 +23,37 @@ use Rattle.answer.specs.river.River as says
 use Rattle.answer.specs.declared.river.RiverRead.{RiverRead}
 use Rattle.answer.specs.declared.river.RiverRead.the-variants as river
 use Rattle.answer.specs.Rules as rules
-use Rattle.answer.specs.Rules.{AllInRange, AllFilled, When, Refuses}
+use Rattle.answer.specs.Rules.{load-rows-of, AllInRange, AllFilled, When, Refuses}
 use Rattle.lines.specs.declared.Answer.{Answer}
 use Rattle.lines.specs.declared.RiverLine.{RiverLine}
 use Rattle.checks.specs.declared.Base.{Base}
 use Rattle.answer.specs.Answer.{base-of, LinesGiven, WholeIs, earlier, told-first}
 
 -- what the load rows are told
-module _ {fill : ℕ → ℕ → Coefficient} {rows : List Row} {n : ℕ} where
-  told-11 : {t : LoadsTold} → LoadsSays fill rows n t → t ≡ refused 11 → AllRanged rows n → ⊥
+module _ {fill : ℕ → ℕ → Coefficient} {rows : List Row} where
+  told-11 : {t : LoadsTold} → LoadsSays fill rows t → t ≡ refused 11 → AllRanged rows → ⊥
   told-11 (out-of-range h) e = h
   told-11 (blank a b) e = unlike 15 11 refl cc
   told-11 (too-many a b c) e = unlike 16 11 refl cc
   told-11 (loaded a b c d) e = impossible cc
 
-  told-15 : {t : LoadsTold} → LoadsSays fill rows n t → t ≡ refused 15 → AllRanged rows n × (NoneBlank fill rows n → ⊥)
+  told-15 : {t : LoadsTold} → LoadsSays fill rows t → t ≡ refused 15 → AllRanged rows × (NoneBlank fill rows → ⊥)
   told-15 (out-of-range h) e = unlike 11 15 refl cc
   told-15 (blank a b) e = (a, b)
   told-15 (too-many a b c) e = unlike 16 15 refl cc
   told-15 (loaded a b c d) e = impossible cc
 
-  told-16 : {t : LoadsTold} → LoadsSays fill rows n t → t ≡ refused 16 → AllRanged rows n × NoneBlank fill rows n × (12 < optionals rows n)
+  told-16 : {t : LoadsTold} → LoadsSays fill rows t → t ≡ refused 16 → AllRanged rows × NoneBlank fill rows × (12 < optionals rows)
   told-16 (out-of-range h) e = unlike 11 16 refl cc
   told-16 (blank a b) e = unlike 15 16 refl cc
   told-16 (too-many a b c) e = (a, b, c)
   told-16 (loaded a b c d) e = impossible cc
 
-  told-loads : {t : LoadsTold} {loads : Loads} → LoadsSays fill rows n t → t ≡ given loads → AllRanged rows n × NoneBlank fill rows n × (optionals rows n ≤ 12) × AreLoads fill rows n loads
+  told-loads : {t : LoadsTold} {loads : Loads} → LoadsSays fill rows t → t ≡ given loads → AllRanged rows × NoneBlank fill rows × (optionals rows ≤ 12) × AreLoads fill rows loads
   told-loads (out-of-range h) e = impossible cc
   told-loads (blank a b) e = impossible cc
   told-loads (too-many a b c) e = impossible cc
-  told-loads (loaded a b c d) e = (a, b, c, subst (AreLoads fill rows n) (cc) d)
+  told-loads (loaded a b c d) e = (a, b, c, subst (AreLoads fill rows) (cc) d)
 
 -- what is asked only of the numbers before n is not asked of n or of a later one
 late : {A : Type 0} {k n : ℕ} → n ≤ k → k < n → A
@@ -63,7 +63,7 @@ late h l = absurd (omega arith)
 module _ (fill : ℕ → ℕ → Coefficient) (job : Job) where
   -- no number before n has its condition, if the conditions before n's own are known not to hold
   module _ (n : ℕ) (ranged : 11 < n → AllInRange job) (catchment : 12 < n → LargeCatchment job → ⊥) (intensity : 13 < n → TooIntense job → ⊥)
-      (obstruction : 14 < n → OverObstructed job → ⊥) (filled : 15 < n → AllFilled fill job) (few : 16 < n → optionals (job .loads) (row-count (job .count)) ≤ 12) where
+      (obstruction : 14 < n → OverObstructed job → ⊥) (filled : 15 < n → AllFilled fill job) (few : 16 < n → optionals (load-rows-of job) ≤ 12) where
     not-before : {m : ℕ} → (m < n → ⊥) → n ≤ m
     not-before h = omega (arith, h)
 
@@ -93,14 +93,14 @@ module _ (fill : ℕ → ℕ → Coefficient) (job : Job) where
         refuses-15 : (AllFilled fill job → ⊥) → Refuses fill job 15
         refuses-15 h = record { holds = rules.blank h; least = least 15 (λ _. a) (λ _. p .catchment) (λ _. p .intensity) (λ _. o) (late (lit≤ tt)) (late (lit≤ tt)) }
 
-        refuses-16 : AllFilled fill job → 12 < optionals (job .loads) (row-count (job .count)) → Refuses fill job 16
+        refuses-16 : AllFilled fill job → 12 < optionals (load-rows-of job) → Refuses fill job 16
         refuses-16 f h = record { holds = rules.too-many h; least = least 16 (λ _. a) (λ _. p .catchment) (λ _. p .intensity) (λ _. o) (λ _. f) (late (lit≤ tt)) }
 
-        unrefused : AllFilled fill job → optionals (job .loads) (row-count (job .count)) ≤ 12 → {m : ℕ} → When fill job m → ⊥
+        unrefused : AllFilled fill job → optionals (load-rows-of job) ≤ 12 → {m : ℕ} → When fill job m → ⊥
         unrefused f h {m} w = omega (arith, least (m + 1) (λ _. a) (λ _. p .catchment) (λ _. p .intensity) (λ _. o) (λ _. f) (λ _. h) m w)
 
   -- what is left to show where the base and the load rows are in range
-  module _ (b : Ranged B (job .base)) (l : AllRanged (job .loads) (row-count (job .count))) where
+  module _ (b : Ranged B (job .base)) (l : AllRanged (load-rows-of job)) where
     pub all-ranged : RiverRanged job → AllInRange job
     all-ranged r = record { rows = record { base = b; scour = r .scour; clearance = r .clearance }; loads = l }
 
@@ -134,7 +134,7 @@ module _ (fill : ℕ → ℕ → Coefficient) (job : Job) (t : LoadsRead) (w : L
         first fill job b (k .0) x 16 s (λ a p o. refuses-16 fill job a p o (k .1) (k .2))
 
     module _ (e : t .answer ≡ taking.Given) where
-      told-given : AllRanged (job .loads) (row-count (job .count)) × NoneBlank fill (job .loads) (row-count (job .count)) × (optionals (job .loads) (row-count (job .count)) ≤ 12) × AreLoads fill (job .loads) (row-count (job .count)) (t .loads)
+      told-given : AllRanged (load-rows-of job) × NoneBlank fill (load-rows-of job) × (optionals (load-rows-of job) ≤ 12) × AreLoads fill (load-rows-of job) (t .loads)
       unfolding loads-told loads-told-by
       told-given = told-loads (w .says) (ap (λ a. loads-told-by a (t .loads)) e)
 

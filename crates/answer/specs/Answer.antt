@@ -14,7 +14,6 @@ use Rattle.lines.specs.declared.Lines.{Lines}
 use Rattle.lines.specs.Lines.{no-lines}
 use Rattle.worst.specs.Lines as worst
 use Rattle.loads.specs.LoadRows.{AreLoads}
-use Rattle.loads.specs.Answer.{row-count}
 use Rattle.loads.specs.declared.LoadsAnswer as loads
 use Rattle.loads.specs.declared.LoadsAnswer.the-variants as taking
 use Rattle.lines.specs.declared.Verdict.the-variants.{Refused}
@@ -25,7 +24,7 @@ use Rattle.lines.specs.verdicts.Verdict.{VerdictIs}
 use Rattle.answer.specs.river.River.{DepthIs, ClearIs}
 use Rattle.answer.specs.declared.river.RiverRead.{RiverRead}
 use Rattle.answer.specs.declared.river.RiverRead.the-variants as river
-use Rattle.answer.specs.Rules.{Refuses, Unrefused}
+use Rattle.answer.specs.Rules.{load-rows-of, Refuses, Unrefused}
 
 -- width B, length L, allowable pressure, friction, and whether the strata are rock
 abbrev pub base-of : Numbers → Base
@@ -39,7 +38,7 @@ LinesAre combination base loads lines = (check : Check) → worst.LineSays combi
 pub record LinesGiven (fill : ℕ → ℕ → Coefficient) (job : Job) (a : Answer) : Type 0 where
   pub unrefused : Unrefused fill job
   pub loads : Loads
-  pub are : AreLoads fill (job .loads) (row-count (job .count)) loads
+  pub are : AreLoads fill (load-rows-of job) loads
   pub one : LinesAre I (base-of (job .base)) loads (a .one)
   pub two : LinesAre II (base-of (job .base)) loads (a .two)
   pub three : LinesAre III (base-of (job .base)) loads (a .three)

@@ -1,21 +1,27 @@
 -- Document 01, Refusals of a job: 11 to 16, over the whole job. `fill` is what is held for a soil and a slope: today Table 2.
 use Prim.Native.Nat.{ℕ, _<_}
+use mathlib.Core.List.{List}
+use lib.ListN.{take}
 use Rattle.arithmetic.specs.rounding.Least.{Least}
+use Rattle.kinds.specs.declared.Row.{Row}
 use Rattle.jobs.specs.declared.Job.{Job}
 use Rattle.earth.specs.declared.table2.Coefficient.{Coefficient}
 use Rattle.loads.specs.LoadRows.{AllRanged, NoneBlank, optionals}
-use Rattle.loads.specs.Answer.{row-count}
 use Rattle.jobs.specs.stages.Rows.{RowsRanged}
 use Rattle.answer.specs.river.River.{LargeCatchment, TooIntense, OverObstructed}
+
+-- the job's load rows
+abbrev pub load-rows-of : Job → List Row
+load-rows-of job = take (job .count) (job .loads)
 
 -- every number of every row is in its range
 pub record AllInRange (job : Job) : Type 0 where
   pub rows : RowsRanged job
-  pub loads : AllRanged (job .loads) (row-count (job .count))
+  pub loads : AllRanged (load-rows-of job)
 
 -- Table 2 is blank for no E row
 abbrev pub AllFilled : (ℕ → ℕ → Coefficient) → Job → Type 0
-AllFilled fill job = NoneBlank fill (job .loads) (row-count (job .count))
+AllFilled fill job = NoneBlank fill (load-rows-of job)
 
 -- "given exactly when"
 pub data When (fill : ℕ → ℕ → Coefficient) (job : Job) : ℕ → Type 0 where
@@ -30,7 +36,7 @@ pub data When (fill : ℕ → ℕ → Coefficient) (job : Job) : ℕ → Type 0 
   -- Table 2 is blank there
   blank : (AllFilled fill job → ⊥) → When fill job 15
   -- more than 12 optional load rows
-  too-many : 12 < optionals (job .loads) (row-count (job .count)) → When fill job 16
+  too-many : 12 < optionals (load-rows-of job) → When fill job 16
 
 -- "Order as numbered": a job is refused with the least of its numbers
 abbrev pub Refuses : (ℕ → ℕ → Coefficient) → Job → ℕ → Type 0

@@ -5,7 +5,7 @@ use Rattle.jobs.specs.declared.Job.{Job}
 use Rattle.earth.specs.declared.table2.Coefficient.{Coefficient}
 use Rattle.sets.specs.declared.Combination.the-variants.{I, II, III, IV}
 use Rattle.worst.proofs.Sets.{sets-fit}
-use Rattle.loads.proofs.Answering.{rows-few}
+use Rattle.loads.proofs.Loaded.{loads-few}
 use Rattle.lines.specs.declared.Answer.{Answer}
 use Rattle.lines.specs.Lines.{no-lines, SetFits, SetsFit, Numbered}
 use Rattle.answer.specs.Answer.{AnswerIs, refused, answered}
@@ -16,8 +16,8 @@ none-fit = record { op = tt; om = tt; sl = tt; pr = tt; rk = tt }
 
 pub numbered : {fill : ℕ → ℕ → Coefficient} {job : Job} {a : Answer} → AnswerIs fill job a → Numbered a
 numbered (refused {n} p e) = subst Numbered (sym e) (record { one = none-fit; two = none-fit; three = none-fit; four = none-fit })
-numbered {job = job} {a} (answered p) =
-    let few : p .loads .count ≤ 16 = subst (λ (n : ℕ). n ≤ 16) (sym (p .are .count)) (rows-few (job .count)) in
+numbered {a = a} (answered p) =
+    let few : p .loads .count ≤ 16 = loads-few _ _ (p .loads) (p .are) in
     record {
       one = sets-fit I _ (p .loads) few (a .one) (p .one);
       two = sets-fit II _ (p .loads) few (a .two) (p .two);

@@ -17,7 +17,6 @@ use Rattle.lines.specs.declared.Lines.{Lines}
 use Rattle.checks.specs.limits.Limits.{Limit}
 use Rattle.worst.specs.Lines as worst
 use Rattle.loads.specs.LoadRows.{AreLoads}
-use Rattle.loads.specs.Answer.{row-count}
 use Rattle.loads.proofs.Loaded.{loads-one}
 use Rattle.lines.specs.declared.Verdict.{Verdict}
 use Rattle.lines.specs.declared.Verdict.the-variants.{Accepted, NotAccepted, Refused}
@@ -25,7 +24,7 @@ use Rattle.lines.specs.declared.RiverLine.{RiverLine}
 use Rattle.lines.specs.declared.RiverLine.the-variants as river
 use Rattle.lines.specs.declared.Answer.{Answer}
 use Rattle.lines.specs.Lines.{LineName, PrintedLine, VERDICT, check, SC, CL, verdict-line, check-line, combination-lines, river-line, later-lines, unless-refused, lines-of}
-use Rattle.answer.specs.Rules.{Unrefused}
+use Rattle.answer.specs.Rules.{load-rows-of, Unrefused}
 use Rattle.lines.specs.verdicts.Verdict.{VerdictIs}
 use Rattle.answer.specs.Answer.{base-of, LinesAre, LinesGiven, refusal, AnswerIs, refused, answered}
 use Rattle.csv.specs.notes.Notes.{Nth}
@@ -40,7 +39,7 @@ module _ (fill : ℕ → ℕ → Coefficient) (job : Job) where
   named-same : {c d : Combination} {k m : Check} {l : PrintedLine} → c ≡ d → k ≡ m → NamesSet fill job c k l → NamesSet fill job d m l
   named-same {d = d} {k} {l = l} e f p = subst (λ (x : Check). NamesSet fill job d x l) f (subst (λ (x : Combination). NamesSet fill job x k l) e p)
 
-  module _ (loads : Loads) (are : AreLoads fill (job .loads) (row-count (job .count)) loads) where
+  module _ (loads : Loads) (are : AreLoads fill (load-rows-of job) loads) where
     check-named : (c : Combination) (k : Check) (l : Line) → worst.LineSays c k (base-of (job .base)) loads l → all.All IsNamed (check-line c k l)
     unfolding IsNamed check-line worst.LineSays
     check-named c k Missing p = all.none
@@ -102,7 +101,7 @@ module _ (fill : ℕ → ℕ → Coefficient) (job : Job) where
 IsOf : Combination → Check → PrintedLine → Type 0
 IsOf combination of l = l .name ≡ check combination of
 
-module _ (fill : ℕ → ℕ → Coefficient) (job : Job) (loads : Loads) (are : AreLoads fill (job .loads) (row-count (job .count)) loads) where
+module _ (fill : ℕ → ℕ → Coefficient) (job : Job) (loads : Loads) (are : AreLoads fill (load-rows-of job) loads) where
   module _ (c : Combination) (set limit : ℕ) (permitted : Permitted c loads set) where
     check-shown : (k : Check) (l : Line) → worst.LineSays c k (base-of (job .base)) loads l → Limit c k (base-of (job .base)) limit → all.Some (IsOf c k) (check-line c k l)
     unfolding IsOf check-line worst.LineSays
@@ -147,5 +146,5 @@ module _ (fill : ℕ → ℕ → Coefficient) (job : Job) (loads : Loads) (are :
   unfolding lines-of IsOf
   line-shown a c k set (refused {n} p e) u limit h s = absurd (u n (p .holds))
   line-shown a c k set (answered g) u limit h s =
-      let e = loads-one fill (job .loads) (row-count (job .count)) (g .loads) loads (g .are) are in
+      let e = loads-one fill (load-rows-of job) (g .loads) loads (g .are) are in
       all.some-at (all.later (unless-shown (a .verdict) a c k (g .verdict) (later-shown c k set limit s h a g e)))

@@ -26,7 +26,6 @@ use Rattle.checks.specs.passing.Passing.{Passes}
 use Rattle.checks.proofs.limits.Limiting.{limit-one}
 use Rattle.worst.specs.Lines as worst
 use Rattle.worst.proofs.Naming.{worst-decides}
-use Rattle.loads.specs.Answer.{row-count}
 use Rattle.loads.proofs.Loaded.{loads-one}
 use Rattle.lines.specs.declared.Verdict.{Verdict}
 use Rattle.lines.specs.declared.Verdict.the-variants.{Accepted, NotAccepted, Refused}
@@ -34,6 +33,7 @@ use Rattle.lines.specs.declared.RiverLine.{RiverLine}
 use Rattle.lines.specs.declared.RiverLine.the-variants as river
 use Rattle.lines.specs.declared.Answer.{Answer}
 use Rattle.jobs.specs.stages.Rows.{HasClearance}
+use Rattle.answer.specs.Rules.{load-rows-of}
 use Rattle.answer.specs.river.River.{Founded, DepthIs, ClearIs}
 use Rattle.answer.proofs.river.Answers.{clear-one}
 use Rattle.lines.specs.verdicts.Verdict.{LineYes, LinesYes, RiverYes, AllYes, VerdictIs}
@@ -129,7 +129,7 @@ module _ (fill : ℕ → ℕ → Coefficient) (job : Job) (a : Answer) where
   sound-yes : LinesGiven fill job a → Sound fill job → AllYes a
   unfolding AllPass
   sound-yes g s =
-      let e = loads-one fill (job .loads) (row-count (job .count)) (s .loads) (g .loads) (s .are) (g .are) in
+      let e = loads-one fill (load-rows-of job) (s .loads) (g .loads) (s .are) (g .are) in
       let h = subst (Bears (base-of (job .base))) e (s .bears) in
       record {
         one = lines-yes I _ (g .loads) (a .one) (g .one) (h I);

@@ -29,12 +29,11 @@ use Rattle.checks.specs.limits.Limits.{Limit}
 use Rattle.checks.specs.passing.Passing.{Passes}
 use Rattle.worst.specs.Lines.{Printed}
 use Rattle.loads.specs.LoadRows.{AreLoads}
-use Rattle.loads.specs.Answer.{row-count}
 use Rattle.lines.specs.declared.Answer.{Answer}
 use Rattle.lines.specs.Lines.{PrintedLine, check, holds, value-of, mark-of, lines-of}
 use Rattle.jobs.specs.stages.Rows.{HasClearance}
 use Rattle.answer.specs.river.River.{Founded}
-use Rattle.answer.specs.Rules.{Unrefused}
+use Rattle.answer.specs.Rules.{load-rows-of, Unrefused}
 use Rattle.answer.specs.Answer.{base-of, AnswerIs}
 use Rattle.printing.specs.Keys.{IsKey}
 use Rattle.printing.specs.Text.{texts}
@@ -95,7 +94,7 @@ pub record Clear (job : Job) : Type 0 where
 pub record Sound (fill : ℕ → ℕ → Coefficient) (job : Job) : Type 0 where
   pub unrefused : Unrefused fill job
   pub loads : Loads
-  pub are : AreLoads fill (job .loads) (row-count (job .count)) loads
+  pub are : AreLoads fill (load-rows-of job) loads
   pub bears : Bears (base-of (job .base)) loads
   pub deep : Founded job → Deep job
   pub clear : HasClearance (job .stage) → Clear job
@@ -105,7 +104,7 @@ pub record Sound (fill : ℕ → ℕ → Coefficient) (job : Job) : Type 0 where
 -- it shows the figure of the permitted set that it names, beside the limit; no permitted set is worse (`Printed`)
 pub record NamesSet (fill : ℕ → ℕ → Coefficient) (job : Job) (combination : Combination) (of : Check) (line : PrintedLine) : Type 0 where
   pub loads : Loads
-  pub are : AreLoads fill (job .loads) (row-count (job .count)) loads
+  pub are : AreLoads fill (load-rows-of job) loads
   pub figure : Figure
   pub limit : ℕ
   pub set : ℕ
@@ -116,7 +115,7 @@ pub record NamesSet (fill : ℕ → ℕ → Coefficient) (job : Job) (combinatio
 -- the combination has the check, by its limit, and permits a set of the job's loads
 pub record Checked (fill : ℕ → ℕ → Coefficient) (job : Job) (combination : Combination) (of : Check) : Type 0 where
   pub loads : Loads
-  pub are : AreLoads fill (job .loads) (row-count (job .count)) loads
+  pub are : AreLoads fill (load-rows-of job) loads
   pub limit : ℕ
   pub limited : Limit combination of (base-of (job .base)) limit
   pub set : ℕ

@@ -1,8 +1,7 @@
 -- What one DL row exerts, the loads of that row alone, and OP of the set of it: by a test that is computed of what resists and what overturns.
 use mathlib.Core.Path.{_≡_, refl, subst⁻¹}
 use mathlib.Core.List.{[], _∷_}
-use Prim.Native.Nat.{ℕ, zero, suc, _*_, _≤_, _<_}
-use native.Mathlib.Omega.{arith}
+use Prim.Native.Nat.{ℕ, zero, suc, _*_}
 use lib.Dec.{T, ltb, ltb→lt}
 use lib.IntN.{pos, _*ℤ_}
 use lib.ListN.{replicate}
@@ -13,16 +12,20 @@ use Rattle.arithmetic.specs.signed.Whole.{amount}
 use Rattle.sets.specs.declared.Class.the-variants.{Permanent}
 use Rattle.sets.specs.declared.Load.{Load}
 use Rattle.sets.specs.declared.Loads.{Loads}
-use Rattle.sets.specs.Sets.{row, no-load}
+use Rattle.sets.specs.Sets.{no-load}
 use Rattle.sums.specs.Totals.{plus, resisting, overturning}
 use Rattle.checks.specs.declared.Figure.the-variants.{Number}
 use Rattle.checks.specs.ranks.Figures.{Tips}
 use Rattle.checks.specs.set_figures.Figures.{Shows}
 use Rattle.kinds.specs.classes.Classes.{class-of, source}
 use Rattle.loads.specs.forces.Exerts.{Forces, Exerts}
-use Rattle.loads.specs.LoadRows.{load-row, AreLoads}
-use Rattle.loads.proofs.Laying.{all-no-load}
+use Rattle.loads.specs.LoadRows.{Laid, AreLoads}
 use Rattle.figures.specs.Figures.{dead-load, Overturns}
+
+no-more : (n : ℕ) → Laid table2-fill [] (replicate n no-load)
+unfolding Laid
+no-more zero = tt
+no-more (suc n) = (refl, no-more n)
 
 module _ (v x h y : ℕ) where
   abbrev pub exerted : Load
@@ -43,17 +46,9 @@ module _ (v x h y : ℕ) where
   unfolding class-of source Forces value
   exerts = record { class = refl; phase = refl; forces = record { v = refl; x = refl; h = refl; twist = refl } }
 
-  are-loads : AreLoads table2-fill (dead-load v x h y ∷ []) 1 alone
-  unfolding row load-row
-  are-loads = record { count = refl; whole = refl; each = each; rest = rest }
-    where
-      each : (i : ℕ) → i < 1 → Exerts table2-fill (load-row (dead-load v x h y ∷ []) i) (row alone i)
-      each zero h = exerts
-      each (suc i) h = absurd (omega arith)
-
-      rest : (i : ℕ) → 1 ≤ i → row alone i ≡ no-load
-      rest zero h = absurd (omega arith)
-      rest (suc i) h = all-no-load 15 i
+  are-loads : AreLoads table2-fill (dead-load v x h y ∷ []) alone
+  unfolding Laid
+  are-loads = record { count = refl; places = refl; laid = (exerts, no-more 15) }
 
   pub overturns-test : (B figure : ℕ) → T (ltb 0 (overturning plus B alone 1)) → T (is-down (100 * resisting plus B alone 1) (overturning plus B alone 1) figure)
       → Overturns B (dead-load v x h y) figure

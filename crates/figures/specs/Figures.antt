@@ -28,7 +28,7 @@ dead-load v x h y =
 -- OP of the set of one row, on a base of width B whatever else it is: the loads are those of that row and of no other, and the row counts 1
 pub record Overturns (B : ℕ) (row : Row) (figure : ℕ) : Type 0 where
   pub loads : Loads
-  pub its-loads : AreLoads table2-fill (row ∷ []) 1 loads
+  pub its-loads : AreLoads table2-fill (row ∷ []) loads
   pub shows : (base : Base) → base .width ≡ B → Shows OP base loads 1 (Number figure)
 
 -- PR by either rule

@@ -1,28 +1,31 @@
 -- The answer for a job's load rows is one, and the loads that are given are bounded.
 use mathlib.Core.Path.{_≡_, refl, sym, _∙_, ap, subst, subst⁻¹}
 use mathlib.Core.Bool.{Bool, true, false, cond}
-use mathlib.Core.List.{List}
-use borrow.Author.Tests.{ltb-false}
+use mathlib.Core.List.{List, [], _∷_}
+use borrow.Author.Tests.{ltb-true}
 use lib.Dec.{ltb}
-use Prim.Native.Nat.{ℕ, _≤_, _<_}
+use lib.ListN.{getD, length, take}
+use lib.Seq.{take-all}
+use Prim.Native.Nat.{ℕ, zero, suc, _<_}
 use native.Mathlib.Omega.{arith}
 use Rattle.arithmetic.proofs.Cases.{impossible, unlike}
 use Rattle.kinds.specs.declared.Row.{Row}
 use Rattle.earth.specs.declared.table2.Coefficient.{Coefficient}
 use Rattle.earth.specs.table2.Table2.{LowCoefficient}
+use Rattle.sets.specs.declared.Load.{Load}
 use Rattle.sets.specs.declared.Loads.{Loads}
-use Rattle.sets.specs.Sets.{Bounded}
+use Rattle.sets.specs.Sets.{row, no-load, BoundedLoad, Bounded}
 use Rattle.loads.proofs.forces.Exerting.{exerts-bounded}
-use Rattle.loads.specs.LoadRows.{load-row, AllRanged, AreLoads}
-use Rattle.loads.proofs.Loaded.{loads-one}
+use Rattle.loads.specs.LoadRows.{Every, AllRanged, Laid, AreLoads}
+use Rattle.loads.proofs.Loaded.{loads-one, loads-few}
 use Rattle.loads.specs.declared.LoadsAnswer.{LoadsAnswer}
 use Rattle.loads.specs.declared.LoadsAnswer.the-variants.{OutOfRange, NoCoefficient, TooManyOptional, Given}
 use Rattle.loads.specs.declared.LoadsRead.{LoadsRead}
 use Rattle.loads.specs.Answer.{LoadsTold, given, loads-told, loads-told-by, LoadsSays, out-of-range, blank, too-many, loaded, row-count, no-loads, Beside, LoadsAnswered}
 
 -- ---- the rows are told one answer
-module _ (fill : ℕ → ℕ → Coefficient) (rows : List Row) (n : ℕ) where
-  pub loads-says-one : {t u : LoadsTold} → LoadsSays fill rows n t → LoadsSays fill rows n u → t ≡ u
+module _ (fill : ℕ → ℕ → Coefficient) (rows : List Row) where
+  pub loads-says-one : {t u : LoadsTold} → LoadsSays fill rows t → LoadsSays fill rows u → t ≡ u
   loads-says-one (out-of-range x) (out-of-range y) = refl
   loads-says-one (out-of-range x) (blank y z) = absurd (x y)
   loads-says-one (out-of-range x) (too-many y z w) = absurd (x y)
@@ -38,7 +41,16 @@ module _ (fill : ℕ → ℕ → Coefficient) (rows : List Row) (n : ℕ) where
   loads-says-one (loaded x y z l) (out-of-range w) = absurd (w x)
   loads-says-one (loaded x y z l) (blank w v) = absurd (v y)
   loads-says-one (loaded x y z l) (too-many w v u) = absurd (omega arith)
-  loads-says-one (loaded x y z l) (loaded w v u m) = ap given (loads-one fill rows n _ _ l m)
+  loads-says-one (loaded x y z l) (loaded w v u m) = ap given (loads-one fill rows _ _ l m)
+
+-- ---- of 16 rows the first `count` are looked at
+pub first-rows : (rows : List Row) (count : ℕ) → length rows ≡ 16 → take (row-count count) rows ≡ take count rows
+unfolding row-count
+first-rows rows count whole = go (ltb 16 count) refl
+  where
+    go : (t : Bool) → ltb 16 count ≡ t → take (cond t 16 count) rows ≡ take count rows
+    go true e = take-all 16 rows (omega arith) ∙ sym (take-all count rows (omega (arith, ltb-true 16 count e)))
+    go false e = refl
 
 -- ---- no second answer meets the promise of `loads_of`
 back : (a b : LoadsAnswer) (l m : Loads) → loads-told-by a l ≡ loads-told-by b m → Beside a l → Beside b m → (a ≡ b) × (l ≡ m)
@@ -63,33 +75,32 @@ back Given Given l m e p q = (refl, cc)
 pub loads-of-one : (fill : ℕ → ℕ → Coefficient) (rows : List Row) (count : ℕ) (a b : LoadsRead) → LoadsAnswered fill rows count a → LoadsAnswered fill rows count b → a ≡ b
 unfolding loads-told
 loads-of-one fill rows count a b p q =
-    let w = back (a .answer) (b .answer) (a .loads) (b .loads) (loads-says-one fill rows (row-count count) (p .says) (q .says)) (p .beside) (q .beside) in
+    let w = back (a .answer) (b .answer) (a .loads) (b .loads) (loads-says-one fill (take count rows) (p .says) (q .says)) (p .beside) (q .beside) in
     λ i. record { answer = w .0 i; loads = w .1 i }
 
 -- ---- the loads that are given are bounded, whatever coefficients up to 40,000 are held
-given-loads : (fill : ℕ → ℕ → Coefficient) (rows : List Row) (n : ℕ) {t : LoadsTold} → LoadsSays fill rows n t → (loads : Loads) → t ≡ given loads → AllRanged rows n × AreLoads fill rows n loads
-given-loads fill rows n (out-of-range x) loads e = impossible cc
-given-loads fill rows n (blank x y) loads e = impossible cc
-given-loads fill rows n (too-many x y z) loads e = impossible cc
-given-loads fill rows n (loaded x y z l) loads e = (x, subst (AreLoads fill rows n) (cc) l)
+given-loads : (fill : ℕ → ℕ → Coefficient) (rows : List Row) {t : LoadsTold} → LoadsSays fill rows t → (loads : Loads) → t ≡ given loads → AllRanged rows × AreLoads fill rows loads
+given-loads fill rows (out-of-range x) loads e = impossible cc
+given-loads fill rows (blank x y) loads e = impossible cc
+given-loads fill rows (too-many x y z) loads e = impossible cc
+given-loads fill rows (loaded x y z l) loads e = (x, subst (AreLoads fill rows) (cc) l)
 
-pub rows-few : (count : ℕ) → row-count count ≤ 16
-unfolding row-count
-rows-few count = go (ltb 16 count) refl
-  where
-    go : (t : Bool) → ltb 16 count ≡ t → cond t 16 count ≤ 16
-    go true e = omega arith
-    go false e = ltb-false 16 count e
+laid-bounded : (fill : ℕ → ℕ → Coefficient) → ((soil slope : ℕ) → LowCoefficient (fill soil slope)) → (rows : List Row) (loads : List Load) → AllRanged rows → Laid fill rows loads
+    → (i : ℕ) → i < length rows → BoundedLoad (getD loads i no-load)
+unfolding Every Laid
+laid-bounded fill small [] loads r l i h = absurd (omega arith)
+laid-bounded fill small (x ∷ rows) [] r l i h = absurd l
+laid-bounded fill small (x ∷ rows) (y ∷ loads) r l zero h = exerts-bounded fill small x y (r .0) (l .0)
+laid-bounded fill small (x ∷ rows) (y ∷ loads) r l (suc i) h = laid-bounded fill small rows loads (r .1) (l .1) i (omega arith)
 
 pub given-bounded : (fill : ℕ → ℕ → Coefficient) → ((soil slope : ℕ) → LowCoefficient (fill soil slope)) → (rows : List Row) (count : ℕ) (taken : LoadsRead) → LoadsAnswered fill rows count taken
     → taken .answer ≡ Given → Bounded (taken .loads)
-unfolding loads-told loads-told-by AllRanged
+unfolding loads-told loads-told-by row
 given-bounded fill small rows count taken a e =
-    let w = given-loads fill rows (row-count count) (a .says) (taken .loads) (ap (λ (x : LoadsAnswer). loads-told-by x (taken .loads)) e) in
+    let w = given-loads fill (take count rows) (a .says) (taken .loads) (ap (λ (x : LoadsAnswer). loads-told-by x (taken .loads)) e) in
     record {
-      count = subst⁻¹ (λ (m : ℕ). m ≤ 16) (w .1 .count) (rows-few count);
-      each = λ i h. let k : i < row-count count = subst (λ (m : ℕ). i < m) (w .1 .count) h in
-          exerts-bounded fill small (load-row rows i) _ (w .0 i k) (w .1 .each i k);
+      count = loads-few fill (take count rows) (taken .loads) (w .1);
+      each = λ i h. laid-bounded fill small (take count rows) (taken .loads .loads) (w .0) (w .1 .laid) i (subst (λ (m : ℕ). i < m) (w .1 .count) h);
     }
 
 -- whatever the answer, the loads that stand beside it are bounded

@@ -6,7 +6,7 @@ use mathlib.Core.Path.{_≡_, refl, _∙_, ap, ap₂}
 use mathlib.Core.Bool.{Bool, true, false}
 use mathlib.Core.List.{List}
 use Prim.Native.Nat.{ℕ, _+_, _≤_, _<_}
-use lib.ListN.{length, set, length-set}
+use lib.ListN.{length, take, set, length-set}
 use Rattle.arithmetic.specs.decides.Decides.{Decides, decides-same}
 use Rattle.arithmetic.proofs.Cases.{impossible}
 use Rattle.kinds.specs.declared.Row.{Row}
@@ -19,9 +19,10 @@ use Rattle.sets.specs.declared.Load.{Load}
 use Rattle.loads.specs.forces.Blank.{BlankThere}
 use Rattle.loads.specs.forces.Exerted.{LoadOf}
 use Rattle.loads.specs.declared.forces.RowLoad.the-variants.{OutOfRange, NoCoefficient, Exerted}
-use Rattle.loads.specs.LoadRows.{load-row, AllRanged, NoneBlank, optionals}
+use Rattle.loads.proofs.FirstRows.{load-row, FirstEvery, first-every, every-first, first-optionals, optionals-first}
+use Rattle.loads.specs.Asking.{AskedIs}
 use Rattle.loads.proofs.forces.Exerting.{blank-ranged}
-use Rattle.loads.proofs.Laying.{Laid, laid-more}
+use Rattle.loads.proofs.Laying.{LaidFirst, laid-more, laid-all}
 
 -- what holds of the rows up to n, with one row more of which it holds, or does not
 decides-more : (P : ℕ → Type 0) (n : ℕ) (r : Bool) → Decides r ((i : ℕ) → i < n → P i) → P n → Decides r ((i : ℕ) → i < n + 1 → P i)
@@ -40,20 +41,20 @@ optional-low Earthquake = omega arith
 -- the rows passed: what was asked of them, and, as long as none was refused, how many are optional, and their loads
 pub record RowsAsked (fill : ℕ → ℕ → Coefficient) (rows : List Row) (n : ℕ) (in-range unblank : Bool) (count : ℕ) (loads : List Load) : Type 0 where
   pub size : length loads ≡ 16
-  pub ranged : Decides in-range (AllRanged rows n)
-  pub filled : Decides unblank (NoneBlank fill rows n)
-  pub optional : in-range ≡ true → unblank ≡ true → count ≡ optionals rows n
-  pub laid : in-range ≡ true → unblank ≡ true → Laid fill rows n loads
+  pub ranged : Decides in-range (FirstEvery (λ row. Ranged (row .kind) (row .numbers)) rows n)
+  pub filled : Decides unblank (FirstEvery (λ row. BlankThere fill row → ⊥) rows n)
+  pub optional : in-range ≡ true → unblank ≡ true → count ≡ first-optionals rows n
+  pub laid : in-range ≡ true → unblank ≡ true → LaidFirst fill rows n loads
 
 module _ (fill : ℕ → ℕ → Coefficient) (rows : List Row) where
-  pub asked-none : {loads : List Load} → Laid fill rows 0 loads → RowsAsked fill rows 0 true true 0 loads
-  unfolding AllRanged NoneBlank optionals Laid
+  pub asked-none : {loads : List Load} → LaidFirst fill rows 0 loads → RowsAsked fill rows 0 true true 0 loads
+  unfolding first-optionals LaidFirst
   asked-none l =
       record { size = l .0; ranged = λ i h. absurd (omega arith); filled = λ i h. absurd (omega arith); optional = λ _ _. refl; laid = λ _ _. l }
 
   module _ (n : ℕ) {ranged filled : Bool} {count : ℕ} {loads : List Load} (p : RowsAsked fill rows n ranged filled count loads) where
     pub asked-out : LoadOf fill (load-row rows n) OutOfRange → RowsAsked fill rows (n + 1) false filled count loads
-    unfolding LoadOf AllRanged NoneBlank
+    unfolding LoadOf
     asked-out t =
         record {
           size = p .size;
@@ -64,7 +65,7 @@ module _ (fill : ℕ → ℕ → Coefficient) (rows : List Row) where
         }
 
     pub asked-blank : LoadOf fill (load-row rows n) NoCoefficient → RowsAsked fill rows (n + 1) ranged false count loads
-    unfolding LoadOf AllRanged NoneBlank
+    unfolding LoadOf
     asked-blank t =
         record {
           size = p .size;
@@ -75,7 +76,7 @@ module _ (fill : ℕ → ℕ → Coefficient) (rows : List Row) where
         }
 
     pub asked-load : (load : Load) → n < 16 → LoadOf fill (load-row rows n) (Exerted load) → RowsAsked fill rows (n + 1) ranged filled (count + optional (load .class)) (set loads n load)
-    unfolding LoadOf AllRanged NoneBlank optionals
+    unfolding LoadOf first-optionals
     asked-load load h t =
         record {
           size = length-set loads n load ∙ p .size;
@@ -85,5 +86,19 @@ module _ (fill : ℕ → ℕ → Coefficient) (rows : List Row) where
           laid = λ e f. laid-more fill rows n loads h (p .laid e f) (t .2);
         }
       where
-        next : optionals rows n + optional (class-of ((load-row rows n) .kind)) ≡ optionals rows (n + 1)
+        next : first-optionals rows n + optional (class-of ((load-row rows n) .kind)) ≡ first-optionals rows (n + 1)
         next = rw add-one
+
+  -- where there are 16 rows, the list of the first n was asked
+  pub asked-all : (n : ℕ) → n ≤ 16 → length rows ≡ 16 → {ranged filled : Bool} {count : ℕ} {loads : List Load} → RowsAsked fill rows n ranged filled count loads
+      → AskedIs fill (take n rows) (record { ranged = ranged; filled = filled; optional = count; loads = record { count = n; loads = loads } })
+  asked-all n few whole {ranged} {filled} p =
+      let h : n ≤ length rows = omega arith in
+      let R : Row → Type 0 = λ row. Ranged (row .kind) (row .numbers) in
+      let F : Row → Type 0 = λ row. BlankThere fill row → ⊥ in
+      record {
+        ranged = decides-same ranged (first-every R rows n h) (every-first R rows n h) (p .ranged);
+        filled = decides-same filled (first-every F rows n h) (every-first F rows n h) (p .filled);
+        optional = λ e f. p .optional e f ∙ optionals-first rows n h;
+        loads = λ e f. laid-all fill rows n _ few whole (p .laid e f);
+      }

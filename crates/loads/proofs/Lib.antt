@@ -1,4 +1,5 @@
 pub mod Answering
 mod Asking
-pub mod Laying
+mod FirstRows
+mod Laying
 pub mod Loaded

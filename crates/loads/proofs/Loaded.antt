@@ -1,24 +1,21 @@
 -- A row exerts one load, and the rows of a job one table of loads.
-use mathlib.Core.Path.{_≡_, sym, _∙_, ap₂, subst₂}
-use mathlib.Core.List.{List}
-use Prim.Native.Nat.{ℕ}
+use mathlib.Core.Path.{_≡_, refl, sym, _∙_, ap₂, subst₂}
+use mathlib.Core.List.{List, [], _∷_}
+use Prim.Native.Nat.{ℕ, _≤_, zero-le, suc-le-suc}
 use native.Mathlib.Omega.{arith}
-use native.Mathlib.Decide.{decLt}
-use lib.Seq.{ext-getD}
-use Rattle.arithmetic.proofs.Cases.{by-cases}
+use lib.ListN.{length}
 use Rattle.kinds.specs.declared.Row.{Row}
 use Rattle.earth.specs.declared.table2.Coefficient.{Coefficient}
 use Rattle.earth.specs.Earth as earth
 use Rattle.earth.proofs.Pressures.{pressed-one}
 use Rattle.sets.specs.declared.Load.{Load}
 use Rattle.sets.specs.declared.Loads.{Loads}
-use Rattle.sets.specs.Sets.{no-load, row}
 use Rattle.kinds.specs.declared.classes.Source.{Source}
 use Rattle.kinds.specs.declared.classes.Source.the-variants.{Absent, Earth, Own}
 use Rattle.kinds.specs.classes.Classes.{source}
 use Rattle.loads.specs.forces.Exerts.{EarthLoad, Forces, Exerts}
 use Rattle.loads.proofs.forces.Exerting.{same-load}
-use Rattle.loads.specs.LoadRows.{load-row, AreLoads}
+use Rattle.loads.specs.LoadRows.{Laid, AreLoads}
 
 -- ---- a row exerts one load
 same-push : {H y G z : ℕ} → earth.push H y ≡ earth.push G z → (H ≡ G) × (y ≡ z)
@@ -43,11 +40,27 @@ exerts-one fill r a b p q = go (source (r .kind)) (p .forces) (q .forces)
     go Own f g = same-load class phase (f .v ∙ sym (g .v)) (f .x ∙ sym (g .x)) (f .h ∙ sym (g .h)) (f .twist ∙ sym (g .twist))
 
 -- ---- and the rows of a job one table of loads
-module _ (fill : ℕ → ℕ → Coefficient) (rows : List Row) (n : ℕ) where
-  pub loads-one : (a b : Loads) → AreLoads fill rows n a → AreLoads fill rows n b → a ≡ b
-  unfolding row
-  loads-one a b p q =
-      ap₂ (λ (m : ℕ) (l : List Load). record { count = m; loads = l }) (p .count ∙ sym (q .count))
-      (ext-getD no-load (a .loads) (b .loads) (p .whole ∙ sym (q .whole)) (λ i _. by-cases (decLt i n)
-      (λ h. exerts-one fill (load-row rows i) _ _ (p .each i h) (q .each i h))
-      (λ h. p .rest i (omega arith) ∙ sym (q .rest i (omega arith)))))
+module _ (fill : ℕ → ℕ → Coefficient) where
+  laid-one : (rows : List Row) (a b : List Load) → length a ≡ length b → Laid fill rows a → Laid fill rows b → a ≡ b
+  unfolding Laid
+  laid-one [] [] [] e p q = refl
+  laid-one [] [] (y ∷ b) e p q = absurd (omega arith)
+  laid-one [] (x ∷ a) [] e p q = absurd (omega arith)
+  laid-one [] (x ∷ a) (y ∷ b) e p q = ap₂ _∷_ (p .0 ∙ sym (q .0)) (laid-one [] a b (omega arith) (p .1) (q .1))
+  laid-one (r ∷ rows) [] b e p q = absurd p
+  laid-one (r ∷ rows) (x ∷ a) [] e p q = absurd q
+  laid-one (r ∷ rows) (x ∷ a) (y ∷ b) e p q = ap₂ _∷_ (exerts-one fill r x y (p .0) (q .0)) (laid-one rows a b (omega arith) (p .1) (q .1))
+
+  pub loads-one : (rows : List Row) (a b : Loads) → AreLoads fill rows a → AreLoads fill rows b → a ≡ b
+  loads-one rows a b p q =
+      ap₂ (λ (m : ℕ) (l : List Load). record { count = m; loads = l }) (p .count ∙ sym (q .count)) (laid-one rows (a .loads) (b .loads) (p .places ∙ sym (q .places)) (p .laid) (q .laid))
+
+  -- there are at most as many of them as places
+  laid-few : (rows : List Row) (loads : List Load) → Laid fill rows loads → length rows ≤ length loads
+  unfolding Laid
+  laid-few [] loads p = zero-le
+  laid-few (r ∷ rows) [] p = absurd p
+  laid-few (r ∷ rows) (l ∷ loads) p = suc-le-suc (laid-few rows loads (p .1))
+
+  pub loads-few : (rows : List Row) (loads : Loads) → AreLoads fill rows loads → loads .count ≤ 16
+  loads-few rows loads a = omega (arith, a .count, a .places, laid-few rows (loads .loads) (a .laid))

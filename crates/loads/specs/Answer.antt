@@ -4,7 +4,7 @@ use mathlib.Core.Bool.{cond}
 use mathlib.Core.List.{List}
 use lib.Dec.{ltb}
 use Prim.Native.Nat.{ℕ, _≤_, _<_}
-use lib.ListN.{replicate}
+use lib.ListN.{take, replicate}
 use Rattle.kinds.specs.declared.Row.{Row}
 use Rattle.earth.specs.declared.table2.Coefficient.{Coefficient}
 use Rattle.sets.specs.declared.Loads.{Loads}
@@ -29,13 +29,13 @@ unfoldable pub loads-told : LoadsRead → LoadsTold
 unfolding loads-told-by
 loads-told t = loads-told-by (t .answer) (t .loads)
 
-pub data LoadsSays (fill : ℕ → ℕ → Coefficient) (rows : List Row) (n : ℕ) : LoadsTold → Type 0 where
-  out-of-range : (AllRanged rows n → ⊥) → LoadsSays fill rows n (refused 11)
-  blank : AllRanged rows n → (NoneBlank fill rows n → ⊥) → LoadsSays fill rows n (refused 15)
-  too-many : AllRanged rows n → NoneBlank fill rows n → 12 < optionals rows n → LoadsSays fill rows n (refused 16)
-  loaded : {loads : Loads} → AllRanged rows n → NoneBlank fill rows n → optionals rows n ≤ 12 → AreLoads fill rows n loads → LoadsSays fill rows n (given loads)
+pub data LoadsSays (fill : ℕ → ℕ → Coefficient) (rows : List Row) : LoadsTold → Type 0 where
+  out-of-range : (AllRanged rows → ⊥) → LoadsSays fill rows (refused 11)
+  blank : AllRanged rows → (NoneBlank fill rows → ⊥) → LoadsSays fill rows (refused 15)
+  too-many : AllRanged rows → NoneBlank fill rows → 12 < optionals rows → LoadsSays fill rows (refused 16)
+  loaded : {loads : Loads} → AllRanged rows → NoneBlank fill rows → optionals rows ≤ 12 → AreLoads fill rows loads → LoadsSays fill rows (given loads)
 
--- the first `count` of the rows, at most 16
+-- how many of the rows are looked at: the first `count`, at most 16
 unfoldable pub row-count : ℕ → ℕ
 row-count count = cond (ltb 16 count) 16 count
 
@@ -49,7 +49,7 @@ Beside NoCoefficient loads = loads ≡ no-loads
 Beside TooManyOptional loads = loads ≡ no-loads
 Beside Given loads = Unit {0}
 
--- the whole answer
+-- the whole answer: the load rows are the first `count` of the 16
 pub record LoadsAnswered (fill : ℕ → ℕ → Coefficient) (rows : List Row) (count : ℕ) (taken : LoadsRead) : Type 0 where
-  pub says : LoadsSays fill rows (row-count count) (loads-told taken)
+  pub says : LoadsSays fill (take count rows) (loads-told taken)
   pub beside : Beside (taken .answer) (taken .loads)

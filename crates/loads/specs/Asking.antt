@@ -9,9 +9,9 @@ use Rattle.earth.specs.declared.table2.Coefficient.{Coefficient}
 use Rattle.loads.specs.LoadRows.{AllRanged, NoneBlank, optionals, AreLoads}
 use Rattle.loads.specs.declared.Asked.{Asked}
 
-pub record AskedIs (fill : ℕ → ℕ → Coefficient) (rows : List Row) (n : ℕ) (asked : Asked) : Type 0 where
-  pub ranged : Decides (asked .ranged) (AllRanged rows n)
-  pub filled : Decides (asked .filled) (NoneBlank fill rows n)
+pub record AskedIs (fill : ℕ → ℕ → Coefficient) (rows : List Row) (asked : Asked) : Type 0 where
+  pub ranged : Decides (asked .ranged) (AllRanged rows)
+  pub filled : Decides (asked .filled) (NoneBlank fill rows)
   -- rows that are in range, with no blank place among them, are counted and exert their loads
-  pub optional : asked .ranged ≡ true → asked .filled ≡ true → asked .optional ≡ optionals rows n
-  pub loads : asked .ranged ≡ true → asked .filled ≡ true → AreLoads fill rows n (asked .loads)
+  pub optional : asked .ranged ≡ true → asked .filled ≡ true → asked .optional ≡ optionals rows
+  pub loads : asked .ranged ≡ true → asked .filled ≡ true → AreLoads fill rows (asked .loads)

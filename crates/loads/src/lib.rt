@@ -9,6 +9,7 @@ use kinds::Row;
 use sets::Loads;
 ghost use mathlib.Core.Path.{_≡_};
 ghost use Prim.Native.Nat.{_≤_};
+ghost use lib.ListN.{take};
 ghost use Rattle.earth.specs.table2.Table2.{table2-fill};
 ghost use Rattle.loads.specs.Answer.{no-loads, row-count, LoadsAnswered};
 ghost use Rattle.loads.specs.Asking.{AskedIs};
@@ -59,7 +60,7 @@ fn row_count(count: usize) -> usize
 // What 11, 15 and 16 ask of the first n rows, and their loads.
 fn asked_of(rows: [Row; 16], n: usize) -> Asked
     requires { ⌜ n ≤ 16 ⌝ }
-    ensures { λ r. ⌜ AskedIs table2-fill rows n r ⌝ }
+    ensures { λ r. ⌜ AskedIs table2-fill (take n rows) r ⌝ }
 {
     let none = sets::no_load();
     let mut loads = [none; 16];

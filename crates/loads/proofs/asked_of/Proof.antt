@@ -2,15 +2,16 @@
 use borrow.Author.Needs.{needs}
 use native.Mathlib.Omega.{arith}
 use native.Mathlib.Nat.{le-antisymm}
-use mathlib.Core.Path.{_≡_, sym, subst}
+use mathlib.Core.Path.{_≡_, subst}
 use mathlib.Core.Logic.{⊎-elim}
 use Prim.Native.Nat.{ℕ, _-_, _≤_, _<_}
+use lib.ListN.{length}
 use Rattle.earth.specs.table2.Table2.{table2-fill}
 use Rattle.loads.specs.forces.Exerted.{LoadOf}
 use Rattle.loads.specs.declared.forces.RowLoad.{RowLoad}
-use Rattle.loads.specs.LoadRows.{load-row}
-use Rattle.loads.proofs.Laying.{laid-none, laid-all}
-use Rattle.loads.proofs.Asking.{optional-low, RowsAsked, asked-none, asked-out, asked-blank, asked-load}
+use Rattle.loads.proofs.FirstRows.{load-row}
+use Rattle.loads.proofs.Laying.{laid-none}
+use Rattle.loads.proofs.Asking.{optional-low, RowsAsked, asked-none, asked-out, asked-blank, asked-load, asked-all}
 use Rattle.loads.proofs.asked_of.Statement.{statement}
 use Rattle.loads.proofs.asked_of.Tie as tie
 
@@ -19,6 +20,9 @@ Inv-loop n rows loads₀ ranged₀ filled₀ optional₀ i₀ loads ranged fille
 
 abbrev μ-loop : tie.MeasureT-loop
 μ-loop n rows loads₀ ranged₀ filled₀ optional₀ i₀ loads ranged filled optional i = n - i
+
+whole : (c : tie.Start Inv-loop μ-loop) → length (c .args .t1) ≡ 16
+whole c = search needs
 
 no-load-requires : tie.Need-no-load-requires Inv-loop μ-loop
 no-load-requires c κs = search needs
@@ -91,7 +95,7 @@ returns c =
     let rows = c .before .before .before .args .t1 in
     let e = le-antisymm (at .inv .0) (c .loop-test .left) in
     let p = subst (λ (n : ℕ). RowsAsked table2-fill rows n (at .ranged) (at .filled) (at .optional) (at .loads)) e (at .inv .2) in
-    record { ranged = p .ranged; filled = p .filled; optional = p .optional; loads = λ x y. laid-all _ _ _ _ (p .laid x y) }
+    asked-all table2-fill rows _ (c .before .before .before .pre) (whole (c .before .before .before)) p
 
 pub asked-of-spec : {M : Type 1} → statement M
 asked-of-spec =

@@ -1,16 +1,18 @@
 -- 11, then 15, then 16, each over all the rows; else the loads.
 use borrow.Author.Needs.{needs}
-use mathlib.Core.Path.{_≡_, subst}
+use mathlib.Core.Path.{_≡_, _∙_, ap, subst}
 use mathlib.Core.Bool.{true, false, not}
 use mathlib.Core.List.{List}
 use Prim.Native.Nat.{ℕ, _≤_, _<_}
+use lib.ListN.{length, take}
 use borrow.Author.Tests.{not-true, not-false}
 use Rattle.arithmetic.specs.decides.Decides.{decided, refuted}
 use Rattle.earth.specs.table2.Table2.{table2-fill}
 use Rattle.kinds.specs.declared.Row.{Row}
 use Rattle.loads.specs.LoadRows.{AllRanged, NoneBlank, optionals}
-use Rattle.loads.specs.Answer.{LoadsTold, row-count, loads-told, loads-told-by, LoadsSays, out-of-range, blank, too-many, loaded, Beside}
+use Rattle.loads.specs.Answer.{LoadsTold, loads-told, loads-told-by, LoadsSays, out-of-range, blank, too-many, loaded, Beside}
 use Rattle.loads.specs.declared.Asked.{Asked}
+use Rattle.loads.proofs.Answering.{first-rows}
 use Rattle.loads.proofs.loads_of.Statement.{statement}
 use Rattle.loads.proofs.loads_of.Tie as tie
 
@@ -25,27 +27,29 @@ no-loads-requires c κs = search needs
 
 -- what the rows were asked, at any step behind it
 module _ (a : tie.After-asked-of) where
-  abbrev n : ℕ
-  n = a .before .row-count .result
-
   abbrev rows : List Row
-  rows = a .before .before .args .rows
+  rows = take (a .before .row-count .result) (a .before .before .args .rows)
 
   abbrev asked : Asked
   asked = a .asked-of .result
 
-  ranged : not (asked .ranged) ≡ false → AllRanged rows n
+  ranged : not (asked .ranged) ≡ false → AllRanged rows
   ranged e = decided (asked .ranged) (not-false (asked .ranged) e) (a .asked-of .ensures .ranged)
 
-  filled : not (asked .filled) ≡ false → NoneBlank table2-fill rows n
+  filled : not (asked .filled) ≡ false → NoneBlank table2-fill rows
   filled e = decided (asked .filled) (not-false (asked .filled) e) (a .asked-of .ensures .filled)
 
   -- where nothing is refused so far, the rows are counted and their loads are there
-  counted : not (asked .ranged) ≡ false → not (asked .filled) ≡ false → asked .optional ≡ optionals rows n
+  counted : not (asked .ranged) ≡ false → not (asked .filled) ≡ false → asked .optional ≡ optionals rows
   counted e f = a .asked-of .ensures .optional (not-false (asked .ranged) e) (not-false (asked .filled) f)
 
-  says : {t : LoadsTold} → LoadsSays table2-fill rows n t → LoadsSays table2-fill rows (row-count (a .before .before .args .count)) t
-  says {t} = subst (λ (m : ℕ). LoadsSays table2-fill rows m t) (a .before .row-count .ensures .0)
+  -- there are 16 rows, so those that were looked at are the first `count`
+  whole : length (a .before .before .args .rows) ≡ 16
+  whole = search needs
+
+  says : {t : LoadsTold} → LoadsSays table2-fill rows t → LoadsSays table2-fill (take (a .before .before .args .count) (a .before .before .args .rows)) t
+  says {t} =
+      subst (λ (l : List Row). LoadsSays table2-fill l t) (ap (λ (m : ℕ). take m (a .before .before .args .rows)) (a .before .row-count .ensures .0) ∙ first-rows _ (a .before .before .args .count) whole)
 
 returns : tie.Need-returns
 unfolding loads-told loads-told-by Beside
