@@ -18,7 +18,7 @@ use Rattle.book.specs.JobBook.{Jobs, count, Different, rows-of, Forms, n
 use Rattle.book.specs.Beginning.{Loaded, Placed, Begins}
 use Rattle.book.specs.counted.Places.{places}
 use Rattle.book.specs.Values.{values}
-use Rattle.book.specs.Says.{BookTold, given, refused, Fault, formless, misplaced, surplus, reused, number, Unplaced, Surplus, Reused, Bad, FirstBad, Unfinished, BookSays, too-long, not-csv, bad-row, unfinished, book, book-told, jobs-told, BookIs, CountIs}
+use Rattle.book.specs.Says.{BookTold, given, refused, formless, misplaced, surplus, reused, Unplaced, Surplus, Reused, Bad, FirstBad, Unfinished, BookSays, too-long, not-csv, bad-row, unfinished, book, book-told, jobs-told, BookIs, CountIs}
 use Rattle.rows.specs.refusals.Numbers.{refusal-number}
 use Rattle.rows.proofs.refusals.Numbers.{number-one}
 use Rattle.book.specs.declared.counted.Count.{Count}
@@ -71,24 +71,24 @@ shorter os (x ∷ bs) b = less os x (shorter (os ++ x ∷ []) bs (rw append-asso
 
 -- no job book begins with the rows up to a bad one
 module _ {css : List (List Cell)} {ts : List BookRow} {js : Jobs} (b : Begins css ts js) (cs : List Cell) where
-  stops : (why : Fault) → Bad why ts cs → Begun (css ++ cs ∷ []) → ⊥
-  stops why h u =
+  stops : {why : ℕ} → Bad ts cs why → Begun (css ++ cs ∷ []) → ⊥
+  stops h u =
       let w = cut css cs (u .begins .forms) in
       let e = forms-one (b .forms) (w .forms) in
       let p = subst (λ (l : List BookRow). Placed (l ++ w .last ∷ []) (u .jobs)) (sym e) (subst (λ (l : List BookRow). Placed l (u .jobs)) (w .are) (u .begins .placed)) in
-      by why h (w .last) (w .form) (u .jobs) p (u .begins .few) (u .begins .different)
+      by h (w .last) (w .form) (u .jobs) p (u .begins .few) (u .begins .different)
     where
       moved : (r q : BookRow) (ks : Jobs) → Form cs r → Form cs q → Placed (ts ++ q ∷ []) ks → Placed (ts ++ r ∷ []) ks
       moved r q ks f g p = subst (λ (x : BookRow). Placed (ts ++ x ∷ []) ks) (form-one g f) p
 
-      by : (why : Fault) → Bad why ts cs → (r : BookRow) → Form cs r → (ks : Jobs) → Placed (ts ++ r ∷ []) ks → count ks ≤ 64 → Different ks → ⊥
-      by formless h r f ks p n d = h r f
-      by misplaced h r f ks p n d = h .nowhere ks (moved (h .row) r ks (h .form) f p)
-      by surplus h r f ks p n d =
+      by : {why : ℕ} → Bad ts cs why → (r : BookRow) → Form cs r → (ks : Jobs) → Placed (ts ++ r ∷ []) ks → count ks ≤ 64 → Different ks → ⊥
+      by (formless h) r f ks p n d = h r f
+      by (misplaced h) r f ks p n d = h .nowhere ks (moved (h .row) r ks (h .form) f p)
+      by (surplus h) r f ks p n d =
           let e = placed-one (h .placed) (moved (h .row) r ks (h .form) f p) in
           let m = h .many in
           omega (arith, ap count e)
-      by reused h r f ks p n d =
+      by (reused h) r f ks p n d =
           let e = placed-one (h .placed) (moved (h .row) r ks (h .form) f p) in
           h .same (subst Different (sym e) d)
 
@@ -102,23 +102,23 @@ module _ {css : List (List Cell)} {ts : List BookRow} {js : Jobs} (b : Begins cs
       let n = k .few in
       omega (arith, ap count e)
 
-  bad-one : (why na : Fault) → Bad why ts cs → Bad na ts cs → why ≡ na
-  bad-one formless formless h k = refl
-  bad-one formless misplaced h k = absurd (h (k .row) (k .form))
-  bad-one formless surplus h k = absurd (h (k .row) (k .form))
-  bad-one formless reused h k = absurd (h (k .row) (k .form))
-  bad-one misplaced formless h k = absurd (k (h .row) (h .form))
-  bad-one misplaced misplaced h k = refl
-  bad-one misplaced surplus h k = absurd (nowhere h (k .row) (k .form) (k .jobs) (k .placed))
-  bad-one misplaced reused h k = absurd (nowhere h (k .row) (k .form) (k .jobs) (k .placed))
-  bad-one surplus formless h k = absurd (k (h .row) (h .form))
-  bad-one surplus misplaced h k = absurd (nowhere k (h .row) (h .form) (h .jobs) (h .placed))
-  bad-one surplus surplus h k = refl
-  bad-one surplus reused h k = absurd (apart h k)
-  bad-one reused formless h k = absurd (k (h .row) (h .form))
-  bad-one reused misplaced h k = absurd (nowhere k (h .row) (h .form) (h .jobs) (h .placed))
-  bad-one reused surplus h k = absurd (apart k h)
-  bad-one reused reused h k = refl
+  bad-one : {why na : ℕ} → Bad ts cs why → Bad ts cs na → why ≡ na
+  bad-one (formless h) (formless k) = refl
+  bad-one (formless h) (misplaced k) = absurd (h (k .row) (k .form))
+  bad-one (formless h) (surplus k) = absurd (h (k .row) (k .form))
+  bad-one (formless h) (reused k) = absurd (h (k .row) (k .form))
+  bad-one (misplaced h) (formless k) = absurd (k (h .row) (h .form))
+  bad-one (misplaced h) (misplaced k) = refl
+  bad-one (misplaced h) (surplus k) = absurd (nowhere h (k .row) (k .form) (k .jobs) (k .placed))
+  bad-one (misplaced h) (reused k) = absurd (nowhere h (k .row) (k .form) (k .jobs) (k .placed))
+  bad-one (surplus h) (formless k) = absurd (k (h .row) (h .form))
+  bad-one (surplus h) (misplaced k) = absurd (nowhere k (h .row) (h .form) (h .jobs) (h .placed))
+  bad-one (surplus h) (surplus k) = refl
+  bad-one (surplus h) (reused k) = absurd (apart h k)
+  bad-one (reused h) (formless k) = absurd (k (h .row) (h .form))
+  bad-one (reused h) (misplaced k) = absurd (nowhere k (h .row) (h .form) (h .jobs) (h .placed))
+  bad-one (reused h) (surplus k) = absurd (apart k h)
+  bad-one (reused h) (reused k) = refl
 
 -- two places in one list: the longer beginning has the shorter one's next element
 record Beyond {A : Type 0} (os : List A) (x : A) (cs : List A) : Type 0 where
@@ -137,16 +137,16 @@ begun-by : {css : List (List Cell)} {rs : List BookRow} {js : Jobs} → Begins c
 begun-by {rs = rs} {js = js} b = record { typed = rs; jobs = js; begins = b }
 
 -- a bad row, and rows that go on beyond it, with which a job book begins
-not-beyond : {why : Fault} {rows css : List (List Cell)} {n : ℕ} (f : FirstBad why rows n) → Beyond (f .before) (f .row) css → Begun css → ⊥
-not-beyond {why} f w b =
+not-beyond : {why : ℕ} {rows css : List (List Cell)} {n : ℕ} (f : FirstBad why rows n) → Beyond (f .before) (f .row) css → Begun css → ⊥
+not-beyond f w b =
     let v = subst Begun (w .are ∙ sym (append-snoc (f .before) (f .row) (w .mid))) b in
-    stops (f .begins) (f .row) why (f .bad) (shorter (f .before ++ f .row ∷ []) (w .mid) v)
+    stops (f .begins) (f .row) (f .bad) (shorter (f .before ++ f .row ∷ []) (w .mid) v)
 
-none-begun : {why : Fault} {rows : List (List Cell)} {n : ℕ} (f : FirstBad why rows n) → Begun rows → ⊥
+none-begun : {why : ℕ} {rows : List (List Cell)} {n : ℕ} (f : FirstBad why rows n) → Begun rows → ⊥
 none-begun f b = not-beyond f (record { mid = f .behind; are = f .split }) b
 
-first-one : {why na : Fault} {rows : List (List Cell)} {n m : ℕ} → FirstBad why rows n → FirstBad na rows m → (why ≡ na) × (n ≡ m)
-first-one {why} {na} f g =
+first-one : {why na : ℕ} {rows : List (List Cell)} {n m : ℕ} → FirstBad why rows n → FirstBad na rows m → (why ≡ na) × (n ≡ m)
+first-one {na = na} f g =
     let both : f .before ++ f .row ∷ f .behind ≡ g .before ++ g .row ∷ g .behind = sym (f .split) ∙ g .split in
     by-cases (decLt (length (f .before)) (length (g .before)))
     (λ a. absurd (not-beyond f (beyond (f .before) (g .before) (f .behind) (g .behind) (f .row) (g .row) both a) (begun-by (g .begins))))
@@ -158,12 +158,12 @@ first-one {why} {na} f g =
     let x = f .number in
     let y = g .number in
     let u = forms-one (f .begins .forms) (subst (λ (c : List (List Cell)). Forms c (g .typed)) (sym (w .0)) (g .begins .forms)) in
-    let k = subst (λ (t : List BookRow). Bad na t (f .row)) (sym u) (subst (Bad na (g .typed)) (sym (w .1)) (g .bad)) in
-    (bad-one (f .begins) (f .row) why na (f .bad) k, omega (arith, ap length (w .0)))))
+    let k = subst (λ (t : List BookRow). Bad t (f .row) na) (sym u) (subst (λ (c : List Cell). Bad (g .typed) c na) (sym (w .1)) (g .bad)) in
+    (bad-one (f .begins) (f .row) (f .bad) k, omega (arith, ap length (w .0)))))
 
 -- what the rows of a text say, by what a job book may begin with
 data RowsSay (rows : List (List Cell)) (t : BookTold) : Type 0 where
-  bad : {why : Fault} {n : ℕ} → FirstBad why rows n → t ≡ refused (number why) n → RowsSay rows t
+  bad : {why n : ℕ} → FirstBad why rows n → t ≡ refused why n → RowsSay rows t
   lacking : Unfinished rows → t ≡ refused 4 (length rows + 1) → RowsSay rows t
   all : {rs : List BookRow} {js : Jobs} → Begins rows rs js → Loaded js → t ≡ given (count js) (values js) → RowsSay rows t
 

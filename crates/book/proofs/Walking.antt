@@ -25,7 +25,7 @@ use Rattle.rows.specs.declared.keys.Beginning.the-variants.{Allowed, Barred}
 use Rattle.book.specs.counted.Places.{places}
 use Rattle.book.specs.Values.{values}
 use Rattle.book.specs.walk.Kept.{last-value}
-use Rattle.book.specs.Says.{refused, Fault, formless, misplaced, surplus, reused, number, Bad, BookSays, bad-row, unfinished, book, book-told, jobs-told, BookIs}
+use Rattle.book.specs.Says.{refused, formless, misplaced, surplus, reused, Bad, BookSays, bad-row, unfinished, book, book-told, jobs-told, BookIs}
 use Rattle.book.specs.walk.Ended.{EndedIs, missing, whole}
 use Rattle.rows.specs.refusals.Numbers.{refusal-number}
 use Rattle.rows.specs.declared.refusals.Refusal.{Refusal}
@@ -110,14 +110,14 @@ module _ {s : List ℕ} {last : Job} {jobs : List Job} {keys : List Key} {n row 
   pub walk-on : r .next < length s → at < r .next
   walk-on k = seen .on k
 
-  first-bad : (why : Fault) → Bad why (i .typed) cs → BookSays s (refused (number why) row)
-  first-bad why x =
+  first-bad : {why : ℕ} → Bad (i .typed) cs why → BookSays s (refused why row)
+  first-bad x =
       let w = i .reached in
-      bad-row {why = why} (i .size) (w .reading)
+      bad-row (i .size) (w .reading)
       (record { before = i .passed; row = cs; behind = w .behind; split = w .are; number = w .number; typed = i .typed; jobs = i .written; begins = i .begins; bad = x }) refl
 
   walk-formless : r .good ≡ false → BookSays s (refused 3 row)
-  walk-formless g = first-bad formless (subst (λ (x : Bool). RowGiven x cs (r .row)) g (seen .means) .0)
+  walk-formless g = first-bad (formless (subst (λ (x : Bool). RowGiven x cs (r .row)) g (seen .means) .0))
 
   -- the row has a form
   module _ (g : r .good ≡ true) where
@@ -132,12 +132,13 @@ module _ {s : List ℕ} {last : Job} {jobs : List Job} {keys : List Key} {n row 
 
     walk-misplaced : (InPlace last (r .row) → ⊥) → BookSays s (refused 4 row)
     walk-misplaced w =
-        first-bad misplaced
+        first-bad
+        (misplaced
         (record {
           row = this;
           form = means;
           nowhere = λ ks q. w (subst (λ (j : Job). InPlace j (r .row)) (sym (i .stands .job)) (step-place (grows (i .begins .placed) q)));
-        })
+        }))
 
     -- the jobs with this row more
     grows-by : {next : Job} → InPlace last (r .row) → next ≡ grown last (r .row) → Grown (i .written) this next
@@ -194,13 +195,13 @@ module _ {s : List ℕ} {last : Job} {jobs : List Job} {keys : List Key} {n row 
       walk-surplus : 64 ≤ n → BookSays s (refused 5 row)
       walk-surplus m =
           let o = i .stands .many in
-          first-bad surplus (record { row = this; form = means; jobs = started; placed = extend (i .begins .placed) start; many = omega arith })
+          first-bad (surplus (record { row = this; form = means; jobs = started; placed = extend (i .begins .placed) start; many = omega arith }))
 
       walk-reused : n < 64 → Among keys n (next .key) → BookSays s (refused 6 row)
       walk-reused m a =
           let o = i .stands .many in
           let u = among-used (i .written) n keys o (i .stands .keys) this (subst (Among keys n) key-is a) in
-          first-bad reused (record { row = this; form = means; jobs = started; placed = extend (i .begins .placed) start; few = omega arith; same = λ d. used-twice u d })
+          first-bad (reused (record { row = this; form = means; jobs = started; placed = extend (i .begins .placed) start; few = omega arith; same = λ d. used-twice u d }))
 
       -- a job that may not begin
       pub walk-barred : {b : Beginning} (why : Refusal) → beginning.BeginningIs keys n (next .key) b → b ≡ Barred why → BookSays s (refused (refusal-number why) row)

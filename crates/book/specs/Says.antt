@@ -20,19 +20,6 @@ pub data BookTold : Type 0 where
   given : ℕ → List Job → BookTold
   refused : ℕ → ℕ → BookTold
 
--- how a row can be bad, and the number for it
-pub data Fault : Type 0 where
-  formless : Fault
-  misplaced : Fault
-  surplus : Fault
-  reused : Fault
-
-abbrev pub number : Fault → ℕ
-number formless = 3
-number misplaced = 4
-number surplus = 5
-number reused = 6
-
 -- the row has a form, and wherever the jobs are cut there is no place for it
 pub record Unplaced (rs : List BookRow) (cs : List Cell) : Type 0 where
   pub row : BookRow
@@ -56,15 +43,15 @@ pub record Reused (rs : List BookRow) (cs : List Cell) : Type 0 where
   pub few : count jobs ≤ 64
   pub same : Different jobs → ⊥
 
--- how the row behind rows that a job book may begin with is bad
-abbrev pub Bad : Fault → List BookRow → List Cell → Type 0
-Bad formless rs cs = (r : BookRow) → Form cs r → ⊥
-Bad misplaced rs cs = Unplaced rs cs
-Bad surplus rs cs = Surplus rs cs
-Bad reused rs cs = Reused rs cs
+-- how the row behind rows that a job book may begin with is bad, and the number for it
+pub data Bad (rs : List BookRow) (cs : List Cell) : ℕ → Type 0 where
+  formless : ((r : BookRow) → Form cs r → ⊥) → Bad rs cs 3
+  misplaced : Unplaced rs cs → Bad rs cs 4
+  surplus : Surplus rs cs → Bad rs cs 5
+  reused : Reused rs cs → Bad rs cs 6
 
 -- row n is the first bad one: a job book may begin with the rows before it, and not with it too
-pub record FirstBad (why : Fault) (rows : List (List Cell)) (n : ℕ) : Type 0 where
+pub record FirstBad (why : ℕ) (rows : List (List Cell)) (n : ℕ) : Type 0 where
   pub before : List (List Cell)
   pub row : List Cell
   pub behind : List (List Cell)
@@ -73,7 +60,7 @@ pub record FirstBad (why : Fault) (rows : List (List Cell)) (n : ℕ) : Type 0 w
   pub typed : List BookRow
   pub jobs : Jobs
   pub begins : Begins before typed jobs
-  pub bad : Bad why typed row
+  pub bad : Bad typed row why
 
 -- all rows begin a job book, and the last job lacks a load row
 pub record Unfinished (rows : List (List Cell)) : Type 0 where
@@ -86,7 +73,7 @@ pub record Unfinished (rows : List (List Cell)) : Type 0 where
 pub data BookSays (s : List ℕ) (t : BookTold) : Type 0 where
   too-long : 65536 < length s → t ≡ refused 1 0 → BookSays s t
   not-csv : length s ≤ 65536 → (Readable s → ⊥) → t ≡ refused 2 0 → BookSays s t
-  bad-row : {rows : List (List Cell)} {why : Fault} {n : ℕ} → length s ≤ 65536 → File s rows → FirstBad why rows n → t ≡ refused (number why) n → BookSays s t
+  bad-row : {rows : List (List Cell)} {why n : ℕ} → length s ≤ 65536 → File s rows → FirstBad why rows n → t ≡ refused why n → BookSays s t
   unfinished : {rows : List (List Cell)} → length s ≤ 65536 → File s rows → Unfinished rows → t ≡ refused 4 (length rows + 1) → BookSays s t
   book : {js : Jobs} → JobBook s js → t ≡ given (count js) (values js) → BookSays s t
 

@@ -4,17 +4,19 @@ use native.Mathlib.Omega.{arith}
 use mathlib.Core.Path.{_≡_}
 use mathlib.Core.List.{List}
 use Rattle.arithmetic.proofs.Cases.{impossible}
-use Rattle.book.specs.Says.{Fault, formless, misplaced, surplus, reused, number, BookSays, too-long, not-csv, bad-row, unfinished, book, refused}
+use Rattle.csv.specs.rfc4180.Rfc4180.{Cell}
+use Rattle.rows.specs.Form.{BookRow}
+use Rattle.book.specs.Says.{formless, misplaced, surplus, reused, Bad, BookSays, too-long, not-csv, bad-row, unfinished, book, refused}
 
-row-numbers : (why : Fault) → (1 ≤ number why) × (number why ≤ 6)
-row-numbers formless = (omega arith, omega arith)
-row-numbers misplaced = (omega arith, omega arith)
-row-numbers surplus = (omega arith, omega arith)
-row-numbers reused = (omega arith, omega arith)
+row-numbers : {rs : List BookRow} {cs : List Cell} {why : ℕ} → Bad rs cs why → (1 ≤ why) × (why ≤ 6)
+row-numbers (formless b) = (omega arith, omega arith)
+row-numbers (misplaced b) = (omega arith, omega arith)
+row-numbers (surplus b) = (omega arith, omega arith)
+row-numbers (reused b) = (omega arith, omega arith)
 
 pub book-numbers : {s : List ℕ} {n row : ℕ} → BookSays s (refused n row) → (1 ≤ n) × (n ≤ 6)
 book-numbers {n = n} (too-long l e) = let z : n ≡ 1 = cc in (omega arith, omega arith)
 book-numbers {n = n} (not-csv l r e) = let z : n ≡ 2 = cc in (omega arith, omega arith)
-book-numbers {n = n} (bad-row {why = why} l f b e) = let z : n ≡ number why = cc in let w = row-numbers why in (omega arith, omega arith)
+book-numbers {n = n} (bad-row {why = why} l f b e) = let z : n ≡ why = cc in let w = row-numbers (b .bad) in (omega arith, omega arith)
 book-numbers {n = n} (unfinished l f u e) = let z : n ≡ 4 = cc in (omega arith, omega arith)
 book-numbers (book b e) = impossible cc
