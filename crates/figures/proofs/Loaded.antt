@@ -1,5 +1,5 @@
 -- What one DL row exerts, the loads of that row alone, and OP of the set of it: by a test that is computed of what resists and what overturns.
-use mathlib.Core.Path.{_≡_, refl, subst⁻¹}
+use mathlib.Core.Path.{refl, subst⁻¹}
 use mathlib.Core.List.{[], _∷_}
 use Prim.Native.Nat.{ℕ, zero, suc, _*_}
 use lib.Dec.{T, ltb, ltb→lt}

@@ -24,7 +24,7 @@ pub record Printed (combination : Combination) (check : Check) (base : Base) (lo
   pub limited : Limit combination check base limit
   pub marked : Decides passes (Passes (side check) limit figure)
 
--- A combination with no set is not checked, and one that has no limit for a check has not the check, and no line of it.
+-- A combination with no set is not checked, and one that has no limit for a check has no line of it.
 unfoldable pub LineSays : Combination → Check → Base → Loads → Line → Type 0
 LineSays combination check base loads Missing = (limit : ℕ) → Limit combination check base limit → (set : ℕ) → Permitted combination loads set → ⊥
 LineSays combination check base loads (Shown figure limit set passes) = Printed combination check base loads figure limit set passes
