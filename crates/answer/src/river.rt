@@ -89,13 +89,14 @@ pub(crate) fn river_of(job: Job, rock: bool) -> RiverRead
     ensures { λ r. ⌜ RiverSays job r ⌝ }
 {
     let stage = job.stage;
+    let waterway = scour::waterway_of(job.scour);
     let mut depth = RowGives::Line(RiverLine::Missing);
     let mut clear = RowGives::Line(RiverLine::Missing);
     if jobs::stages::has_scour(stage) {
-        depth = depth_of(rock, job.scour.n6.size as u64, scour::scour(job.scour));
+        depth = depth_of(rock, waterway.depth, scour::scour(job.scour));
     }
     if jobs::stages::has_clearance(stage) {
-        clear = clear_of(clearance::clearance(job.clearance, job.scour.n1.size as u64));
+        clear = clear_of(clearance::clearance(job.clearance, waterway.discharge));
     }
     both(depth, clear)
 }

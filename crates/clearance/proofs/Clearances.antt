@@ -2,25 +2,27 @@
 use mathlib.Core.Path.{_≡_, refl, sym, ap, _∙_}
 use Prim.Native.Nat.{ℕ}
 use native.Mathlib.Omega.{arith}
-use lib.IntN.{ℤ, pos, _-ℤ_}
+use lib.IntN.{pos, _-ℤ_}
 use mathlib.Core.Bool.{Bool, true, false, not, _&&_}
 use lib.Dec.{leb}
 use Rattle.arithmetic.specs.decides.Decides.{Decides, decides-at-most}
+use Rattle.arithmetic.specs.signed.Whole.{worth}
 use Rattle.arithmetic.proofs.rounding.Laws.{least-one}
 use Rattle.kinds.specs.declared.Numbers.{Numbers}
 use Rattle.clearance.proofs.afflux.Rules.{clearance-needed-one}
 use Rattle.clearance.specs.ClearanceTold.{ClearanceTold, ClearanceAnswered}
+use Rattle.clearance.specs.declared.Opening.{Opening}
 use Rattle.clearance.specs.declared.ClearanceAnswer.{ClearanceAnswer}
 use Rattle.clearance.proofs.ClearanceTold.{clearance-told-one}
 use Rattle.clearance.specs.Clear.{Cleared, over-obstructed, clear, ClearanceSays, out-of-range, in-range, AtLeast}
 
-module _ {v A a : ℕ} {underside flood : ℤ} {Q : ℕ} where
-  pub cleared-one : {t u : ClearanceTold} → Cleared v A a underside flood Q t → Cleared v A a underside flood Q u → t ≡ u
+module _ {row : Opening} {Q : ℕ} where
+  pub cleared-one : {t u : ClearanceTold} → Cleared row Q t → Cleared row Q u → t ≡ u
   cleared-one (over-obstructed h) (over-obstructed k) = refl
   cleared-one (over-obstructed h) (clear k l e n) = absurd (omega arith)
   cleared-one (clear h l d m) (over-obstructed k) = absurd (omega arith)
   cleared-one (clear {clearance = y} h l d m) (clear {clearance = z} k o e n) =
-      let same : y ≡ z = d ∙ ap (λ (afflux : ℕ). underside -ℤ flood -ℤ pos afflux) (least-one l o) ∙ sym e in
+      let same : y ≡ z = d ∙ ap (λ (afflux : ℕ). worth (row .underside) -ℤ worth (row .flood) -ℤ pos afflux) (least-one l o) ∙ sym e in
       let needed = clearance-needed-one m n in
       cc
 

@@ -1,8 +1,8 @@
 -- Levels as whole numbers, and how the code keeps them natural: what each is above zero and below it is added up on two sides,
 -- and the difference of the sides is the whole number, by its sign and size.
 use mathlib.Core.Path.{_≡_, refl, sym, ap, subst⁻¹, _∙_}
-use mathlib.Core.Bool.{Bool, true, false, cond}
-use Prim.Native.Nat.{ℕ, _+_, _≤_, _<_}
+use mathlib.Core.Bool.{Bool, true, false}
+use Prim.Native.Nat.{ℕ, _+_, _≤_}
 use native.Mathlib.Nat.{add-zero}
 use native.Mathlib.Omega.{arith}
 use lib.IntN.{ℤ, pos, negsuc, negℤ, _-ℤ_, +ℤ-idl}
@@ -12,29 +12,22 @@ use Rattle.arithmetic.specs.signed.Whole.{signed, worth, amount, above, below, 
 use Rattle.arithmetic.proofs.signed.Laws.{above-size, below-size, above-neg, below-neg, add-parts, add-diffs}
 use Rattle.arithmetic.proofs.Cases.{impossible}
 use Rattle.fields.specs.declared.Entry.{Entry}
-use Rattle.kinds.specs.ranges.Range.{value}
+use Rattle.kinds.specs.ranges.Range.{Around}
 use Rattle.clearance.specs.ClearanceTold.{given, ClearanceAnswered}
 use Rattle.clearance.specs.declared.ClearanceAnswer.the-variants.{Given}
 
--- an amount is a level
-abbrev pub Level : Amount → Entry → Type 0
-Level a e = (a .minus ≡ e .minus) × (a .size ≡ e .size)
-
-level-worth : (e : Entry) (a : Amount) → Level a e → value e ≡ worth a
-unfolding worth signed value
-level-worth e a h = rw (h .0, h .1) (by-sign (e .minus) (e .size))
+-- a level in its range is at most 9,000,000 from zero
+pub level-most : (e : Entry) → Around 500000 9000000 e → e .size ≤ 9000000
+level-most e r = by-sign (e .minus) (r .under) (r .over)
   where
-    by-sign : (minus : Bool) (n : ℕ) → cond minus (negℤ (pos n)) (pos n) ≡ signed minus n
-    by-sign true n = refl
-    by-sign false n = refl
+    by-sign : (minus : Bool) → (minus ≡ true → e .size ≤ 500000) → (minus ≡ false → e .size ≤ 9000000) → e .size ≤ 9000000
+    by-sign true under over = omega (arith, under refl)
+    by-sign false under over = over refl
 
--- the parts of a level of 32 bits have no more, so that two of them and an afflux fit a word
-pub part-fits : (e : Entry) (a : Amount) {p : Parts} → e .size < 4294967296 → Level a e → p ≡ parts-of (worth a) → (p .above < 4294967296) × (p .below < 4294967296)
+-- and so are its parts, so that two of them and an afflux fit a word
+pub part-most : (a : Amount) {p : Parts} → a .size ≤ 9000000 → p ≡ parts-of (worth a) → (p .above ≤ 9000000) × (p .below ≤ 9000000)
 unfolding parts-of
-part-fits e a f h q = rw q (omega (arith, above-size a, h .1), omega (arith, below-size a, h .1))
-
-pub side-fits : {a b : ℕ} (h : ℕ) → a < 4294967296 → b < 4294967296 → h ≤ 60000000000000 → (a + b < 18446744073709551616) × (a + b + h < 18446744073709551616)
-side-fits h x y z = (omega arith, omega arith)
+part-most a h q = rw q (omega (arith, above-size a), omega (arith, below-size a))
 
 -- two numbers and a height: what is above zero on one side, what is below on the other
 sides : (y z : ℤ) (h : ℕ) → pos (above y + below z) -ℤ pos (below y + above z + h) ≡ y -ℤ z -ℤ pos h
@@ -43,10 +36,10 @@ sides y z h =
     let down : negℤ (pos h) ≡ pos 0 -ℤ pos h = sym (+ℤ-idl (negℤ (pos h))) in
     sym (rw (apart, down) (add-diffs (above y + below z) (below y + above z) 0 h ∙ ap (λ (n : ℕ). pos n -ℤ pos (below y + above z + h)) (add-zero (above y + below z))))
 
-pub between-levels : (upper lower : Entry) (h : ℕ) {u l : Amount} {p q : Parts} → Level u upper → Level l lower → p ≡ parts-of (worth u) → q ≡ parts-of (worth l)
-    → pos (p .above + q .below) -ℤ pos (p .below + q .above + h) ≡ value upper -ℤ value lower -ℤ pos h
+pub between-levels : (upper lower : Amount) (h : ℕ) {p q : Parts} → p ≡ parts-of (worth upper) → q ≡ parts-of (worth lower)
+    → pos (p .above + q .below) -ℤ pos (p .below + q .above + h) ≡ worth upper -ℤ worth lower -ℤ pos h
 unfolding parts-of
-between-levels upper lower h {u} {l} hu hl e f = rw (e, f, level-worth upper u hu, level-worth lower l hl) (sides (worth u) (worth l) h)
+between-levels upper lower h e f = rw (e, f) (sides (worth upper) (worth lower) h)
 
 -- the amount of a number tells it, without a minus zero
 pub amount-told : (z : ℤ) (needed : ℕ) {a : Amount} → a ≡ amount z → ClearanceAnswered (λ t. t ≡ given z needed) (Given (a .minus) (a .size) needed)

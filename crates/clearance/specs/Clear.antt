@@ -3,24 +3,35 @@ use mathlib.Core.Path.{_≡_}
 use mathlib.Core.Bool.{Bool, true, false}
 use Prim.Native.Nat.{ℕ, _≤_, _<_}
 use lib.IntN.{ℤ, pos, _-ℤ_}
-use Rattle.kinds.specs.ranges.Range.{value, Ranged}
+use Rattle.arithmetic.specs.declared.signed.Amount.{Amount}
+use Rattle.arithmetic.specs.signed.Whole.{worth}
+use Rattle.fields.specs.declared.Entry.{Entry}
+use Rattle.kinds.specs.ranges.Range.{Ranged}
 use Rattle.kinds.specs.declared.Kind.the-variants.{C}
 use Rattle.kinds.specs.declared.Numbers.{Numbers}
 use Rattle.clearance.specs.afflux.Rules.{Afflux, ClearanceNeeded}
 use Rattle.clearance.specs.ClearanceTold.{ClearanceTold, refused, given}
+use Rattle.clearance.specs.declared.Opening.{Opening}
+
+-- a level, above zero or below
+abbrev pub level : Entry → Amount
+level e = record { minus = e .minus; size = e .size }
+
+-- the columns of a C row: velocity, area A and obstructed area a, underside and flood level
+abbrev pub opening-of : Numbers → Opening
+opening-of n = record { velocity = n .n1 .size; area = n .n2 .size; obstructed = n .n3 .size; underside = level (n .n4); flood = level (n .n5) }
 
 -- "14, a above A"; else underside - flood - afflux and the clearance needed
-pub data Cleared (v A a : ℕ) (underside flood : ℤ) (Q : ℕ) : ClearanceTold → Type 0 where
-  over-obstructed : A < a → Cleared v A a underside flood Q (refused 14)
-  clear : {afflux needed : ℕ} {clearance : ℤ} → a ≤ A → Afflux v A a afflux → clearance ≡ underside -ℤ flood -ℤ pos afflux → ClearanceNeeded Q needed
-      → Cleared v A a underside flood Q (given clearance needed)
+pub data Cleared (row : Opening) (Q : ℕ) : ClearanceTold → Type 0 where
+  over-obstructed : row .area < row .obstructed → Cleared row Q (refused 14)
+  clear : {afflux needed : ℕ} {clearance : ℤ} → row .obstructed ≤ row .area → Afflux (row .velocity) (row .area) (row .obstructed) afflux
+      → clearance ≡ worth (row .underside) -ℤ worth (row .flood) -ℤ pos afflux → ClearanceNeeded Q needed
+      → Cleared row Q (given clearance needed)
 
--- "11, a number out of range"; else what the row's velocity, areas and levels give
+-- "11, a number out of range"; else what the row's columns give
 pub data ClearanceSays (row : Numbers) (Q : ℕ) : ClearanceTold → Type 0 where
   out-of-range : (Ranged C row → ⊥) → ClearanceSays row Q (refused 11)
-  in-range : {t : ClearanceTold} → Ranged C row
-      → Cleared (row .n1 .size) (row .n2 .size) (row .n3 .size) (value (row .n4)) (value (row .n5)) Q t
-      → ClearanceSays row Q t
+  in-range : {t : ClearanceTold} → Ranged C row → Cleared (opening-of row) Q t → ClearanceSays row Q t
 
 -- "CL value >= limit": a clearance by its sign and size is at least the clearance needed
 abbrev pub AtLeast : Bool → ℕ → ℕ → Type 0

@@ -5,15 +5,23 @@
 pub mod afflux;
 
 use arithmetic::signed::Amount;
-use fields::Entry;
 use kinds::Kind;
 use kinds::Numbers;
 ghost use Rattle.clearance.specs.ClearanceTold.{ClearanceAnswered, given};
-ghost use Rattle.clearance.specs.Clear.{ClearanceSays};
+ghost use Rattle.clearance.specs.Clear.{opening-of, ClearanceSays};
 ghost use mathlib.Core.Path.{_≡_};
 ghost use Prim.Native.Nat.{_≤_};
 ghost use lib.IntN.{pos, _-ℤ_};
-ghost use Rattle.kinds.specs.ranges.Range.{value};
+ghost use Rattle.arithmetic.specs.signed.Whole.{worth};
+
+// The columns of a C row: velocity in mm/s, area A and obstructed area a in tenths of m², and the levels of underside and flood in mm.
+pub struct Opening {
+    pub velocity: u64,
+    pub area: u64,
+    pub obstructed: u64,
+    pub underside: Amount,
+    pub flood: Amount,
+}
 
 // What a C row is told: underside - flood - afflux by its sign and size, and the clearance needed, in mm; or a refusal.
 pub enum ClearanceAnswer {
@@ -22,34 +30,50 @@ pub enum ClearanceAnswer {
     Given { minus: bool, size: u64, needed: u64 },
 }
 
-// The clearance that a C row has and needs, with the discharge of its job's S row. Its numbers are the velocity, A, a, the
-// underside and the flood.
+// A C row by its columns. The rules take them in words of 64 bits.
+fn opening_of(row: Numbers) -> Opening
+    ensures { λ r. ⌜ r ≡ opening-of row ⌝ }
+{
+    let underside = Amount {
+        minus: row.n4.minus,
+        size: row.n4.size as u64,
+    };
+    let flood = Amount {
+        minus: row.n5.minus,
+        size: row.n5.size as u64,
+    };
+    Opening {
+        velocity: row.n1.size as u64,
+        area: row.n2.size as u64,
+        obstructed: row.n3.size as u64,
+        underside,
+        flood,
+    }
+}
+
+// The clearance that a C row has and needs, with the discharge of its job's S row.
 pub fn clearance(row: Numbers, discharge: u64) -> ClearanceAnswer
     ensures { λ r. ⌜ ClearanceAnswered (ClearanceSays row discharge) r ⌝ }
 {
     if !kinds::ranges::is_ranged(Kind::C, row) {
         return ClearanceAnswer::OutOfRange;
     }
-    if row.n2.size < row.n3.size {
+    let opening = opening_of(row);
+    if opening.area < opening.obstructed {
         return ClearanceAnswer::OverObstructed;
     }
-    let rise = afflux::afflux(row.n1.size as u64, row.n2.size as u64, row.n3.size as u64);
-    clearance_under(row.n4, row.n5, rise, afflux::clearance_needed(discharge))
+    let rise = afflux::afflux(opening.velocity, opening.area, opening.obstructed);
+    let needed = afflux::clearance_needed(discharge);
+    clearance_under(opening.underside, opening.flood, rise, needed)
 }
 
 // Underside - flood - afflux by its sign and size, beside the clearance needed.
-fn clearance_under(underside: Entry, flood: Entry, afflux: u64, needed: u64) -> ClearanceAnswer
-    requires { ⌜ afflux ≤ 60000000000000 ⌝ }
-    ensures { λ r. ⌜ ClearanceAnswered (λ t. t ≡ given (value underside -ℤ value flood -ℤ pos afflux) needed) r ⌝ }
+fn clearance_under(underside: Amount, flood: Amount, afflux: u64, needed: u64) -> ClearanceAnswer
+    requires { ⌜ (underside .size ≤ 9000000) × (flood .size ≤ 9000000) × (afflux ≤ 60000000000000) ⌝ }
+    ensures { λ r. ⌜ ClearanceAnswered (λ t. t ≡ given (worth underside -ℤ worth flood -ℤ pos afflux) needed) r ⌝ }
 {
-    let upper = arithmetic::signed::parts_of(Amount {
-        minus: underside.minus,
-        size: underside.size as u64,
-    });
-    let lower = arithmetic::signed::parts_of(Amount {
-        minus: flood.minus,
-        size: flood.size as u64,
-    });
+    let upper = arithmetic::signed::parts_of(underside);
+    let lower = arithmetic::signed::parts_of(flood);
     let height = upper.above + lower.below;
     let depth = upper.below + lower.above + afflux;
     let clearance = arithmetic::signed::difference(height, depth);

@@ -4,7 +4,6 @@ use mathlib.Core.Path.{_≡_}
 use mathlib.Core.Bool.{Bool, true}
 use mathlib.Core.List.{List, [], _∷_, _++_}
 use lib.ListN.{take}
-use Rattle.kinds.specs.ranges.Range.{value}
 use Rattle.rows.specs.declared.keys.Key.{Key}
 use Rattle.jobs.specs.declared.Job.{Job}
 use Rattle.book.specs.JobBook.{WrittenJob, Jobs, none, _and_, JobBook}
@@ -15,7 +14,7 @@ use Rattle.debtarush.specs.Called.{Called}
 use Rattle.scour.specs.Scour as scour
 use Rattle.arithmetic.specs.signed.Whole.{signed}
 use Rattle.clearance.specs.ClearanceTold.{given}
-use Rattle.clearance.specs.Clear.{Cleared, AtLeast}
+use Rattle.clearance.specs.Clear.{opening-of, Cleared, AtLeast}
 use Rattle.earth.specs.declared.table2.Coefficient.{Coefficient}
 use Rattle.sets.specs.declared.Combination.{Combination}
 use Rattle.sets.specs.declared.Loads.{Loads}
@@ -78,8 +77,8 @@ Bears base loads = (combination : Combination) (check : Check) (limit : ℕ) →
 -- "SC needs value <= limit": the depth needed is found
 pub record Deep (job : Job) : Type 0 where
   pub depth : ℕ
-  pub needed : scour.ScourRule (job .scour .n1 .size) (job .scour .n2 .size) (job .scour .n3 .size) (job .scour .n4 .size) (job .scour .n5 .size) (scour.needs depth)
-  pub found : depth ≤ job .scour .n6 .size
+  pub needed : scour.ScourRule (scour.waterway-of (job .scour)) (scour.needs depth)
+  pub found : depth ≤ scour.waterway-of (job .scour) .depth
 
 -- "CL value >= limit": underside - flood - afflux is the clearance needed or more
 pub record Clear (job : Job) : Type 0 where
@@ -87,7 +86,7 @@ pub record Clear (job : Job) : Type 0 where
   pub size : ℕ
   pub needed : ℕ
   pub plain : minus ≡ true → 1 ≤ size
-  pub there : Cleared (job .clearance .n1 .size) (job .clearance .n2 .size) (job .clearance .n3 .size) (value (job .clearance .n4)) (value (job .clearance .n5)) (job .scour .n1 .size) (given (signed minus size) needed)
+  pub there : Cleared (opening-of (job .clearance)) (scour.waterway-of (job .scour) .discharge) (given (signed minus size) needed)
   pub enough : AtLeast minus size needed
 
 -- "A is given exactly if the job isn't refused and every line after VERDICT says Y", said of the job and of its permitted sets

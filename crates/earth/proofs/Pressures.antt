@@ -1,19 +1,25 @@
 -- An E row is told one thing, whatever the table of fills. What is told determines the answer, since it can be taken back to it.
-use mathlib.Core.Path.{_≡_, refl, sym, ap, _∙_}
+use mathlib.Core.Path.{_≡_, refl, sym, ap, subst, _∙_}
 use mathlib.Core.Bool.{cond}
 use Prim.Native.Nat.{ℕ}
 use lib.Dec.{eqb}
+use Rattle.arithmetic.proofs.Cases.{impossible}
 use Rattle.arithmetic.proofs.rounding.Laws.{least-one}
 use Rattle.kinds.specs.declared.Numbers.{Numbers}
 use Rattle.earth.specs.Earth.{EarthTold, refused, push, earth-told, Pushed, blank, has-coefficient, Pressed, out-of-range, in-range}
 use Rattle.earth.specs.declared.table2.Coefficient.{Coefficient}
+use Rattle.earth.specs.thrust.Thrust.{Thrust}
+use Rattle.earth.specs.declared.Backfill.{Backfill}
 use Rattle.earth.specs.declared.EarthAnswer.{EarthAnswer}
 use Rattle.earth.specs.declared.EarthAnswer.the-variants.{OutOfRange, NoCoefficient, Push}
 
-pushed-one : {height length : ℕ} {k : Coefficient} {t u : EarthTold} → Pushed height length k t → Pushed height length k u → t ≡ u
-pushed-one blank blank = refl
-pushed-one (has-coefficient h y) (has-coefficient i z) =
-    let thrust = least-one h i in
+pushed-one : {fill : ℕ → ℕ → Coefficient} {row : Backfill} {t u : EarthTold} → Pushed fill row t → Pushed fill row u → t ≡ u
+pushed-one (blank e) (blank f) = refl
+pushed-one (blank e) (has-coefficient f i z) = impossible cc
+pushed-one (has-coefficient e h y) (blank f) = impossible cc
+pushed-one {row = row} (has-coefficient {K} e h y) (has-coefficient {K = L} {H = H} f i z) =
+    let same : L ≡ K = cc in
+    let thrust = least-one h (subst (λ (k : ℕ). Thrust k (row .height) (row .length) H) same i) in
     let arm = least-one y z in
     cc
 

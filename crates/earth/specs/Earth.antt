@@ -1,5 +1,6 @@
 -- Document 01, "Earth pressure" (002, 5.7.2): what an E row is told, the thrust of its fill and the thrust's height, or a refusal of its job.
 -- Lengths in mm, H in kN, K in N/m² on each metre. `fill` is what is held for a soil and a slope: today Table 2.
+use mathlib.Core.Path.{_≡_}
 use Prim.Native.Nat.{ℕ}
 use Rattle.kinds.specs.ranges.Range.{Ranged}
 use Rattle.kinds.specs.declared.Kind.the-variants.{E}
@@ -7,8 +8,13 @@ use Rattle.kinds.specs.declared.Numbers.{Numbers}
 use Rattle.earth.specs.declared.table2.Coefficient.{Coefficient}
 use Rattle.earth.specs.declared.table2.Coefficient.the-variants.{Blank, Value}
 use Rattle.earth.specs.thrust.Thrust.{Thrust, Arm}
+use Rattle.earth.specs.declared.Backfill.{Backfill}
 use Rattle.earth.specs.declared.EarthAnswer.{EarthAnswer}
 use Rattle.earth.specs.declared.EarthAnswer.the-variants.{OutOfRange, NoCoefficient, Push}
+
+-- the columns of an E row: soil, slope, height, length
+abbrev pub backfill-of : Numbers → Backfill
+backfill-of n = record { soil = n .n1 .size; slope = n .n2 .size; height = n .n3 .size; length = n .n4 .size }
 
 -- an answer in the paper's numbers: refused with a number, or H and y
 pub data EarthTold : Type 0 where
@@ -20,12 +26,12 @@ earth-told OutOfRange = refused 11
 earth-told NoCoefficient = refused 15
 earth-told (Push thrust arm) = push thrust arm
 
--- "15, Table 2 is blank there"; else H and y, by the coefficient that is held
-pub data Pushed (height length : ℕ) : Coefficient → EarthTold → Type 0 where
-  blank : Pushed height length Blank (refused 15)
-  has-coefficient : {K H y : ℕ} → Thrust K height length H → Arm height y → Pushed height length (Value K) (push H y)
+-- "15, Table 2 is blank there"; else H and y, by the coefficient that is held for the row's soil and slope
+pub data Pushed (fill : ℕ → ℕ → Coefficient) (row : Backfill) : EarthTold → Type 0 where
+  blank : fill (row .soil) (row .slope) ≡ Blank → Pushed fill row (refused 15)
+  has-coefficient : {K H y : ℕ} → fill (row .soil) (row .slope) ≡ Value K → Thrust K (row .height) (row .length) H → Arm (row .height) y → Pushed fill row (push H y)
 
--- "11, a number out of range"; else what is held for the row's soil and slope gives with its height and length
+-- "11, a number out of range"; else what the row's columns give
 pub data Pressed (fill : ℕ → ℕ → Coefficient) (row : Numbers) : EarthTold → Type 0 where
   out-of-range : (Ranged E row → ⊥) → Pressed fill row (refused 11)
-  in-range : {t : EarthTold} → Ranged E row → Pushed (row .n3 .size) (row .n4 .size) (fill (row .n1 .size) (row .n2 .size)) t → Pressed fill row t
+  in-range : {t : EarthTold} → Ranged E row → Pushed fill (backfill-of row) t → Pressed fill row t

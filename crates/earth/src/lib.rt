@@ -8,14 +8,35 @@ mod thrust;
 use kinds::Kind;
 use kinds::Numbers;
 use table2::Coefficient;
+ghost use mathlib.Core.Path.{_≡_};
 ghost use Rattle.earth.specs.table2.Table2.{table2-fill};
-ghost use Rattle.earth.specs.Earth.{Pressed, earth-told};
+ghost use Rattle.earth.specs.Earth.{backfill-of, Pressed, earth-told};
+
+// The columns of an E row: soil and slope, each from 1 to 5, height and length in mm. Its phase is the load's.
+pub struct Backfill {
+    pub soil: u64,
+    pub slope: u64,
+    pub height: u64,
+    pub length: u64,
+}
 
 // What an E row is told: the thrust toward +x in kN and its height above the base in mm, or a refusal.
 pub enum EarthAnswer {
     OutOfRange,
     NoCoefficient,
     Push { thrust: u64, arm: u64 },
+}
+
+// An E row by its columns. The rules take them in words of 64 bits.
+fn backfill_of(row: Numbers) -> Backfill
+    ensures { λ r. ⌜ r ≡ backfill-of row ⌝ }
+{
+    Backfill {
+        soil: row.n1.size as u64,
+        slope: row.n2.size as u64,
+        height: row.n3.size as u64,
+        length: row.n4.size as u64,
+    }
 }
 
 // The thrust of an E row's fill and its height above the base.
@@ -25,11 +46,12 @@ pub fn pressure(row: Numbers) -> EarthAnswer
     if !kinds::ranges::is_ranged(Kind::E, row) {
         return EarthAnswer::OutOfRange;
     }
-    match table2::look_up(row.n1.size, row.n2.size) {
+    let backfill = backfill_of(row);
+    match table2::look_up(backfill.soil, backfill.slope) {
         Coefficient::Blank => EarthAnswer::NoCoefficient,
         Coefficient::Value(k) => EarthAnswer::Push {
-            thrust: thrust::thrust_of(k as u64, row.n3.size as u64, row.n4.size as u64),
-            arm: thrust::arm_of(row.n3.size as u64),
+            thrust: thrust::thrust_of(k as u64, backfill.height, backfill.length),
+            arm: thrust::arm_of(backfill.height),
         },
     }
 }

@@ -25,7 +25,7 @@ const TABLE2: [[u32; 5]; 5] = [
 ];
 
 // What Table 2 holds for a soil and a slope.
-pub(crate) fn look_up(soil: u32, slope: u32) -> Coefficient
+pub(crate) fn look_up(soil: u64, slope: u64) -> Coefficient
     requires { ⌜ (1 ≤ soil) × (soil ≤ 5) × (1 ≤ slope) × (slope ≤ 5) ⌝ }
     ensures { λ r. ⌜ r ≡ table2-fill soil slope ⌝ }
 {

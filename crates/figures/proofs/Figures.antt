@@ -1,4 +1,5 @@
 -- Every starred figure holds of the definitions: each by a test that is computed.
+use mathlib.Core.Path.{refl}
 use native.Mathlib.Nat.{not-le-of-lt}
 use lib.Dec.{lit<, lit≤}
 use Rattle.arithmetic.proofs.rounding.Compute.{up-test, cube-test, cube-test′}
@@ -24,7 +25,7 @@ figures =
     (more (cube-test′ _ _ _ tt)
     (more (cube-test′ _ _ _ tt)
     (more (up-test _ _ _ tt)
-    (more (has-coefficient (up-test _ _ _ tt) (up-test _ _ _ tt))
+    (more (has-coefficient refl (up-test _ _ _ tt) (up-test _ _ _ tt))
     (more (overturns-test _ _ _ _ _ _ tt tt)
     (more (overturns-test _ _ _ _ _ _ tt tt)
     (more {x = pressure _ _ _ _ _} (lit< tt, lit< tt, (λ h. absurd (not-le-of-lt (lit< tt) h)), λ h. up-test _ _ _ tt)

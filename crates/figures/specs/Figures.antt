@@ -57,7 +57,7 @@ Holds (depth Qf f D) = RegimeDepth Qf f D
 Holds (needed D reach d) = DepthNeeded D reach d
 Holds (constricted q f D) = ConstrictedDepth q f D
 Holds (afflux v A a h) = Afflux v A a h
-Holds (earth soil slope height length H y) = Pushed height length (table2-fill soil slope) (push H y)
+Holds (earth soil slope height length H y) = Pushed table2-fill (record { soil = soil; slope = slope; height = height; length = length }) (push H y)
 Holds (overturning B v x h y figure) = Overturns B (dead-load v x h y) figure
 Holds (pressure B L N M figure) = Presses B L N M (Number figure)
 Holds (pressure-either B L N M figure) = PressesEither B L N M figure

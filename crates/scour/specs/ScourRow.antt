@@ -2,9 +2,9 @@
 use Rattle.kinds.specs.ranges.Range.{Ranged}
 use Rattle.kinds.specs.declared.Kind.the-variants.{S}
 use Rattle.kinds.specs.declared.Numbers.{Numbers}
-use Rattle.scour.specs.Scour.{ScourTold, refused, ScourRule}
+use Rattle.scour.specs.Scour.{waterway-of, ScourTold, refused, ScourRule}
 
--- "11, a number out of range"; else what the row's Q, catchment, silt factor, waterway and reach give
+-- "11, a number out of range"; else what the row's columns give
 pub data ScourSays (row : Numbers) : ScourTold → Type 0 where
   out-of-range : (Ranged S row → ⊥) → ScourSays row (refused 11)
-  in-range : {t : ScourTold} → Ranged S row → ScourRule (row .n1 .size) (row .n2 .size) (row .n3 .size) (row .n4 .size) (row .n5 .size) t → ScourSays row t
+  in-range : {t : ScourTold} → Ranged S row → ScourRule (waterway-of row) t → ScourSays row t

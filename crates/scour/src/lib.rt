@@ -8,10 +8,22 @@ pub mod lacey;
 
 use kinds::Kind;
 use kinds::Numbers;
+ghost use mathlib.Core.Path.{_≡_};
 ghost use Prim.Native.Nat.{_≤_};
 ghost use Rattle.scour.specs.Scour as scour;
-ghost use Rattle.scour.specs.Scour.{scour-told};
+ghost use Rattle.scour.specs.Scour.{waterway-of, scour-told};
 ghost use Rattle.scour.specs.ScourRow.{ScourSays};
+
+// The columns of an S row: discharge Q in l/s, catchment in km², silt factor in thousandths, width of the waterway W in mm, reach, and
+// depth of the foundation below flood in mm.
+pub struct Waterway {
+    pub discharge: u64,
+    pub catchment: u64,
+    pub silt: u64,
+    pub width: u64,
+    pub reach: u64,
+    pub depth: u64,
+}
 
 // What an S row is told: the depth needed in mm, or a refusal.
 pub enum ScourAnswer {
@@ -21,39 +33,47 @@ pub enum ScourAnswer {
     Needed(u64),
 }
 
-// What the numbers of an S row give, where they are in range.
-fn scour_of(q: u64, z: u64, f: u64, w: u64, reach: u64) -> ScourAnswer
-    requires { ⌜ (q ≤ 50000000) × (100 ≤ f) × (f ≤ 3000) × (1000 ≤ w) × (w ≤ 1300000) × (1 ≤ reach) × (reach ≤ 5) ⌝ }
-    ensures { λ r. ⌜ scour.ScourRule q z f w reach (scour.scour-told r) ⌝ }
+// An S row by its columns. The rules take them in words of 64 bits.
+pub fn waterway_of(row: Numbers) -> Waterway
+    ensures { λ r. ⌜ r ≡ waterway-of row ⌝ }
 {
-    if 25000 < z {
+    Waterway {
+        discharge: row.n1.size as u64,
+        catchment: row.n2.size as u64,
+        silt: row.n3.size as u64,
+        width: row.n4.size as u64,
+        reach: row.n5.size as u64,
+        depth: row.n6.size as u64,
+    }
+}
+
+// What the columns of an S row give, where they are in range.
+fn scour_of(row: Waterway) -> ScourAnswer
+    requires { ⌜ (row .discharge ≤ 50000000) × (100 ≤ row .silt) × (row .silt ≤ 3000) × (1000 ≤ row .width) × (row .width ≤ 1300000) × (1 ≤ row .reach) × (row .reach ≤ 5) ⌝ }
+    ensures { λ r. ⌜ scour.ScourRule row (scour.scour-told r) ⌝ }
+{
+    if 25000 < row.catchment {
         return ScourAnswer::LargeCatchment;
     }
-    let qf = discharge::foundation_discharge(q, z);
-    let depth = if lacey::meets_regime(q, w) {
-        lacey::regime_depth(qf, f)
+    let qf = discharge::foundation_discharge(row.discharge, row.catchment);
+    let depth = if lacey::meets_regime(row.discharge, row.width) {
+        lacey::regime_depth(qf, row.silt)
     } else {
-        let intensity = arithmetic::rounding::up(1000 * qf, w);
+        let intensity = arithmetic::rounding::up(1000 * qf, row.width);
         if 50000 < intensity {
             return ScourAnswer::TooIntense;
         }
-        lacey::constricted_depth(intensity, f)
+        lacey::constricted_depth(intensity, row.silt)
     };
-    ScourAnswer::Needed(lacey::depth_needed(depth, reach))
+    ScourAnswer::Needed(lacey::depth_needed(depth, row.reach))
 }
 
-// The depth that the foundation of an S row needs. The rules take its numbers in words of 64 bits.
+// The depth that the foundation of an S row needs.
 pub fn scour(row: Numbers) -> ScourAnswer
     ensures { λ r. ⌜ ScourSays row (scour-told r) ⌝ }
 {
     if kinds::ranges::is_ranged(Kind::S, row) {
-        return scour_of(
-            row.n1.size as u64,
-            row.n2.size as u64,
-            row.n3.size as u64,
-            row.n4.size as u64,
-            row.n5.size as u64,
-        );
+        return scour_of(waterway_of(row));
     }
     ScourAnswer::OutOfRange
 }

@@ -5,7 +5,7 @@ use mathlib.Core.Path.{_≡_, refl, sym, subst, subst⁻¹}
 use mathlib.Core.Bool.{Bool, true}
 use Rattle.arithmetic.proofs.Cases.{impossible, unlike}
 use Rattle.arithmetic.specs.decides.Decides.{Decides, decided, refuted}
-use Rattle.kinds.specs.ranges.Range.{value, Ranged}
+use Rattle.kinds.specs.ranges.Range.{Ranged}
 use Rattle.kinds.specs.declared.Kind.the-variants.{S, C}
 use Rattle.jobs.specs.declared.Job.{Job}
 use Rattle.jobs.specs.stages.Rows.{HasScour, HasClearance}
@@ -55,14 +55,14 @@ module _ (job : Job) where
 
   -- the S row
   module _ (has : HasScour (job .stage)) (rock : Bool) (strata : Decides rock (OnRock job)) where
-    depth-line : (needed : ℕ) (l : RiverLine) → scour.ScourRule (job .scour .n1 .size) (job .scour .n2 .size) (job .scour .n3 .size) (job .scour .n4 .size) (job .scour .n5 .size) (scour.needs needed)
-        → DepthLineIs rock needed (job .scour .n6 .size) l → DepthIs job l
+    depth-line : (needed : ℕ) (l : RiverLine) → scour.ScourRule (scour.waterway-of (job .scour)) (scour.needs needed)
+        → DepthLineIs rock needed (scour.waterway-of (job .scour) .depth) l → DepthIs job l
     depth-line needed lines.Missing v w = λ f. f .soil (decided rock w strata)
     depth-line needed (lines.Shown minus n f passes) v w =
         record {
           founded = record { soil = refuted rock (w .0) strata; has = has };
           plain = w .1;
-          value = subst (λ (x : ℕ). scour.ScourRule (job .scour .n1 .size) (job .scour .n2 .size) (job .scour .n3 .size) (job .scour .n4 .size) (job .scour .n5 .size) (scour.needs x)) (sym (w .2)) v;
+          value = subst (λ (x : ℕ). scour.ScourRule (scour.waterway-of (job .scour)) (scour.needs x)) (sym (w .2)) v;
           limit = w .3;
           mark = w .4;
         }
@@ -70,7 +70,7 @@ module _ (job : Job) where
     depth-number : {m n : ℕ} → scour.refused m ≡ scour.refused n → DepthGives job (Refused m) → DepthGives job (Refused n)
     depth-number {m} {n} e = subst (λ (k : ℕ). DepthGives job (Refused k)) (cc)
 
-    pub depth-gives : {t : scour.ScourTold} → scour-row.ScourSays (job .scour) t → (r : RowGives) → DepthGiven rock (job .scour .n6 .size) t r → DepthGives job r
+    pub depth-gives : {t : scour.ScourTold} → scour-row.ScourSays (job .scour) t → (r : RowGives) → DepthGiven rock (scour.waterway-of (job .scour) .depth) t r → DepthGives job r
     depth-gives (scour-row.out-of-range h) (Refused n) e = depth-number e (out-of-range (λ r. h (r has)))
     depth-gives (scour-row.out-of-range h) (Line l) w = let e = w .1 in impossible cc
     depth-gives (scour-row.in-range k (scour.large-catchment h)) (Refused n) e = depth-number e (large (λ _. k) (record { has = has; above = h }))
@@ -89,12 +89,12 @@ module _ (job : Job) where
           catchment = λ x. let f = scour-says-one (scour-row.in-range k (scour.large-catchment (x .above))) says in impossible cc;
           intensity = λ x. let f = scour-says-one (scour-row.in-range k (scour.too-intense (x .constricted) (x .above))) says in impossible cc;
         })
-        (depth-line depth l (scour.needed d n) (subst (λ (x : ℕ). DepthLineIs rock x (job .scour .n6 .size) l) (sym e) (w .2)))
+        (depth-line depth l (scour.needed d n) (subst (λ (x : ℕ). DepthLineIs rock x (scour.waterway-of (job .scour) .depth) l) (sym e) (w .2)))
 
   -- the C row
   module _ (has : HasClearance (job .stage)) where
     abbrev Says : told.ClearanceTold → Type 0
-    Says t = clearing.ClearanceSays (job .clearance) (job .scour .n1 .size) t
+    Says t = clearing.ClearanceSays (job .clearance) (scour.waterway-of (job .scour) .discharge) t
 
     module _ (minus : Bool) (size needed : ℕ) (says : Says (told.given (signed minus size) needed)) (plain : minus ≡ true → 0 < size) where
       in-range : {t : told.ClearanceTold} → Says t → t ≡ told.given (signed minus size) needed → Ranged C (job .clearance)
@@ -107,7 +107,7 @@ module _ (job : Job) where
           impossible cc
 
       value-of : {t : told.ClearanceTold} → Says t → t ≡ told.given (signed minus size) needed
-          → clearing.Cleared (job .clearance .n1 .size) (job .clearance .n2 .size) (job .clearance .n3 .size) (value (job .clearance .n4)) (value (job .clearance .n5)) (job .scour .n1 .size) t
+          → clearing.Cleared (clearing.opening-of (job .clearance)) (scour.waterway-of (job .scour) .discharge) t
       value-of (clearing.out-of-range h) e = impossible cc
       value-of (clearing.in-range k v) e = v
 

@@ -3,7 +3,7 @@ use Prim.Native.Nat.{ℕ, _≤_, _<_}
 use mathlib.Core.Path.{_≡_}
 use mathlib.Core.Bool.{Bool, true, false}
 use Rattle.arithmetic.specs.decides.Decides.{Decides}
-use Rattle.kinds.specs.ranges.Range.{value, Ranged}
+use Rattle.kinds.specs.ranges.Range.{Ranged}
 use Rattle.kinds.specs.declared.Kind.the-variants.{S, C}
 use Rattle.jobs.specs.declared.Job.{Job}
 use Rattle.jobs.specs.stages.Rows.{HasScour, HasClearance}
@@ -19,19 +19,19 @@ use Rattle.answer.specs.declared.river.RiverRead.the-variants.{Refused, 
 -- 12, catchment above 25,000
 pub record LargeCatchment (job : Job) : Type 0 where
   pub has : HasScour (job .stage)
-  pub above : 25000 < job .scour .n2 .size
+  pub above : 25000 < scour.waterway-of (job .scour) .catchment
 
 -- 13, the constricted rule applies and q is above 50,000
 pub record TooIntense (job : Job) : Type 0 where
   pub has : HasScour (job .stage)
   pub q : ℕ
-  pub constricted : scour.Constricted (job .scour .n1 .size) (job .scour .n2 .size) (job .scour .n4 .size) q
+  pub constricted : scour.Constricted (scour.waterway-of (job .scour)) q
   pub above : 50000 < q
 
 -- 14, a above A
 pub record OverObstructed (job : Job) : Type 0 where
   pub has : HasClearance (job .stage)
-  pub above : job .clearance .n2 .size < job .clearance .n3 .size
+  pub above : clearance.opening-of (job .clearance) .area < clearance.opening-of (job .clearance) .obstructed
 
 -- strata: 0 soil, 1 rock
 abbrev pub OnRock : Job → Type 0
@@ -45,8 +45,8 @@ pub record Founded (job : Job) : Type 0 where
 pub record DepthShown (job : Job) (minus : Bool) (needed found : ℕ) (passes : Bool) : Type 0 where
   pub founded : Founded job
   pub plain : minus ≡ false
-  pub value : scour.ScourRule (job .scour .n1 .size) (job .scour .n2 .size) (job .scour .n3 .size) (job .scour .n4 .size) (job .scour .n5 .size) (scour.needs needed)
-  pub limit : found ≡ job .scour .n6 .size
+  pub value : scour.ScourRule (scour.waterway-of (job .scour)) (scour.needs needed)
+  pub limit : found ≡ scour.waterway-of (job .scour) .depth
   pub mark : Decides passes (needed ≤ found)
 
 abbrev pub DepthIs : Job → RiverLine → Type 0
@@ -56,7 +56,7 @@ DepthIs job (line.Shown minus needed found passes) = DepthShown job minus needed
 -- CL: with C; value underside - flood - afflux, limit the clearance needed; it needs value >= limit
 pub record ClearShown (job : Job) (minus : Bool) (size needed : ℕ) (passes : Bool) : Type 0 where
   pub has : HasClearance (job .stage)
-  pub value : clearance.Cleared (job .clearance .n1 .size) (job .clearance .n2 .size) (job .clearance .n3 .size) (value (job .clearance .n4)) (value (job .clearance .n5)) (job .scour .n1 .size) (given (signed minus size) needed)
+  pub value : clearance.Cleared (clearance.opening-of (job .clearance)) (scour.waterway-of (job .scour) .discharge) (given (signed minus size) needed)
   pub plain : minus ≡ true → 1 ≤ size
   pub mark : Decides passes (clearance.AtLeast minus size needed)
 

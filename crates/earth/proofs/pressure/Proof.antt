@@ -1,20 +1,37 @@
 -- `earth::pressure` meets its contract: the ranges, and the size of Table 2's coefficients, are what the functions that it calls ask, and each arm
 -- of the match is one case of what is told.
 use mathlib.Core.Path.{sym, _∙_, subst}
+use Prim.Native.Nat.{_≤_}
 use borrow.Author.Needs.{needs}
 use borrow.Author.Tests.{not-true, not-false}
 use Rattle.arithmetic.specs.decides.Decides.{decided, refuted}
 use Rattle.kinds.specs.ranges.Range.{Ranged}
 use Rattle.kinds.specs.declared.Kind.the-variants.{E}
-use Rattle.earth.specs.table2.Table2.{LowCoefficient}
-use Rattle.earth.specs.Earth.{refused, push, Pushed, blank, has-coefficient, out-of-range, in-range}
-use Rattle.earth.specs.declared.table2.Coefficient.{Coefficient}
+use Rattle.earth.specs.table2.Table2.{table2-fill, LowCoefficient}
+use Rattle.earth.specs.Earth.{EarthTold, Pushed, blank, has-coefficient, Pressed, out-of-range, in-range}
+use Rattle.earth.specs.declared.Backfill.{Backfill}
 use Rattle.earth.proofs.table2.Marks.{table2-small}
 use Rattle.earth.proofs.pressure.Statement.{statement}
 use Rattle.earth.proofs.pressure.Tie as tie
 
-ranged : (c : tie.Else1) → Ranged E (c .before .before .args .row)
-ranged c = decided (c .before .is-ranged .result) (not-false (c .before .is-ranged .result) (c .if1 .left)) (c .before .is-ranged .ensures)
+-- what the rules ask of the columns, and what the row is told by them
+record Ordered (b : Backfill) : Type 0 where
+  soil : (1 ≤ b .soil) × (b .soil ≤ 5)
+  slope : (1 ≤ b .slope) × (b .slope ≤ 5)
+  height : b .height ≤ 15000
+  length : b .length ≤ 60000
+
+module _ (c : tie.After-backfill-of) where
+  ranged : Ranged E (c .before .before .before .args .row)
+  ranged = let tested = c .before .before .is-ranged in decided (tested .result) (not-false (tested .result) (c .before .if1 .left)) (tested .ensures)
+
+  ordered : Ordered (c .backfill-of .result)
+  ordered =
+      let r = ranged in
+      subst Ordered (sym (c .backfill-of .ensures)) (record { soil = (r .n1 .from, r .n1 .to); slope = (r .n2 .from, r .n2 .to); height = r .n3 .to; length = r .n4 .to })
+
+  says : (t : EarthTold) → Pushed table2-fill (c .backfill-of .result) t → Pressed table2-fill (c .before .before .before .args .row) t
+  says t h = in-range ranged (subst (λ (b : Backfill). Pushed table2-fill b t) (c .backfill-of .ensures) h)
 
 is-ranged-requires : tie.Need-is-ranged-requires
 is-ranged-requires c κs = search needs
@@ -23,8 +40,11 @@ returns : tie.Need-returns
 returns c =
     out-of-range (refuted (c .before .is-ranged .result) (not-true (c .before .is-ranged .result) (c .if1 .taken)) (c .before .is-ranged .ensures))
 
+backfill-of-requires : tie.Need-backfill-of-requires
+backfill-of-requires c κs = search needs
+
 look-up-requires : tie.Need-look-up-requires
-look-up-requires c κs = let r = ranged c in (r .n1 .from, r .n1 .to, r .n2 .from, r .n2 .to)
+look-up-requires c κs = let o = ordered c in (o .soil .0, o .soil .1, o .slope .0, o .slope .1)
 
 enum-told : tie.Need-enum-told
 enum-told c = search needs
@@ -35,40 +55,25 @@ enum-known-k c = search needs
 cast-thrust-of : tie.Need-cast-thrust-of
 cast-thrust-of c = search needs
 
-cast-thrust-of-2 : tie.Need-cast-thrust-of-2
-cast-thrust-of-2 c = search needs
-
-cast-thrust-of-3 : tie.Need-cast-thrust-of-3
-cast-thrust-of-3 c = search needs
-
 thrust-of-requires : tie.Need-thrust-of-requires
 thrust-of-requires c κs =
-    let known = c .before .before .before in
+    let known = c .before in
     let found = known .before .before in
-    let row = found .before .before .before .args .row in
-    let r = ranged (found .before) in
-    (subst LowCoefficient (sym (found .look-up .ensures) ∙ known .k .given .1) (table2-small (row .n1 .size) (row .n2 .size)), r .n3 .to, r .n4 .to)
-
-cast-arm-of : tie.Need-cast-arm-of
-cast-arm-of c = search needs
+    let b = found .before .backfill-of .result in
+    let o = ordered (found .before) in
+    (subst LowCoefficient (sym (found .look-up .ensures) ∙ known .k .given .1) (table2-small (b .soil) (b .slope)), o .height, o .length)
 
 arm-of-requires : tie.Need-arm-of-requires
 arm-of-requires c κs = search needs
 
 returns-2 : tie.Need-returns-2
-returns-2 c =
-    let found = c .before .before in
-    let row = found .before .before .before .args .row in
-    in-range (ranged (found .before)) (subst (λ (k : Coefficient). Pushed (row .n3 .size) (row .n4 .size) k (refused 15)) (sym (c .enum-told .given .1) ∙ found .look-up .ensures) blank)
+returns-2 c = let found = c .before .before in says (found .before) _ (blank (sym (found .look-up .ensures) ∙ c .enum-told .given .1))
 
 returns-3 : tie.Need-returns-3
 returns-3 c =
-    let known = c .before .before .before .before .before .before in
+    let known = c .before .before .before in
     let found = known .before .before in
-    let row = found .before .before .before .args .row in
-    in-range (ranged (found .before))
-    (subst (λ (k : Coefficient). Pushed (row .n3 .size) (row .n4 .size) k (push (c .before .before .thrust-of .result) (c .arm-of .result))) (sym (known .k .given .1) ∙ found .look-up .ensures)
-    (has-coefficient (c .before .before .thrust-of .ensures) (c .arm-of .ensures)))
+    says (found .before) _ (has-coefficient (sym (found .look-up .ensures) ∙ known .k .given .1) (c .before .thrust-of .ensures) (c .arm-of .ensures))
 
 pub pressure-spec : {M : Type 1} → statement M
 pressure-spec =
@@ -76,14 +81,12 @@ pressure-spec =
     (tie.spec
     is-ranged-requires
     returns
+    backfill-of-requires
     look-up-requires
     enum-told
     enum-known-k
     cast-thrust-of
-    cast-thrust-of-2
-    cast-thrust-of-3
     thrust-of-requires
-    cast-arm-of
     arm-of-requires
     returns-2
     returns-3)

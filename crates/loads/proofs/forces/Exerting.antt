@@ -17,6 +17,7 @@ use Rattle.earth.specs.declared.table2.Coefficient.{Coefficient}
 use Rattle.earth.specs.table2.Table2.{LowCoefficient}
 use Rattle.earth.specs.Earth.{EarthTold, refused, Pushed, blank, Pressed, out-of-range, in-range}
 use Rattle.earth.specs.Earth as earth
+use Rattle.earth.specs.declared.Backfill.{Backfill}
 use Rattle.earth.proofs.Pressures.{pressed-one}
 use Rattle.earth.proofs.Bounds.{pressed-modest}
 use Rattle.arithmetic.specs.declared.signed.Amount.{Amount}
@@ -78,9 +79,9 @@ around-size a e h = go (e .minus) refl
     go false d = h .over d
 
 -- ---- what a load row is told: by the push of its fill, or by its own numbers
-pushed-not : {height length : ℕ} {k : Coefficient} {t : EarthTold} → Pushed height length k t → t ≡ refused 11 → ⊥
-pushed-not blank e = unlike 15 11 refl cc
-pushed-not (earth.has-coefficient h y) e = impossible cc
+pushed-not : {fill : ℕ → ℕ → Coefficient} {row : Backfill} {t : EarthTold} → Pushed fill row t → t ≡ refused 11 → ⊥
+pushed-not (blank b) e = unlike 15 11 refl cc
+pushed-not (earth.has-coefficient k h y) e = impossible cc
 
 out-of-range-not : {fill : ℕ → ℕ → Coefficient} {row : Numbers} {t : EarthTold} → Pressed fill row t → t ≡ refused 11 → Ranged E row → ⊥
 out-of-range-not (out-of-range h) e r = h r

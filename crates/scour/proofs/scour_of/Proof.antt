@@ -12,10 +12,10 @@ use Rattle.scour.proofs.scour_of.Tie as tie
 
 -- what `foundation_discharge` gives is at most 65,000,000
 most : (c : tie.After-foundation-discharge) → c .foundation-discharge .result ≤ 65000000
-most c = discharge-most (c .before .before .pre .0) (c .foundation-discharge .ensures)
+most c = discharge-most (c .before .before .before .pre .0) (c .foundation-discharge .ensures)
 
 -- where the regime width is not met, the constricted rule applies
-narrow : (c : tie.After-up) → let a = c .before .before .before .before .before .args in Constricted (a .q) (a .z) (a .w) (c .up .result)
+narrow : (c : tie.After-up) → Constricted (c .before .before .before .before .before .before .args .row) (c .up .result)
 narrow c = record {
   Qf = c .before .before .before .foundation-discharge .result;
   flood = c .before .before .before .foundation-discharge .ensures;
@@ -26,7 +26,7 @@ narrow c = record {
 -- Lacey's depth, by the rule that applies, is at most 41,000
 module _ (c : tie.Joined2) where
   abbrev Depth : ℕ → Type 0
-  Depth D = let a = c .before .before .before .before .args in LaceyDepth (a .q) (a .z) (a .f) (a .w) D × (D ≤ 41000)
+  Depth D = LaceyDepth (c .before .before .before .before .before .args .row) D × (D ≤ 41000)
 
   depth : Depth (c .if2 .depth)
   depth =

@@ -8,14 +8,8 @@ use Rattle.earth.proofs.table2.look_up.Tie as tie
 sub-i : tie.Need-sub-i
 sub-i c = search needs
 
-cast-i : tie.Need-cast-i
-cast-i c = search needs
-
 sub-j : tie.Need-sub-j
 sub-j c = search needs
-
-cast-j : tie.Need-cast-j
-cast-j c = search needs
 
 mul-k : tie.Need-mul-k
 mul-k c = search needs
@@ -38,4 +32,4 @@ returns-2 c = let a = c .before .before .args in sym (marked (a .soil) (a .slope
 pub look-up-spec : {M : Type 1} → statement M
 look-up-spec =
     tie.close
-    (tie.spec sub-i cast-i sub-j cast-j mul-k mul-k-2 index-1-k index-2-k returns returns-2)
+    (tie.spec sub-i sub-j mul-k mul-k-2 index-1-k index-2-k returns returns-2)
