@@ -18,8 +18,10 @@ use Rattle.loads.specs.Answer.{LoadsTold, refused, given, loads-told, loads-tol
 use Rattle.loads.specs.declared.LoadsAnswer as answering
 use Rattle.loads.specs.declared.LoadsAnswer.the-variants as taking
 use Rattle.loads.specs.declared.LoadsRead.{LoadsRead}
-use Rattle.answer.specs.river.River.{LargeCatchment, TooIntense, OverObstructed, RiverRanged, ScourAllowed, DepthIs, ClearIs, RiverSays, large, intense, obstructed, shown}
-use Rattle.answer.specs.river.River as says
+use Rattle.scour.proofs.Scours.{scour-rule-one}
+use Rattle.answer.specs.river.River.{DepthIs, ClearIs}
+use Rattle.answer.specs.river.steps.Says.{LargeCatchment, TooIntense, OverObstructed, RiverRanged, ScourAllowed, RiverSays, large, intense, obstructed, shown}
+use Rattle.answer.specs.river.steps.Says as says
 use Rattle.answer.specs.declared.river.RiverRead.{RiverRead}
 use Rattle.answer.specs.declared.river.RiverRead.the-variants as river
 use Rattle.answer.specs.Rules as rules
@@ -82,8 +84,9 @@ module _ (fill : ℕ → ℕ → Coefficient) (job : Job) where
     refuses-12 : LargeCatchment job → Refuses fill job 12
     refuses-12 h = record { holds = rules.large-catchment h; least = least 12 (λ _. a) (late (lit≤ tt)) (late (lit≤ tt)) (late (lit≤ tt)) (late (lit≤ tt)) (late (lit≤ tt)) }
 
-    refuses-13 : (LargeCatchment job → ⊥) → TooIntense job → Refuses fill job 13
-    refuses-13 l h = record { holds = rules.too-intense h; least = least 13 (λ _. a) (λ _. l) (late (lit≤ tt)) (late (lit≤ tt)) (late (lit≤ tt)) (late (lit≤ tt)) }
+    -- an S row gives one thing, so not both 12 and 13
+    refuses-13 : TooIntense job → Refuses fill job 13
+    refuses-13 h = record { holds = rules.too-intense h; least = least 13 (λ _. a) (λ _ l. let e = scour-rule-one (l .rule) (h .rule) in unlike 12 13 refl cc) (late (lit≤ tt)) (late (lit≤ tt)) (late (lit≤ tt)) (late (lit≤ tt)) }
 
     module _ (p : ScourAllowed job) where
       refuses-14 : OverObstructed job → Refuses fill job 14
@@ -108,7 +111,7 @@ module _ (fill : ℕ → ℕ → Coefficient) (job : Job) where
     river-first : {n : ℕ} → RiverSays job (river.Refused n) → Refuses fill job n
     river-first (says.out-of-range h) = refuses-11 (λ a. h (record { scour = a .rows .scour; clearance = a .rows .clearance }))
     river-first (large r c) = refuses-12 (all-ranged r) c
-    river-first (intense r k i) = refuses-13 (all-ranged r) k i
+    river-first (intense r i) = refuses-13 (all-ranged r) i
     river-first (obstructed r q o) = refuses-14 (all-ranged r) q o
 
     first : (x : RiverRead) (n : ℕ) → RiverSays job x → (AllInRange job → ScourAllowed job → (OverObstructed job → ⊥) → Refuses fill job n) → Refuses fill job (earlier x n)

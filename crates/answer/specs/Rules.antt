@@ -8,7 +8,9 @@ use Rattle.jobs.specs.declared.Job.{Job}
 use Rattle.earth.specs.declared.table2.Coefficient.{Coefficient}
 use Rattle.loads.specs.LoadRows.{AllRanged, NoneBlank, optionals}
 use Rattle.jobs.specs.stages.Rows.{RowsRanged}
-use Rattle.answer.specs.river.River.{LargeCatchment, TooIntense, OverObstructed}
+use Rattle.scour.specs.Scour as scour
+use Rattle.clearance.specs.ClearanceTold as clearance
+use Rattle.answer.specs.river.River.{ScourGives, ClearanceGives}
 
 -- the job's load rows
 abbrev pub load-rows-of : Job → List Row
@@ -28,11 +30,11 @@ pub data When (fill : ℕ → ℕ → Coefficient) (job : Job) : ℕ → Type 0 
   -- a number out of range
   out-of-range : (AllInRange job → ⊥) → When fill job 11
   -- catchment above 25,000
-  large-catchment : LargeCatchment job → When fill job 12
+  large-catchment : ScourGives job (scour.refused 12) → When fill job 12
   -- the constricted rule applies and q is above 50,000
-  too-intense : TooIntense job → When fill job 13
+  too-intense : ScourGives job (scour.refused 13) → When fill job 13
   -- a above A
-  over-obstructed : OverObstructed job → When fill job 14
+  over-obstructed : ClearanceGives job (clearance.refused 14) → When fill job 14
   -- Table 2 is blank there
   blank : (AllFilled fill job → ⊥) → When fill job 15
   -- more than 12 optional load rows

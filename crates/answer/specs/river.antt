@@ -1,2 +1,3 @@
 pub mod River
 pub mod Rows
+pub mod steps

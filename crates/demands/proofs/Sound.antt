@@ -80,15 +80,15 @@ module _ (combination : Combination) (base : Base) (loads : Loads) where
 module _ (job : Job) where
   depth-deep : (d : RiverLine) → DepthIs job d → RiverYes d → Founded job → Deep job
   depth-deep river.Missing p y f = absurd (p f)
-  depth-deep (river.Shown k n m true) p y f = record { depth = n; needed = p .value; found = subst (λ (k : ℕ). n ≤ k) (p .limit) (p .mark) }
+  depth-deep (river.Shown k n m true) p y f = record { depth = n; needed = p .value .rule; found = subst (λ (k : ℕ). n ≤ k) (p .limit) (p .mark) }
   depth-deep (river.Shown k n m false) p y f = impossible cc
 
   deep-depth : (d : RiverLine) → DepthIs job d → (Founded job → Deep job) → RiverYes d
   deep-depth river.Missing p h = tt
   deep-depth (river.Shown k n m true) p h = refl
   deep-depth (river.Shown k n m false) p h =
-      let d = h (p .founded) in
-      let e = scour-rule-one (p .value) (d .needed) in
+      let d = h (record { soil = p .soil; has = p .value .has }) in
+      let e = scour-rule-one (p .value .rule) (d .needed) in
       let a : n ≡ d .depth = cc in
       let b = p .limit in
       let c = d .found in
@@ -96,15 +96,15 @@ module _ (job : Job) where
 
   clear-clears : (c : RiverLine) → ClearIs job c → RiverYes c → HasClearance (job .stage) → Clear job
   clear-clears river.Missing p y f = absurd (p f)
-  clear-clears (river.Shown m s n true) p y f = record { minus = m; size = s; needed = n; plain = p .plain; there = p .value; enough = p .mark }
+  clear-clears (river.Shown m s n true) p y f = record { minus = m; size = s; needed = n; plain = p .plain; there = p .value .rule; enough = p .mark }
   clear-clears (river.Shown m s n false) p y f = impossible cc
 
   clears-clear : (c : RiverLine) → ClearIs job c → (HasClearance (job .stage) → Clear job) → RiverYes c
   clears-clear river.Missing p h = tt
   clears-clear (river.Shown m s n true) p h = refl
   clears-clear (river.Shown m s n false) p h =
-      let c = h (p .has) in
-      let e = clear-one job (river.Shown m s n false) (river.Shown (c .minus) (c .size) (c .needed) true) p (record { has = p .has; value = c .there; plain = c .plain; mark = c .enough }) in
+      let c = h (p .value .has) in
+      let e = clear-one job (river.Shown m s n false) (river.Shown (c .minus) (c .size) (c .needed) true) p (record { value = record { has = p .value .has; rule = c .there }; plain = c .plain; mark = c .enough }) in
       let z : false ≡ true = cc in
       z
 

@@ -10,7 +10,7 @@ use Rattle.checks.specs.declared.Base.{Base}
 use Rattle.loads.proofs.Answering.{given-bounded}
 use Rattle.kinds.specs.ranges.Range.{Ranged}
 use Rattle.kinds.specs.declared.Kind.the-variants.{B}
-use Rattle.answer.specs.river.River.{RiverSays}
+use Rattle.answer.specs.river.steps.Says.{RiverSays}
 use Rattle.answer.specs.Answer.{refused, answered}
 use Rattle.answer.proofs.Ordering.{refuses-11, given-answer, sized, first-refuses, first-given}
 use borrow.Author.Needs.{needs}

@@ -16,12 +16,13 @@ use Rattle.clearance.specs.ClearanceTold as told
 use Rattle.clearance.specs.Clear as clearing
 use Rattle.clearance.specs.declared.ClearanceAnswer.{ClearanceAnswer}
 use Rattle.clearance.specs.declared.ClearanceAnswer.the-variants as clearance
-use Rattle.scour.proofs.ScourRow.{scour-says-one}
+use Rattle.scour.proofs.Scours.{scour-rule-one}
 use Rattle.clearance.proofs.Clearances as clearances
 use Rattle.lines.specs.declared.RiverLine.{RiverLine}
 use Rattle.lines.specs.declared.RiverLine.the-variants as lines
-use Rattle.answer.specs.river.River.{LargeCatchment, TooIntense, OverObstructed, OnRock, DepthIs, ClearIs, ScourAllowed, RiverSays}
-use Rattle.answer.specs.river.River as says
+use Rattle.answer.specs.river.River.{OnRock, DepthIs, ClearIs}
+use Rattle.answer.specs.river.steps.Says.{LargeCatchment, TooIntense, OverObstructed, ScourAllowed, RiverSays}
+use Rattle.answer.specs.river.steps.Says as says
 use Rattle.answer.specs.river.Rows.{DepthLineIs, DepthGiven, ClearLineIs, ClearGiven, both}
 use Rattle.answer.specs.declared.river.RowGives.{RowGives}
 use Rattle.answer.specs.declared.river.RowGives.the-variants.{Refused, Line}
@@ -37,7 +38,7 @@ ClearRanged job = HasClearance (job .stage) → Ranged C (job .clearance)
 pub data DepthGives (job : Job) : RowGives → Type 0 where
   out-of-range : (DepthRanged job → ⊥) → DepthGives job (Refused 11)
   large : DepthRanged job → LargeCatchment job → DepthGives job (Refused 12)
-  intense : DepthRanged job → (LargeCatchment job → ⊥) → TooIntense job → DepthGives job (Refused 13)
+  intense : DepthRanged job → TooIntense job → DepthGives job (Refused 13)
   line : {l : RiverLine} → DepthRanged job → ScourAllowed job → DepthIs job l → DepthGives job (Line l)
 
 pub data ClearGives (job : Job) : RowGives → Type 0 where
@@ -55,17 +56,24 @@ module _ (job : Job) where
 
   -- the S row
   module _ (has : HasScour (job .stage)) (rock : Bool) (strata : Decides rock (OnRock job)) where
-    depth-line : (needed : ℕ) (l : RiverLine) → scour.ScourRule (scour.waterway-of (job .scour)) (scour.needs needed)
-        → DepthLineIs rock needed (scour.waterway-of (job .scour) .depth) l → DepthIs job l
-    depth-line needed lines.Missing v w = λ f. f .soil (decided rock w strata)
-    depth-line needed (lines.Shown minus n f passes) v w =
-        record {
-          founded = record { soil = refuted rock (w .0) strata; has = has };
-          plain = w .1;
-          value = subst (λ (x : ℕ). scour.ScourRule (scour.waterway-of (job .scour)) (scour.needs x)) (sym (w .2)) v;
-          limit = w .3;
-          mark = w .4;
-        }
+    module _ {needed : ℕ} (rule : scour.ScourRule (scour.waterway-of (job .scour)) (scour.needs needed)) where
+      -- what gives a depth gives neither 12 nor 13
+      allowed : ScourAllowed job
+      allowed = record {
+        catchment = λ x. let e = scour-rule-one (x .rule) rule in impossible cc;
+        intensity = λ x. let e = scour-rule-one (x .rule) rule in impossible cc;
+      }
+
+      depth-line : (l : RiverLine) → DepthLineIs rock needed (scour.waterway-of (job .scour) .depth) l → DepthIs job l
+      depth-line lines.Missing w = λ f. f .soil (decided rock w strata)
+      depth-line (lines.Shown minus n f passes) w =
+          record {
+            soil = refuted rock (w .0) strata;
+            plain = w .1;
+            value = record { has = has; rule = subst (λ (x : ℕ). scour.ScourRule (scour.waterway-of (job .scour)) (scour.needs x)) (sym (w .2)) rule };
+            limit = w .3;
+            mark = w .4;
+          }
 
     depth-number : {m n : ℕ} → scour.refused m ≡ scour.refused n → DepthGives job (Refused m) → DepthGives job (Refused n)
     depth-number {m} {n} e = subst (λ (k : ℕ). DepthGives job (Refused k)) (cc)
@@ -73,23 +81,14 @@ module _ (job : Job) where
     pub depth-gives : {t : scour.ScourTold} → scour-row.ScourSays (job .scour) t → (r : RowGives) → DepthGiven rock (scour.waterway-of (job .scour) .depth) t r → DepthGives job r
     depth-gives (scour-row.out-of-range h) (Refused n) e = depth-number e (out-of-range (λ r. h (r has)))
     depth-gives (scour-row.out-of-range h) (Line l) w = let e = w .1 in impossible cc
-    depth-gives (scour-row.in-range k (scour.large-catchment h)) (Refused n) e = depth-number e (large (λ _. k) (record { has = has; above = h }))
+    depth-gives (scour-row.in-range k (scour.large-catchment h)) (Refused n) e = depth-number e (large (λ _. k) (record { has = has; rule = scour.large-catchment h }))
     depth-gives (scour-row.in-range k (scour.large-catchment h)) (Line l) w = let e = w .1 in impossible cc
-    depth-gives (scour-row.in-range k (scour.too-intense {q} c h)) (Refused n) e =
-        depth-number e (intense (λ _. k)
-        (λ l. let d = scour-says-one (scour-row.in-range k (scour.large-catchment (l .above))) (scour-row.in-range k (scour.too-intense c h)) in unlike 12 13 refl cc)
-        (record { has = has; q = q; constricted = c; above = h }))
+    depth-gives (scour-row.in-range k (scour.too-intense c h)) (Refused n) e = depth-number e (intense (λ _. k) (record { has = has; rule = scour.too-intense c h }))
     depth-gives (scour-row.in-range k (scour.too-intense c h)) (Line l) w = let e = w .1 in impossible cc
     depth-gives (scour-row.in-range k (scour.needed d n)) (Refused m) e = impossible cc
-    depth-gives (scour-row.in-range k (scour.needed {depth = depth} d n)) (Line l) w =
-        let says = scour-row.in-range k (scour.needed d n) in
-        let e : depth ≡ w .0 = let f = w .1 in cc in
-        line {l = l} (λ _. k)
-        (record {
-          catchment = λ x. let f = scour-says-one (scour-row.in-range k (scour.large-catchment (x .above))) says in impossible cc;
-          intensity = λ x. let f = scour-says-one (scour-row.in-range k (scour.too-intense (x .constricted) (x .above))) says in impossible cc;
-        })
-        (depth-line depth l (scour.needed d n) (subst (λ (x : ℕ). DepthLineIs rock x (scour.waterway-of (job .scour) .depth) l) (sym e) (w .2)))
+    depth-gives (scour-row.in-range k (scour.needed d n)) (Line l) w =
+        let rule = subst (scour.ScourRule (scour.waterway-of (job .scour))) (w .1) (scour.needed d n) in
+        line {l = l} (λ _. k) (allowed rule) (depth-line rule l (w .2))
 
   -- the C row
   module _ (has : HasClearance (job .stage)) where
@@ -103,7 +102,7 @@ module _ (job : Job) where
 
       not-obstructed : OverObstructed job → ⊥
       not-obstructed o =
-          let e = clearances.clearance-says-one (clearing.in-range (in-range says refl) (clearing.over-obstructed (o .above))) says in
+          let e = clearances.clearance-says-one (clearing.in-range (in-range says refl) (o .rule)) says in
           impossible cc
 
       value-of : {t : told.ClearanceTold} → Says t → t ≡ told.given (signed minus size) needed
@@ -114,7 +113,7 @@ module _ (job : Job) where
       clear-line : (l : RiverLine) → ClearLineIs minus size needed l → ClearGives job (Line l)
       clear-line lines.Missing w = absurd w
       clear-line (lines.Shown m n k passes) w =
-          let here : ClearIs job (lines.Shown minus size needed passes) = record { has = has; value = value-of says refl; plain = plain; mark = w .3 } in
+          let here : ClearIs job (lines.Shown minus size needed passes) = record { value = record { has = has; rule = value-of says refl }; plain = plain; mark = w .3 } in
           let same : lines.Shown m n k passes ≡ lines.Shown minus size needed passes = let p = w .0 in let q = w .1 in let r = w .2 in cc in
           subst⁻¹ (λ (l : RiverLine). ClearGives job (Line l)) same (clear {l = lines.Shown minus size needed passes} (λ _. in-range says refl) not-obstructed here)
 
@@ -126,7 +125,7 @@ module _ (job : Job) where
     clear-gives clearance.OverObstructed s r e = subst (ClearGives job) (sym e) (over (s .says))
       where
         over : Says (told.refused 14) → ClearGives job (Refused 14)
-        over (clearing.in-range k (clearing.over-obstructed h)) = obstructed (λ _. k) (record { has = has; above = h })
+        over (clearing.in-range k (clearing.over-obstructed h)) = obstructed (λ _. k) (record { has = has; rule = clearing.over-obstructed h })
     clear-gives (clearance.Given minus size needed) s (Refused n) w = absurd w
     clear-gives (clearance.Given minus size needed) s (Line l) w = clear-line minus size needed (s .says) (s .plain) l w
 
@@ -138,9 +137,9 @@ module _ (job : Job) where
   both-give (large r l) (unranged k) = says.out-of-range (λ r. k (r .clearance))
   both-give (large r l) (obstructed q o) = says.large (record { scour = r; clearance = q }) l
   both-give (large r l) (clear q n m) = says.large (record { scour = r; clearance = q }) l
-  both-give (intense r n i) (unranged k) = says.out-of-range (λ r. k (r .clearance))
-  both-give (intense r n i) (obstructed q o) = says.intense (record { scour = r; clearance = q }) n i
-  both-give (intense r n i) (clear q m l) = says.intense (record { scour = r; clearance = q }) n i
+  both-give (intense r i) (unranged k) = says.out-of-range (λ r. k (r .clearance))
+  both-give (intense r i) (obstructed q o) = says.intense (record { scour = r; clearance = q }) i
+  both-give (intense r i) (clear q m l) = says.intense (record { scour = r; clearance = q }) i
   both-give (line r p d) (unranged k) = says.out-of-range (λ r. k (r .clearance))
   both-give (line r p d) (obstructed q o) = says.obstructed (record { scour = r; clearance = q }) p o
   both-give (line {l} r p d) (clear {l = m} q n c) = says.shown {d = l} {c = m} (record { scour = r; clearance = q }) p n d c

@@ -8,7 +8,7 @@ use Rattle.scour.specs.declared.Waterway.{Waterway}
 use Rattle.scour.specs.Scour.{scour-told}
 use Rattle.clearance.specs.ClearanceTold.{ClearanceAnswered}
 use Rattle.clearance.specs.Clear.{ClearanceSays}
-use Rattle.answer.specs.river.River.{RiverSays}
+use Rattle.answer.specs.river.steps.Says.{RiverSays}
 use Rattle.answer.specs.river.Rows.{DepthGiven}
 use Rattle.answer.proofs.river.Telling.{DepthGives, ClearGives, no-depth, no-clear, depth-gives, clear-gives, both-give}
 use Rattle.answer.proofs.river.river_of.Statement.{statement}
