@@ -1,12 +1,10 @@
 -- A job's answer says A exactly if the job is sound: every line says Y, and the worst figure passes exactly if every permitted set's does.
-use Prim.Native.Nat.{ℕ, _≤_}
-use native.Mathlib.Omega.{arith}
+use Prim.Native.Nat.{ℕ}
 use mathlib.Core.Path.{_≡_, refl, sym, ap, subst, _∙_}
 use mathlib.Core.Bool.{true, false}
 use Rattle.arithmetic.proofs.Cases.{impossible}
 use Rattle.arithmetic.specs.decides.Decides.{decided}
 use Rattle.jobs.specs.declared.Job.{Job}
-use Rattle.scour.proofs.Scours.{scour-rule-one}
 use Rattle.earth.specs.declared.table2.Coefficient.{Coefficient}
 use Rattle.sets.specs.declared.Combination.{Combination}
 use Rattle.sets.specs.declared.Combination.the-variants.{I, II, III, IV}
@@ -29,16 +27,12 @@ use Rattle.worst.proofs.Naming.{worst-decides}
 use Rattle.loads.proofs.Loaded.{loads-one}
 use Rattle.lines.specs.declared.Verdict.{Verdict}
 use Rattle.lines.specs.declared.Verdict.the-variants.{Accepted, NotAccepted, Refused}
-use Rattle.lines.specs.declared.RiverLine.{RiverLine}
-use Rattle.lines.specs.declared.RiverLine.the-variants as river
 use Rattle.lines.specs.declared.Answer.{Answer}
-use Rattle.jobs.specs.stages.Rows.{HasClearance}
 use Rattle.answer.specs.Rules.{load-rows-of}
-use Rattle.answer.specs.river.River.{Founded, DepthIs, ClearIs}
-use Rattle.answer.proofs.river.Answers.{clear-one}
+use Rattle.answer.proofs.river.Answers.{depth-one, clear-one}
 use Rattle.lines.specs.verdicts.Verdict.{LineYes, LinesYes, RiverYes, AllYes, VerdictIs}
 use Rattle.answer.specs.Answer.{base-of, LinesAre, LinesGiven, AnswerIs, refused, answered}
-use Rattle.demands.specs.Words.{Bears, Deep, Clear, Sound}
+use Rattle.demands.specs.Words.{Bears, Sound}
 
 -- every permitted set of one combination passes one check
 AllPass : Combination → Check → Base → Loads → Type 0
@@ -77,37 +71,6 @@ module _ (combination : Combination) (base : Base) (loads : Loads) where
     rk = line-yes RK (l .rk) (p RK) (h RK);
   }
 
-module _ (job : Job) where
-  depth-deep : (d : RiverLine) → DepthIs job d → RiverYes d → Founded job → Deep job
-  depth-deep river.Missing p y f = absurd (p f)
-  depth-deep (river.Shown k n m true) p y f = record { depth = n; needed = p .value .rule; found = subst (λ (k : ℕ). n ≤ k) (p .limit) (p .mark) }
-  depth-deep (river.Shown k n m false) p y f = impossible cc
-
-  deep-depth : (d : RiverLine) → DepthIs job d → (Founded job → Deep job) → RiverYes d
-  deep-depth river.Missing p h = tt
-  deep-depth (river.Shown k n m true) p h = refl
-  deep-depth (river.Shown k n m false) p h =
-      let d = h (record { soil = p .soil; has = p .value .has }) in
-      let e = scour-rule-one (p .value .rule) (d .needed) in
-      let a : n ≡ d .depth = cc in
-      let b = p .limit in
-      let c = d .found in
-      absurd (p .mark (omega arith))
-
-  clear-clears : (c : RiverLine) → ClearIs job c → RiverYes c → HasClearance (job .stage) → Clear job
-  clear-clears river.Missing p y f = absurd (p f)
-  clear-clears (river.Shown m s n true) p y f = record { minus = m; size = s; needed = n; plain = p .plain; there = p .value .rule; enough = p .mark }
-  clear-clears (river.Shown m s n false) p y f = impossible cc
-
-  clears-clear : (c : RiverLine) → ClearIs job c → (HasClearance (job .stage) → Clear job) → RiverYes c
-  clears-clear river.Missing p h = tt
-  clears-clear (river.Shown m s n true) p h = refl
-  clears-clear (river.Shown m s n false) p h =
-      let c = h (p .value .has) in
-      let e = clear-one job (river.Shown m s n false) (river.Shown (c .minus) (c .size) (c .needed) true) p (record { value = record { has = p .value .has; rule = c .there }; plain = c .plain; mark = c .enough }) in
-      let z : false ≡ true = cc in
-      z
-
 module _ (fill : ℕ → ℕ → Coefficient) (job : Job) (a : Answer) where
   given-bears : (g : LinesGiven fill job a) → AllYes a → Bears (base-of (job .base)) (g .loads)
   unfolding AllPass
@@ -122,8 +85,8 @@ module _ (fill : ℕ → ℕ → Coefficient) (job : Job) (a : Answer) where
     loads = g .loads;
     are = g .are;
     bears = given-bears g y;
-    deep = depth-deep job (a .depth) (g .depth) (y .depth);
-    clear = clear-clears job (a .clear) (g .clear) (y .clear);
+    depth = record { line = a .depth; is = g .depth; yes = y .depth };
+    clear = record { line = a .clear; is = g .clear; yes = y .clear };
   }
 
   sound-yes : LinesGiven fill job a → Sound fill job → AllYes a
@@ -136,8 +99,8 @@ module _ (fill : ℕ → ℕ → Coefficient) (job : Job) (a : Answer) where
         two = lines-yes II _ (g .loads) (a .two) (g .two) (h II);
         three = lines-yes III _ (g .loads) (a .three) (g .three) (h III);
         four = lines-yes IV _ (g .loads) (a .four) (g .four) (h IV);
-        depth = deep-depth job (a .depth) (g .depth) (s .deep);
-        clear = clears-clear job (a .clear) (g .clear) (s .clear);
+        depth = subst RiverYes (depth-one job (s .depth .line) (a .depth) (s .depth .is) (g .depth)) (s .depth .yes);
+        clear = subst RiverYes (clear-one job (s .clear .line) (a .clear) (s .clear .is) (g .clear)) (s .clear .yes);
       }
 
   verdict-accepted : (v : Verdict) → LinesGiven fill job a → Sound fill job → VerdictIs v a → v ≡ Accepted

@@ -1,7 +1,7 @@
 -- What the demands speak of: what bytes say, a job that passes, and the line of a check. Document 01, Load sets and The printed answer.
-use Prim.Native.Nat.{ℕ, _≤_}
+use Prim.Native.Nat.{ℕ}
 use mathlib.Core.Path.{_≡_}
-use mathlib.Core.Bool.{Bool, true}
+use mathlib.Core.Bool.{Bool}
 use mathlib.Core.List.{List, [], _∷_, _++_}
 use lib.ListN.{take}
 use Rattle.rows.specs.declared.keys.Key.{Key}
@@ -11,10 +11,6 @@ use Rattle.book.specs.Values.{values}
 use Rattle.csv.specs.notes.Notes.{Nth}
 use Rattle.debtarush.specs.CallTold.{written}
 use Rattle.debtarush.specs.Called.{Called}
-use Rattle.scour.specs.Scour as scour
-use Rattle.arithmetic.specs.signed.Whole.{signed}
-use Rattle.clearance.specs.ClearanceTold.{given}
-use Rattle.clearance.specs.Clear.{opening-of, Cleared, AtLeast}
 use Rattle.earth.specs.declared.table2.Coefficient.{Coefficient}
 use Rattle.sets.specs.declared.Combination.{Combination}
 use Rattle.sets.specs.declared.Loads.{Loads}
@@ -30,8 +26,9 @@ use Rattle.worst.specs.Lines.{Printed}
 use Rattle.loads.specs.LoadRows.{AreLoads}
 use Rattle.lines.specs.declared.Answer.{Answer}
 use Rattle.lines.specs.Lines.{PrintedLine, check, holds, value-of, mark-of, lines-of}
-use Rattle.jobs.specs.stages.Rows.{HasClearance}
-use Rattle.answer.specs.river.River.{Founded}
+use Rattle.lines.specs.declared.RiverLine.{RiverLine}
+use Rattle.lines.specs.verdicts.Verdict.{RiverYes}
+use Rattle.answer.specs.river.River.{DepthIs, ClearIs}
 use Rattle.answer.specs.Rules.{load-rows-of, Unrefused}
 use Rattle.answer.specs.Answer.{base-of, AnswerIs}
 use Rattle.printing.specs.Keys.{IsKey}
@@ -74,20 +71,11 @@ abbrev pub Bears : Base → Loads → Type 0
 Bears base loads = (combination : Combination) (check : Check) (limit : ℕ) → Limit combination check base limit → (set : ℕ) (figure : Figure) → Permitted combination loads set
     → Shows check base loads set figure → Passes (side check) limit figure
 
--- "SC needs value <= limit": the depth needed is found
-pub record Deep (job : Job) : Type 0 where
-  pub depth : ℕ
-  pub needed : scour.ScourRule (scour.waterway-of (job .scour)) (scour.needs depth)
-  pub found : depth ≤ scour.waterway-of (job .scour) .depth
-
--- "CL value >= limit": underside - flood - afflux is the clearance needed or more
-pub record Clear (job : Job) : Type 0 where
-  pub minus : Bool
-  pub size : ℕ
-  pub needed : ℕ
-  pub plain : minus ≡ true → 1 ≤ size
-  pub there : Cleared (opening-of (job .clearance)) (scour.waterway-of (job .scour) .discharge) (given (signed minus size) needed)
-  pub enough : AtLeast minus size needed
+-- the line SC or CL of a job says Y; where the job has none, nothing says N
+pub record SaysYes (Is : RiverLine → Type 0) : Type 0 where
+  pub line : RiverLine
+  pub is : Is line
+  pub yes : RiverYes line
 
 -- "A is given exactly if the job isn't refused and every line after VERDICT says Y", said of the job and of its permitted sets
 pub record Sound (fill : ℕ → ℕ → Coefficient) (job : Job) : Type 0 where
@@ -95,8 +83,8 @@ pub record Sound (fill : ℕ → ℕ → Coefficient) (job : Job) : Type 0 where
   pub loads : Loads
   pub are : AreLoads fill (load-rows-of job) loads
   pub bears : Bears (base-of (job .base)) loads
-  pub deep : Founded job → Deep job
-  pub clear : HasClearance (job .stage) → Clear job
+  pub depth : SaysYes (DepthIs job)
+  pub clear : SaysYes (ClearIs job)
 
 -- ---- the line of a check
 
