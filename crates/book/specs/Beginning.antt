@@ -1,5 +1,5 @@
--- Document 01, refusals of a book: what rows a job book may begin with, for the first bad row is the first with which none begins. They
--- are the rows of whole jobs and of one job more, which may lack load rows.
+-- Document 01, refusals of a book: "the first bad row" is the first with which no job book begins. The rows that one may begin with are
+-- those of whole jobs and of one job more, which may lack load rows.
 use Prim.Native.Nat.{_≤_}
 use mathlib.Core.Path.{_≡_}
 use mathlib.Core.List.{List}
