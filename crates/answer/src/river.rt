@@ -3,6 +3,7 @@
 //
 // Each row gives its own refusal or its line, and of two refusals the lower is told. On rock no depth is needed, and still 12 and 13 apply;
 // a C row stands only behind an S row, whose Q it takes.
+use arithmetic::signed::Amount;
 use clearance::ClearanceAnswer;
 use jobs::Job;
 use lines::RiverLine;
@@ -37,9 +38,12 @@ fn depth_of(rock: bool, found: u64, answer: ScourAnswer) -> RowGives
             if rock {
                 return RowGives::Line(RiverLine::Missing);
             }
-            RowGives::Line(RiverLine::Shown {
+            let value = Amount {
                 minus: false,
                 size: needed,
+            };
+            RowGives::Line(RiverLine::Shown {
+                value,
                 limit: found,
                 passes: needed <= found,
             })
@@ -54,15 +58,10 @@ fn clear_of(answer: ClearanceAnswer) -> RowGives
     match answer {
         ClearanceAnswer::OutOfRange => RowGives::Refused(11),
         ClearanceAnswer::OverObstructed => RowGives::Refused(14),
-        ClearanceAnswer::Given {
-            minus,
-            size,
-            needed,
-        } => RowGives::Line(RiverLine::Shown {
-            minus,
-            size,
+        ClearanceAnswer::Given { clearance, needed } => RowGives::Line(RiverLine::Shown {
+            value: clearance,
             limit: needed,
-            passes: !minus & (needed <= size),
+            passes: !clearance.minus & (needed <= clearance.size),
         }),
     }
 }

@@ -1,20 +1,17 @@
 -- Levels as whole numbers, and how the code keeps them natural: what each is above zero and below it is added up on two sides,
 -- and the difference of the sides is the whole number, by its sign and size.
-use mathlib.Core.Path.{_≡_, refl, sym, ap, subst⁻¹, _∙_}
+use mathlib.Core.Path.{_≡_, refl, sym, ap, _∙_}
 use mathlib.Core.Bool.{Bool, true, false}
 use Prim.Native.Nat.{ℕ, _+_, _≤_}
 use native.Mathlib.Nat.{add-zero}
 use native.Mathlib.Omega.{arith}
-use lib.IntN.{ℤ, pos, negsuc, negℤ, _-ℤ_, +ℤ-idl}
+use lib.IntN.{ℤ, pos, negℤ, _-ℤ_, +ℤ-idl}
 use Rattle.arithmetic.specs.declared.signed.Amount.{Amount}
 use Rattle.arithmetic.specs.declared.signed.Parts.{Parts}
-use Rattle.arithmetic.specs.signed.Whole.{signed, worth, amount, above, below, parts-of}
+use Rattle.arithmetic.specs.signed.Whole.{worth, above, below, parts-of}
 use Rattle.arithmetic.proofs.signed.Laws.{above-size, below-size, above-neg, below-neg, add-parts, add-diffs}
-use Rattle.arithmetic.proofs.Cases.{impossible}
 use Rattle.fields.specs.declared.Entry.{Entry}
 use Rattle.kinds.specs.ranges.Range.{Around}
-use Rattle.clearance.specs.ClearanceTold.{given, ClearanceAnswered}
-use Rattle.clearance.specs.declared.ClearanceAnswer.the-variants.{Given}
 
 -- a level in its range is at most 9,000,000 from zero
 pub level-most : (e : Entry) → Around 500000 9000000 e → e .size ≤ 9000000
@@ -40,12 +37,3 @@ pub between-levels : (upper lower : Amount) (h : ℕ) {p q : Parts} → p ≡ pa
     → pos (p .above + q .below) -ℤ pos (p .below + q .above + h) ≡ worth upper -ℤ worth lower -ℤ pos h
 unfolding parts-of
 between-levels upper lower h e f = rw (e, f) (sides (worth upper) (worth lower) h)
-
--- the amount of a number tells it, without a minus zero
-pub amount-told : (z : ℤ) (needed : ℕ) {a : Amount} → a ≡ amount z → ClearanceAnswered (λ t. t ≡ given z needed) (Given (a .minus) (a .size) needed)
-unfolding amount signed
-amount-told z needed e = subst⁻¹ (λ (a : Amount). ClearanceAnswered (λ t. t ≡ given z needed) (Given (a .minus) (a .size) needed)) e (by-sign z)
-  where
-    by-sign : (z : ℤ) → ClearanceAnswered (λ t. t ≡ given z needed) (Given (amount z .minus) (amount z .size) needed)
-    by-sign (pos n) = record { says = refl; plain = λ k. impossible cc }
-    by-sign (negsuc n) = record { says = refl; plain = λ k. omega arith }

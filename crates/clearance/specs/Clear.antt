@@ -1,10 +1,10 @@
 -- Document 01, what a C row is told, with the Q of its job's S row: underside - flood - afflux and the clearance needed (CL), or a refusal of its job.
 use mathlib.Core.Path.{_≡_}
-use mathlib.Core.Bool.{Bool, true, false}
+use mathlib.Core.Bool.{false}
 use Prim.Native.Nat.{ℕ, _≤_, _<_}
-use lib.IntN.{ℤ, pos, _-ℤ_}
+use lib.IntN.{pos, _-ℤ_}
 use Rattle.arithmetic.specs.declared.signed.Amount.{Amount}
-use Rattle.arithmetic.specs.signed.Whole.{worth}
+use Rattle.arithmetic.specs.signed.Whole.{worth, amount}
 use Rattle.fields.specs.declared.Entry.{Entry}
 use Rattle.kinds.specs.ranges.Range.{Ranged}
 use Rattle.kinds.specs.declared.Kind.the-variants.{C}
@@ -24,8 +24,8 @@ opening-of n = record { velocity = n .n1 .size; area = n .n2 .size; obstructed =
 -- "14, a above A"; else underside - flood - afflux and the clearance needed
 pub data Cleared (row : Opening) (Q : ℕ) : ClearanceTold → Type 0 where
   over-obstructed : row .area < row .obstructed → Cleared row Q (refused 14)
-  clear : {afflux needed : ℕ} {clearance : ℤ} → row .obstructed ≤ row .area → Afflux (row .velocity) (row .area) (row .obstructed) afflux
-      → clearance ≡ worth (row .underside) -ℤ worth (row .flood) -ℤ pos afflux → ClearanceNeeded Q needed
+  clear : {afflux needed : ℕ} {clearance : Amount} → row .obstructed ≤ row .area → Afflux (row .velocity) (row .area) (row .obstructed) afflux
+      → clearance ≡ amount (worth (row .underside) -ℤ worth (row .flood) -ℤ pos afflux) → ClearanceNeeded Q needed
       → Cleared row Q (given clearance needed)
 
 -- "11, a number out of range"; else what the row's columns give
@@ -33,7 +33,7 @@ pub data ClearanceSays (row : Numbers) (Q : ℕ) : ClearanceTold → Type 0 wher
   out-of-range : (Ranged C row → ⊥) → ClearanceSays row Q (refused 11)
   in-range : {t : ClearanceTold} → Ranged C row → Cleared (opening-of row) Q t → ClearanceSays row Q t
 
--- "CL value >= limit": a clearance by its sign and size is at least the clearance needed
-abbrev pub AtLeast : Bool → ℕ → ℕ → Type 0
-AtLeast true size needed = ⊥
-AtLeast false size needed = needed ≤ size
+-- "CL value >= limit": a clearance is not below zero, and at least the clearance needed
+pub record AtLeast (clearance : Amount) (needed : ℕ) : Type 0 where
+  pub plain : clearance .minus ≡ false
+  pub enough : needed ≤ clearance .size

@@ -7,12 +7,12 @@ pub mod afflux;
 use arithmetic::signed::Amount;
 use kinds::Kind;
 use kinds::Numbers;
-ghost use Rattle.clearance.specs.ClearanceTold.{ClearanceAnswered, given};
+ghost use Rattle.clearance.specs.ClearanceTold.{clearance-told};
 ghost use Rattle.clearance.specs.Clear.{opening-of, ClearanceSays};
 ghost use mathlib.Core.Path.{_≡_};
 ghost use Prim.Native.Nat.{_≤_};
 ghost use lib.IntN.{pos, _-ℤ_};
-ghost use Rattle.arithmetic.specs.signed.Whole.{worth};
+ghost use Rattle.arithmetic.specs.signed.Whole.{worth, amount};
 
 // The columns of a C row: velocity in mm/s, area A and obstructed area a in tenths of m², and the levels of underside and flood in mm.
 pub struct Opening {
@@ -23,11 +23,11 @@ pub struct Opening {
     pub flood: Amount,
 }
 
-// What a C row is told: underside - flood - afflux by its sign and size, and the clearance needed, in mm; or a refusal.
+// What a C row is told: the clearance there is, underside - flood - afflux, and the clearance needed, in mm; or a refusal.
 pub enum ClearanceAnswer {
     OutOfRange,
     OverObstructed,
-    Given { minus: bool, size: u64, needed: u64 },
+    Given { clearance: Amount, needed: u64 },
 }
 
 // A C row by its columns. The rules take them in words of 64 bits.
@@ -53,7 +53,7 @@ fn opening_of(row: Numbers) -> Opening
 
 // The clearance that a C row has and needs, with the discharge of its job's S row.
 pub fn clearance(row: Numbers, discharge: u64) -> ClearanceAnswer
-    ensures { λ r. ⌜ ClearanceAnswered (ClearanceSays row discharge) r ⌝ }
+    ensures { λ r. ⌜ ClearanceSays row discharge (clearance-told r) ⌝ }
 {
     if !kinds::ranges::is_ranged(Kind::C, row) {
         return ClearanceAnswer::OutOfRange;
@@ -63,23 +63,19 @@ pub fn clearance(row: Numbers, discharge: u64) -> ClearanceAnswer
         return ClearanceAnswer::OverObstructed;
     }
     let rise = afflux::afflux(opening.velocity, opening.area, opening.obstructed);
+    let clearance = clearance_under(opening.underside, opening.flood, rise);
     let needed = afflux::clearance_needed(discharge);
-    clearance_under(opening.underside, opening.flood, rise, needed)
+    ClearanceAnswer::Given { clearance, needed }
 }
 
-// Underside - flood - afflux by its sign and size, beside the clearance needed.
-fn clearance_under(underside: Amount, flood: Amount, afflux: u64, needed: u64) -> ClearanceAnswer
+// Underside - flood - afflux.
+fn clearance_under(underside: Amount, flood: Amount, afflux: u64) -> Amount
     requires { ⌜ (underside .size ≤ 9000000) × (flood .size ≤ 9000000) × (afflux ≤ 60000000000000) ⌝ }
-    ensures { λ r. ⌜ ClearanceAnswered (λ t. t ≡ given (worth underside -ℤ worth flood -ℤ pos afflux) needed) r ⌝ }
+    ensures { λ r. ⌜ r ≡ amount (worth underside -ℤ worth flood -ℤ pos afflux) ⌝ }
 {
     let upper = arithmetic::signed::parts_of(underside);
     let lower = arithmetic::signed::parts_of(flood);
     let height = upper.above + lower.below;
     let depth = upper.below + lower.above + afflux;
-    let clearance = arithmetic::signed::difference(height, depth);
-    ClearanceAnswer::Given {
-        minus: clearance.minus,
-        size: clearance.size,
-        needed,
-    }
+    arithmetic::signed::difference(height, depth)
 }

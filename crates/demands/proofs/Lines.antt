@@ -63,7 +63,7 @@ module _ (fill : ℕ → ℕ → Coefficient) (job : Job) where
   river-named : (name : LineName) → ((combination : Combination) (of : Check) → name ≡ check combination of → ⊥) → (l : RiverLine) → all.All IsNamed (river-line name l)
   unfolding river-line
   river-named name n river.Missing = all.none
-  river-named name n (river.Shown below size limit passes) = all.more (other-named _ n) all.none
+  river-named name n (river.Shown value limit passes) = all.more (other-named _ n) all.none
 
   verdict-named : (v : Verdict) → IsNamed (verdict-line v)
   unfolding verdict-line

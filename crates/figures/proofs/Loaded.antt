@@ -6,9 +6,8 @@ use lib.Dec.{T, ltb, ltb→lt}
 use lib.IntN.{pos, _*ℤ_}
 use lib.ListN.{replicate}
 use Rattle.arithmetic.proofs.rounding.Compute.{is-down, down-test}
-use Rattle.kinds.specs.ranges.Range.{value}
 use Rattle.earth.specs.table2.Table2.{table2-fill}
-use Rattle.arithmetic.specs.signed.Whole.{amount}
+use Rattle.arithmetic.specs.signed.Whole.{signed, amount}
 use Rattle.sets.specs.declared.Class.the-variants.{Permanent}
 use Rattle.sets.specs.declared.Load.{Load}
 use Rattle.sets.specs.declared.Loads.{Loads}
@@ -43,7 +42,7 @@ module _ (v x h y : ℕ) where
   alone = record { count = 1; loads = exerted ∷ replicate 15 no-load }
 
   exerts : Exerts table2-fill (dead-load v x h y) exerted
-  unfolding class-of source Forces value
+  unfolding class-of source Forces signed
   exerts = record { class = refl; phase = refl; forces = record { v = refl; x = refl; h = refl; twist = refl } }
 
   are-loads : AreLoads table2-fill (dead-load v x h y ∷ []) alone

@@ -1,8 +1,9 @@
 -- Document 01, The printed answer: the lines of an answer, in their order. A line's key is the job's, and stands before each of them.
 use Prim.Native.Nat.{ℕ, _<_}
 use mathlib.Core.Path.{_≡_}
-use mathlib.Core.Bool.{Bool, true, false}
+use mathlib.Core.Bool.{Bool, true, false, cond}
 use mathlib.Core.List.{List, [], _∷_, _++_}
+use Rattle.arithmetic.specs.declared.signed.Amount.{Amount}
 use Rattle.sets.specs.declared.Combination.{Combination}
 use Rattle.sets.specs.declared.Combination.the-variants.{I, II, III, IV}
 use Rattle.checks.specs.declared.Check.{Check}
@@ -62,9 +63,8 @@ value-of Nothing = none
 value-of (Number n) = number n
 value-of Off = off
 
-unfoldable pub signed-value : Bool → ℕ → Value
-signed-value true n = minus n
-signed-value false n = number n
+unfoldable pub signed-value : Amount → Value
+signed-value a = cond (a .minus) (minus (a .size)) (number (a .size))
 
 -- "with A, N or the refusal"
 unfoldable pub verdict-value : Verdict → Value
@@ -94,8 +94,8 @@ combination-lines combination lines =
 -- "SC (.. value needed, limit found)", "CL (.. value underside - flood - afflux)", limit the clearance needed. "SC and CL have no set."
 unfoldable pub river-line : LineName → RiverLine → List PrintedLine
 river-line name river.Missing = []
-river-line name (river.Shown below size limit passes) =
-    record { name = name; value = signed-value below size; limit = holds limit; set = empty; mark = mark-of passes } ∷ []
+river-line name (river.Shown value limit passes) =
+    record { name = name; value = signed-value value; limit = holds limit; set = empty; mark = mark-of passes } ∷ []
 
 -- "Then for each checked combination, I to IV, .. SC .., CL"
 unfoldable pub later-lines : Answer → List PrintedLine

@@ -4,6 +4,7 @@
 // once, as a list, in `specs/`, for the text and for the demands.
 pub mod verdicts;
 
+use arithmetic::signed::Amount;
 use checks::Figure;
 ghost use mathlib.Core.Path.{_≡_};
 ghost use Rattle.lines.specs.Lines.{no-lines, Alone};
@@ -35,13 +36,12 @@ pub enum Verdict {
     Refused(u8),
 }
 
-// SC or CL: the value by its sign and size and the limit, in mm, and whether it says Y. Of SC the value is the depth needed, and the limit
-// the foundation depth found; of CL underside - flood - afflux, and the clearance needed.
+// SC or CL: the value and the limit, in mm, and whether it says Y. Of SC the value is the depth needed, and the limit the foundation
+// depth found; of CL underside - flood - afflux, and the clearance needed.
 pub enum RiverLine {
     Missing,
     Shown {
-        minus: bool,
-        size: u64,
+        value: Amount,
         limit: u64,
         passes: bool,
     },

@@ -32,8 +32,7 @@ fn river_yes(line: RiverLine) -> bool
     match line {
         RiverLine::Missing => true,
         RiverLine::Shown {
-            minus: _,
-            size: _,
+            value: _,
             limit: _,
             passes,
         } => passes,

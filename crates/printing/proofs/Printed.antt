@@ -5,6 +5,7 @@ use mathlib.Core.Bool.{Bool, true, false}
 use mathlib.Core.List.{List, [], _∷_, _++_, append-assoc, append-nil}
 use native.Mathlib.Omega.{arith}
 use lib.ListN.{length}
+use Rattle.arithmetic.specs.declared.signed.Amount.{Amount}
 use Rattle.arithmetic.proofs.Cases.{impossible}
 use Rattle.rows.specs.declared.keys.Key.{Key}
 use Rattle.sets.specs.declared.Combination.{Combination}
@@ -96,17 +97,17 @@ module _ (key : Key) (b₀ b₁ b₂ b₃ b₄ b₅ : Block) where
       (then-put b₄ b₅ b₇ _ _ _ _ (p₅ .0)
       (then-put b₅ b₆ b₇ _ _ _ _ (p₆ .0) p₇))))))
 
-  pub river-printed : (b₆ : Block) (name : LineName) (l : RiverLine) (below : Bool) (size limit : ℕ) (passes : Bool)
-      → l ≡ river.Shown below size limit passes
+  pub river-printed : (b₆ : Block) (name : LineName) (l : RiverLine) (value : Amount) (limit : ℕ) (passes : Bool)
+      → l ≡ river.Shown value limit passes
       → Put b₀ (key-text key) 26 b₁
       → Put b₁ (name-text name) 2 b₂
-      → Put b₂ (field (value-text (signed-value below size))) 22 b₃
+      → Put b₂ (field (value-text (signed-value value))) 22 b₃
       → Put b₃ (field (decimal limit)) (1 + length (decimal limit)) b₄ × (length (decimal limit) ≤ 20)
       → b₅ ≡ puts b₄ (field [])
       → Put b₅ (ending passes) 4 b₆
       → Put b₀ (texts key (river-line name l)) 76 b₆
   unfolding river-line line-text number-text
-  river-printed b₆ name l below size limit passes e p₁ p₂ p₃ p₄ p₅ p₆ =
+  river-printed b₆ name l value limit passes e p₁ p₂ p₃ p₄ p₅ p₆ =
       rw e
       (put-as b₀ b₆ _ _ _ _ (texts-one key _) (omega (arith, p₄ .1))
       (then-put b₀ b₁ b₆ _ _ _ _ p₁

@@ -102,14 +102,13 @@ fn put_river_line(
     match line {
         RiverLine::Missing => at,
         RiverLine::Shown {
-            minus,
-            size,
+            value,
             limit,
             passes,
         } => {
             let end = line_key::put_key(out, at, key);
             let end = block::put(out, end, &[first, second]);
-            let end = line_fields::put_signed(out, end, minus, size);
+            let end = line_fields::put_signed(out, end, value);
             let end = block::put_number(out, end, limit);
             let end = block::push(out, end, b',');
             put_ending(out, end, passes)

@@ -1,6 +1,6 @@
 -- What `scour` and `clearance` tell of a row, told of its job: a refusal of a row is one of the job, the lower of two comes first, and no
 -- other holds beside what is told.
-use Prim.Native.Nat.{ℕ, _<_}
+use Prim.Native.Nat.{ℕ, _≤_}
 use mathlib.Core.Path.{_≡_, refl, sym, subst, subst⁻¹}
 use mathlib.Core.Bool.{Bool, true}
 use Rattle.arithmetic.proofs.Cases.{impossible, unlike}
@@ -11,7 +11,7 @@ use Rattle.jobs.specs.declared.Job.{Job}
 use Rattle.jobs.specs.stages.Rows.{HasScour, HasClearance}
 use Rattle.scour.specs.Scour as scour
 use Rattle.scour.specs.ScourRow as scour-row
-use Rattle.arithmetic.specs.signed.Whole.{signed}
+use Rattle.arithmetic.specs.declared.signed.Amount.{Amount}
 use Rattle.clearance.specs.ClearanceTold as told
 use Rattle.clearance.specs.Clear as clearing
 use Rattle.clearance.specs.declared.ClearanceAnswer.{ClearanceAnswer}
@@ -66,13 +66,14 @@ module _ (job : Job) where
 
       depth-line : (l : RiverLine) → DepthLineIs rock needed (scour.waterway-of (job .scour) .depth) l → DepthIs job l
       depth-line lines.Missing w = λ f. f .soil (decided rock w strata)
-      depth-line (lines.Shown minus n f passes) w =
+      depth-line (lines.Shown depth f passes) w =
           record {
             soil = refuted rock (w .0) strata;
-            plain = w .1;
-            value = record { has = has; rule = subst (λ (x : ℕ). scour.ScourRule (scour.waterway-of (job .scour)) (scour.needs x)) (sym (w .2)) rule };
-            limit = w .3;
-            mark = w .4;
+            needed = needed;
+            gives = record { has = has; rule = rule };
+            value = w .1;
+            limit = w .2;
+            mark = subst⁻¹ (λ (x : ℕ). Decides passes (needed ≤ x)) (w .2) (w .3);
           }
 
     depth-number : {m n : ℕ} → scour.refused m ≡ scour.refused n → DepthGives job (Refused m) → DepthGives job (Refused n)
@@ -95,39 +96,26 @@ module _ (job : Job) where
     abbrev Says : told.ClearanceTold → Type 0
     Says t = clearing.ClearanceSays (job .clearance) (scour.waterway-of (job .scour) .discharge) t
 
-    module _ (minus : Bool) (size needed : ℕ) (says : Says (told.given (signed minus size) needed)) (plain : minus ≡ true → 0 < size) where
-      in-range : {t : told.ClearanceTold} → Says t → t ≡ told.given (signed minus size) needed → Ranged C (job .clearance)
-      in-range (clearing.out-of-range h) e = impossible cc
-      in-range (clearing.in-range k v) e = k
+    abbrev Cleared : Amount → ℕ → Type 0
+    Cleared there needed = clearing.Cleared (clearing.opening-of (job .clearance)) (scour.waterway-of (job .scour) .discharge) (told.given there needed)
 
-      not-obstructed : OverObstructed job → ⊥
-      not-obstructed o =
-          let e = clearances.clearance-says-one (clearing.in-range (in-range says refl) (o .rule)) says in
-          impossible cc
+    module _ (there : Amount) (needed : ℕ) where
+      -- what gives a clearance does not give 14
+      not-obstructed : Cleared there needed → OverObstructed job → ⊥
+      not-obstructed v o = let e = clearances.cleared-one (o .rule) v in impossible cc
 
-      value-of : {t : told.ClearanceTold} → Says t → t ≡ told.given (signed minus size) needed
-          → clearing.Cleared (clearing.opening-of (job .clearance)) (scour.waterway-of (job .scour) .discharge) t
-      value-of (clearing.out-of-range h) e = impossible cc
-      value-of (clearing.in-range k v) e = v
+      clear-line : (l : RiverLine) → Ranged C (job .clearance) → Cleared there needed → ClearLineIs there needed l → ClearGives job (Line l)
+      clear-line lines.Missing k v w = absurd w
+      clear-line (lines.Shown c n passes) k v w =
+          let here : ClearIs job (lines.Shown there needed passes) = record { gives = record { has = has; rule = v }; mark = w .2 } in
+          let same : lines.Shown c n passes ≡ lines.Shown there needed passes = let p = w .0 in let q = w .1 in cc in
+          subst⁻¹ (λ (l : RiverLine). ClearGives job (Line l)) same (clear {l = lines.Shown there needed passes} (λ _. k) (not-obstructed v) here)
 
-      clear-line : (l : RiverLine) → ClearLineIs minus size needed l → ClearGives job (Line l)
-      clear-line lines.Missing w = absurd w
-      clear-line (lines.Shown m n k passes) w =
-          let here : ClearIs job (lines.Shown minus size needed passes) = record { value = record { has = has; rule = value-of says refl }; plain = plain; mark = w .3 } in
-          let same : lines.Shown m n k passes ≡ lines.Shown minus size needed passes = let p = w .0 in let q = w .1 in let r = w .2 in cc in
-          subst⁻¹ (λ (l : RiverLine). ClearGives job (Line l)) same (clear {l = lines.Shown minus size needed passes} (λ _. in-range says refl) not-obstructed here)
-
-    pub clear-gives : (a : ClearanceAnswer) → told.ClearanceAnswered (λ t. Says t) a → (r : RowGives) → ClearGiven a r → ClearGives job r
-    clear-gives clearance.OutOfRange s r e = subst (ClearGives job) (sym e) (out (s .says))
-      where
-        out : Says (told.refused 11) → ClearGives job (Refused 11)
-        out (clearing.out-of-range h) = unranged (λ r. h (r has))
-    clear-gives clearance.OverObstructed s r e = subst (ClearGives job) (sym e) (over (s .says))
-      where
-        over : Says (told.refused 14) → ClearGives job (Refused 14)
-        over (clearing.in-range k (clearing.over-obstructed h)) = obstructed (λ _. k) (record { has = has; rule = clearing.over-obstructed h })
-    clear-gives (clearance.Given minus size needed) s (Refused n) w = absurd w
-    clear-gives (clearance.Given minus size needed) s (Line l) w = clear-line minus size needed (s .says) (s .plain) l w
+    pub clear-gives : (a : ClearanceAnswer) → Says (told.clearance-told a) → (r : RowGives) → ClearGiven a r → ClearGives job r
+    clear-gives clearance.OutOfRange (clearing.out-of-range h) r e = subst⁻¹ (ClearGives job) e (unranged (λ r. h (r has)))
+    clear-gives clearance.OverObstructed (clearing.in-range k v) r e = subst⁻¹ (ClearGives job) e (obstructed (λ _. k) (record { has = has; rule = v }))
+    clear-gives (clearance.Given there needed) s (Refused n) w = absurd w
+    clear-gives (clearance.Given there needed) (clearing.in-range k v) (Line l) w = clear-line there needed l k v w
 
   -- ---- both rows: 11 before 12 and 13, and those before 14
   pub both-give : {d c : RowGives} → DepthGives job d → ClearGives job c → RiverSays job (both d c)

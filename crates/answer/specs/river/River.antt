@@ -1,13 +1,15 @@
 -- Document 01, what the river rows of a job give it, where it has them: refusals 12 to 14, and the lines SC and CL.
 use Prim.Native.Nat.{ℕ, _≤_}
 use mathlib.Core.Path.{_≡_}
-use mathlib.Core.Bool.{Bool, true, false}
+use mathlib.Core.Bool.{Bool}
+use lib.IntN.{pos}
 use Rattle.arithmetic.specs.decides.Decides.{Decides}
 use Rattle.jobs.specs.declared.Job.{Job}
 use Rattle.jobs.specs.stages.Rows.{HasScour, HasClearance}
 use Rattle.scour.specs.Scour.{waterway-of, ScourTold, needs, ScourRule}
 use Rattle.clearance.specs.Clear.{opening-of, Cleared, AtLeast}
-use Rattle.arithmetic.specs.signed.Whole.{signed}
+use Rattle.arithmetic.specs.declared.signed.Amount.{Amount}
+use Rattle.arithmetic.specs.signed.Whole.{amount}
 use Rattle.clearance.specs.ClearanceTold.{ClearanceTold, given}
 use Rattle.lines.specs.declared.RiverLine.{RiverLine}
 use Rattle.lines.specs.declared.RiverLine.the-variants as line
@@ -31,23 +33,23 @@ pub record Founded (job : Job) : Type 0 where
   pub soil : OnRock job → ⊥
   pub has : HasScour (job .stage)
 
-pub record DepthShown (job : Job) (minus : Bool) (needed found : ℕ) (passes : Bool) : Type 0 where
+pub record DepthShown (job : Job) (depth : Amount) (found : ℕ) (passes : Bool) : Type 0 where
   pub soil : OnRock job → ⊥
-  pub plain : minus ≡ false
-  pub value : ScourGives job (needs needed)
+  pub needed : ℕ
+  pub gives : ScourGives job (needs needed)
+  pub value : depth ≡ amount (pos needed)
   pub limit : found ≡ waterway-of (job .scour) .depth
   pub mark : Decides passes (needed ≤ found)
 
 abbrev pub DepthIs : Job → RiverLine → Type 0
 DepthIs job line.Missing = Founded job → ⊥
-DepthIs job (line.Shown minus needed found passes) = DepthShown job minus needed found passes
+DepthIs job (line.Shown depth found passes) = DepthShown job depth found passes
 
 -- CL: with C; value underside - flood - afflux, limit the clearance needed; it needs value >= limit
-pub record ClearShown (job : Job) (minus : Bool) (size needed : ℕ) (passes : Bool) : Type 0 where
-  pub value : ClearanceGives job (given (signed minus size) needed)
-  pub plain : minus ≡ true → 1 ≤ size
-  pub mark : Decides passes (AtLeast minus size needed)
+pub record ClearShown (job : Job) (clearance : Amount) (needed : ℕ) (passes : Bool) : Type 0 where
+  pub gives : ClearanceGives job (given clearance needed)
+  pub mark : Decides passes (AtLeast clearance needed)
 
 abbrev pub ClearIs : Job → RiverLine → Type 0
 ClearIs job line.Missing = HasClearance (job .stage) → ⊥
-ClearIs job (line.Shown minus size needed passes) = ClearShown job minus size needed passes
+ClearIs job (line.Shown clearance needed passes) = ClearShown job clearance needed passes

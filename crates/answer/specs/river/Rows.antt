@@ -3,6 +3,9 @@ use Prim.Native.Nat.{ℕ, _≤_}
 use mathlib.Core.Path.{_≡_}
 use mathlib.Core.Bool.{Bool, true, false, cond}
 use lib.Dec.{ltb}
+use lib.IntN.{pos}
+use Rattle.arithmetic.specs.declared.signed.Amount.{Amount}
+use Rattle.arithmetic.specs.signed.Whole.{amount}
 use Rattle.arithmetic.specs.decides.Decides.{Decides}
 use Rattle.scour.specs.Scour.{ScourTold, refused, needs}
 use Rattle.clearance.specs.Clear.{AtLeast}
@@ -18,22 +21,22 @@ use Rattle.answer.specs.declared.river.RowGives.the-variants.{Refused, L
 -- SC: on rock none; else the depth needed beside the depth found
 abbrev pub DepthLineIs : Bool → ℕ → ℕ → RiverLine → Type 0
 DepthLineIs rock needed found line.Missing = rock ≡ true
-DepthLineIs rock needed found (line.Shown minus n f passes) = (rock ≡ false) × (minus ≡ false) × (n ≡ needed) × (f ≡ found) × Decides passes (n ≤ f)
+DepthLineIs rock needed found (line.Shown depth f passes) = (rock ≡ false) × (depth ≡ amount (pos needed)) × (f ≡ found) × Decides passes (needed ≤ found)
 
 abbrev pub DepthGiven : Bool → ℕ → ScourTold → RowGives → Type 0
 DepthGiven rock found told (Refused n) = told ≡ refused n
 DepthGiven rock found told (Line l) = (needed : ℕ) × (told ≡ needs needed) × DepthLineIs rock needed found l
 
 -- CL: the clearance there is beside the clearance needed
-abbrev pub ClearLineIs : Bool → ℕ → ℕ → RiverLine → Type 0
-ClearLineIs minus size needed line.Missing = ⊥
-ClearLineIs minus size needed (line.Shown m s n passes) = (m ≡ minus) × (s ≡ size) × (n ≡ needed) × Decides passes (AtLeast minus size needed)
+abbrev pub ClearLineIs : Amount → ℕ → RiverLine → Type 0
+ClearLineIs clearance needed line.Missing = ⊥
+ClearLineIs clearance needed (line.Shown c n passes) = (c ≡ clearance) × (n ≡ needed) × Decides passes (AtLeast clearance needed)
 
 abbrev pub ClearGiven : ClearanceAnswer → RowGives → Type 0
 ClearGiven clearance.OutOfRange r = r ≡ Refused 11
 ClearGiven clearance.OverObstructed r = r ≡ Refused 14
-ClearGiven (clearance.Given minus size needed) (Refused n) = ⊥
-ClearGiven (clearance.Given minus size needed) (Line l) = ClearLineIs minus size needed l
+ClearGiven (clearance.Given there needed) (Refused n) = ⊥
+ClearGiven (clearance.Given there needed) (Line l) = ClearLineIs there needed l
 
 -- the lower of two refusals, or the lines
 abbrev pub both : RowGives → RowGives → RiverRead

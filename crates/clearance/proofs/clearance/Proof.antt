@@ -1,6 +1,6 @@
 -- `clearance::clearance` meets its contract: past the ranges the levels and the afflux are small enough for `clearance_under`, and each way out is
 -- one case of what is told.
-use mathlib.Core.Path.{refl, sym, subst}
+use mathlib.Core.Path.{sym, subst}
 use Prim.Native.Nat.{_≤_}
 use borrow.Author.Needs.{needs}
 use borrow.Author.Tests.{not-true, not-false}
@@ -11,7 +11,6 @@ use Rattle.clearance.proofs.afflux.Bounds.{afflux-most}
 use Rattle.clearance.specs.declared.Opening.{Opening}
 use Rattle.clearance.specs.ClearanceTold.{ClearanceTold}
 use Rattle.clearance.specs.Clear.{opening-of, Cleared, ClearanceSays, out-of-range, in-range, over-obstructed, clear}
-use Rattle.clearance.proofs.ClearanceTold.{told-exactly}
 use Rattle.clearance.proofs.Levels.{level-most}
 use Rattle.clearance.proofs.clearance.Statement.{statement}
 use Rattle.clearance.proofs.clearance.Tie as tie
@@ -42,29 +41,29 @@ is-ranged-requires : tie.Need-is-ranged-requires
 is-ranged-requires c κs = search needs
 
 returns : tie.Need-returns
-returns c = record { says = out-of-range (refuted (c .before .is-ranged .result) (not-true _ (c .if1 .taken)) (c .before .is-ranged .ensures)); plain = tt }
+returns c = out-of-range (refuted (c .before .is-ranged .result) (not-true _ (c .if1 .taken)) (c .before .is-ranged .ensures))
 
 opening-of-requires : tie.Need-opening-of-requires
 opening-of-requires c κs = search needs
 
 returns-2 : tie.Need-returns-2
-returns-2 c = record { says = says (c .before .before) _ (over-obstructed (c .if2 .taken)); plain = tt }
+returns-2 c = says (c .before .before) _ (over-obstructed (c .if2 .taken))
 
 afflux-requires : tie.Need-afflux-requires
 afflux-requires c κs = let m = modest (c .before .before) in (m .velocity, m .area, m .obstructed, c .if2 .left)
 
-clearance-needed-requires : tie.Need-clearance-needed-requires
-clearance-needed-requires c κs = search needs
-
 clearance-under-requires : tie.Need-clearance-under-requires
 clearance-under-requires c κs =
-    let m = modest (c .before .before .before .before) in
-    (m .underside, m .flood, afflux-most _ _ _ _ (m .velocity) (m .area) (m .obstructed) (c .before .afflux .ensures))
+    let m = modest (c .before .before .before) in
+    (m .underside, m .flood, afflux-most _ _ _ _ (m .velocity) (m .area) (m .obstructed) (c .afflux .ensures))
+
+clearance-needed-requires : tie.Need-clearance-needed-requires
+clearance-needed-requires c κs = search needs
 
 returns-3 : tie.Need-returns-3
 returns-3 c =
     let risen = c .before .before in
-    told-exactly (says (risen .before .before .before) _ (clear (risen .before .if2 .left) (risen .afflux .ensures) refl (c .before .clearance-needed .ensures))) (c .clearance-under .ensures)
+    says (risen .before .before .before) _ (clear (risen .before .if2 .left) (risen .afflux .ensures) (c .before .clearance-under .ensures) (c .clearance-needed .ensures))
 
 pub clearance-spec : {M : Type 1} → statement M
 clearance-spec =
@@ -75,6 +74,6 @@ clearance-spec =
     opening-of-requires
     returns-2
     afflux-requires
-    clearance-needed-requires
     clearance-under-requires
+    clearance-needed-requires
     returns-3)

@@ -1,13 +1,11 @@
 -- `clearance::clearance_under` meets its contract: what is above zero and what is below are added up on two sides, which fit a word,
--- and the difference of the sides is told by its sign and size.
-use mathlib.Core.Path.{_≡_, subst}
+-- and the difference of the sides is the clearance.
+use mathlib.Core.Path.{ap, _∙_}
 use Prim.Native.Nat.{_≤_}
 use native.Mathlib.Omega.{arith}
 use borrow.Author.Needs.{needs}
-use lib.IntN.{ℤ}
-use Rattle.clearance.specs.ClearanceTold.{given, ClearanceAnswered}
-use Rattle.clearance.specs.declared.ClearanceAnswer.the-variants.{Given}
-use Rattle.clearance.proofs.Levels.{part-most, between-levels, amount-told}
+use Rattle.arithmetic.specs.signed.Whole.{amount}
+use Rattle.clearance.proofs.Levels.{part-most, between-levels}
 use Rattle.clearance.proofs.clearance_under.Statement.{statement}
 use Rattle.clearance.proofs.clearance_under.Tie as tie
 
@@ -39,9 +37,7 @@ returns : tie.Need-returns
 returns c =
     let at = c .before .before .before .before .before in
     let a = at .before .before .args in
-    subst (λ (z : ℤ). ClearanceAnswered (λ t. t ≡ given z (a .needed)) (Given (c .difference .result .minus) (c .difference .result .size) (a .needed)))
-    (between-levels (a .underside) (a .flood) (a .afflux) (at .before .parts-of .ensures) (at .parts-of2 .ensures))
-    (amount-told _ (a .needed) (c .difference .ensures))
+    c .difference .ensures ∙ ap amount (between-levels (a .underside) (a .flood) (a .afflux) (at .before .parts-of .ensures) (at .parts-of2 .ensures))
 
 pub clearance-under-spec : {M : Type 1} → statement M
 clearance-under-spec = tie.close (tie.spec parts-of-requires parts-of-requires-2 add-height add-depth add-depth-2 difference-requires returns)

@@ -1,8 +1,9 @@
 -- Document 01, refusals of a job: 11, a number out of range.
 use Prim.Native.Nat.{ℕ, _≤_}
 use mathlib.Core.Path.{_≡_}
-use mathlib.Core.Bool.{true, false, cond}
-use lib.IntN.{ℤ, pos, negℤ}
+use mathlib.Core.Bool.{true, false}
+use lib.IntN.{ℤ}
+use Rattle.arithmetic.specs.signed.Whole.{signed}
 use Rattle.fields.specs.declared.Entry.{Entry}
 use Rattle.kinds.specs.Table.{columns}
 use Rattle.kinds.specs.declared.Kind.{Kind}
@@ -12,8 +13,8 @@ use Rattle.kinds.specs.declared.Columns.{Columns}
 use Rattle.kinds.specs.declared.Numbers.{Numbers}
 
 -- the number that an entry is
-unfoldable pub value : Entry → ℤ
-value e = cond (e .minus) (negℤ (pos (e .size))) (pos (e .size))
+abbrev pub value : Entry → ℤ
+value e = signed (e .minus) (e .size)
 
 -- a number from low to high
 pub record Between (low high : ℕ) (e : Entry) : Type 0 where

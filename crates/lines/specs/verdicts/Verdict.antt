@@ -24,7 +24,7 @@ pub record LinesYes (lines : Lines) : Type 0 where
 
 abbrev pub RiverYes : RiverLine → Type 0
 RiverYes river.Missing = Unit {0}
-RiverYes (river.Shown minus size limit passes) = passes ≡ true
+RiverYes (river.Shown value limit passes) = passes ≡ true
 
 -- every line after VERDICT says Y
 pub record AllYes (a : Answer) : Type 0 where

@@ -1,6 +1,6 @@
 -- An amount by its sign and size: zero has no sign, the sizes multiply, and what a row's columns hold bounds what it exerts.
 use mathlib.Core.Path.{_≡_, refl, sym, _∙_, ap}
-use mathlib.Core.Bool.{Bool, true, false, not, _&&_, cond}
+use mathlib.Core.Bool.{Bool, true, false, not, _&&_}
 use Prim.Native.Nat.{ℕ, zero, suc, _*_}
 use native.Mathlib.Omega.{arith}
 use native.Mathlib.Nat.{zero-mul}
@@ -24,15 +24,6 @@ amount-is true (suc size) = rw (eqb-suc size)
         from false f = refl
 amount-is false size = refl
 
--- an entry's number by its sign and size
-pub value-signed : (e : Entry) → signed (e .minus) (e .size) ≡ value e
-unfolding signed value
-value-signed e = go (e .minus)
-  where
-    go : (m : Bool) → signed m (e .size) ≡ cond m (negℤ (pos (e .size))) (pos (e .size))
-    go true = refl
-    go false = refl
-
 -- a product with a number that is not below zero
 pub signed-times : (minus : Bool) (m n : ℕ) → signed minus (m * n) ≡ signed minus m *ℤ pos n
 unfolding signed
@@ -41,7 +32,7 @@ signed-times true (suc m) n = refl
 signed-times false m n = refl
 
 pub plain-value : (e : Entry) → e .minus ≡ false → value e ≡ pos (e .size)
-unfolding value
+unfolding signed
 plain-value e h = rw h
 
 -- the size of an amount
@@ -51,10 +42,10 @@ amount-size (pos n) = refl
 amount-size (negsuc n) = refl
 
 pub value-size : (e : Entry) → natAbs (value e) ≡ e .size
-unfolding value
+unfolding signed
 value-size e = go (e .minus) (e .size)
   where
-    go : (m : Bool) (n : ℕ) → natAbs (cond m (negℤ (pos n)) (pos n)) ≡ n
+    go : (m : Bool) (n : ℕ) → natAbs (signed m n) ≡ n
     go true zero = refl
     go true (suc n) = refl
     go false n = refl

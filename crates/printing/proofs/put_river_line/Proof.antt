@@ -45,7 +45,7 @@ returns-2 c name e =
     let value = limit .before .before in
     let letters = value .before .before in
     let key = letters .before .before .before in
-    river-printed _ _ _ _ _ _ _ _ name _ _ _ _ _ (key .before .before .before .line .given .1) (key .put-key .ensures) (spelled _ _ _ _ 2 (sym e) (letters .put .ensures) tt)
+    river-printed _ _ _ _ _ _ _ _ name _ _ _ _ (key .before .before .before .line .given .1) (key .put-key .ensures) (spelled _ _ _ _ 2 (sym e) (letters .put .ensures) tt)
     (value .put-signed .ensures) (limit .put-number .ensures) (comma .push .ensures) (c .put-ending .ensures)
 
 pub put-river-line-spec : {M : Type 1} → statement M

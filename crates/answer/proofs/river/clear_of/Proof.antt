@@ -1,9 +1,10 @@
 -- What a C row is told says which arm comes: each refusal by its number, and a clearance as CL.
 use borrow.Author.Needs.{needs}
 use mathlib.Core.Path.{_≡_, refl, subst⁻¹}
-use mathlib.Core.Bool.{Bool, not, _&&_}
+use mathlib.Core.Bool.{not, _&&_}
 use Prim.Native.Nat.{ℕ}
 use lib.Dec.{leb}
+use Rattle.arithmetic.specs.declared.signed.Amount.{Amount}
 use Rattle.clearance.specs.declared.ClearanceAnswer.{ClearanceAnswer}
 use Rattle.clearance.specs.declared.ClearanceAnswer.the-variants.{Given}
 use Rattle.clearance.proofs.Clearances.{at-least-decides}
@@ -13,9 +14,9 @@ use Rattle.answer.specs.river.Rows.{ClearGiven}
 use Rattle.answer.proofs.river.clear_of.Statement.{statement}
 use Rattle.answer.proofs.river.clear_of.Tie as tie
 
-given : {a : ClearanceAnswer} (minus : Bool) (size needed : ℕ) → a ≡ Given minus size needed → ClearGiven a (Line (Shown minus size needed (not minus && leb needed size)))
-given minus size needed e =
-    subst⁻¹ (λ (a : ClearanceAnswer). ClearGiven a (Line (Shown minus size needed (not minus && leb needed size)))) e (refl, refl, refl, at-least-decides minus size needed)
+given : {a : ClearanceAnswer} (there : Amount) (needed : ℕ) → a ≡ Given there needed → ClearGiven a (Line (Shown there needed (not (there .minus) && leb needed (there .size))))
+given there needed e =
+    subst⁻¹ (λ (a : ClearanceAnswer). ClearGiven a (Line (Shown there needed (not (there .minus) && leb needed (there .size))))) e (refl, refl, at-least-decides there needed)
 
 enum-told : tie.Need-enum-told
 enum-told c = search needs
@@ -33,7 +34,7 @@ returns-2 : tie.Need-returns-2
 returns-2 c = subst⁻¹ (λ (a : ClearanceAnswer). ClearGiven a _) (c .enum-told2 .given .1) refl
 
 returns-3 : tie.Need-returns-3
-returns-3 c = let p = c .before .answer .given .0 in given (p .0) (p .1 .0) (p .1 .1 .0) (c .before .answer .given .1)
+returns-3 c = let answer = c .before .before .before .answer in given (answer .given .0 .0) (answer .given .0 .1 .0) (answer .given .1)
 
 pub clear-of-spec : {M : Type 1} → statement M
 clear-of-spec =

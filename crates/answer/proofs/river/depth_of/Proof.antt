@@ -2,6 +2,7 @@
 use borrow.Author.Needs.{needs}
 use mathlib.Core.Path.{refl, ap}
 use Rattle.arithmetic.specs.decides.Decides.{decides-at-most}
+use Rattle.arithmetic.specs.signed.Whole.{amount}
 use Rattle.scour.specs.Scour.{scour-told}
 use Rattle.answer.proofs.river.depth_of.Statement.{statement}
 use Rattle.answer.proofs.river.depth_of.Tie as tie
@@ -31,9 +32,10 @@ returns-4 : tie.Need-returns-4
 returns-4 c = search needs
 
 returns-5 : tie.Need-returns-5
+unfolding amount
 returns-5 c =
     let needed = c .before .before .answer .given .0 .0 in
-    (needed, ap scour-told (c .before .before .answer .given .1), (c .if1 .left, refl, refl, refl, decides-at-most needed (c .before .before .before .before .args .found)))
+    (needed, ap scour-told (c .before .before .answer .given .1), (c .if1 .left, refl, refl, decides-at-most needed (c .before .before .before .before .args .found)))
 
 pub depth-of-spec : {M : Type 1} → statement M
 depth-of-spec =

@@ -6,7 +6,7 @@ use mathlib.Core.Logic.{⊎-elim}
 use Rattle.arithmetic.specs.decides.Decides.{Decides, decided, refuted, decides-equal}
 use Rattle.scour.specs.declared.Waterway.{Waterway}
 use Rattle.scour.specs.Scour.{scour-told}
-use Rattle.clearance.specs.ClearanceTold.{ClearanceAnswered}
+use Rattle.clearance.specs.ClearanceTold.{clearance-told}
 use Rattle.clearance.specs.Clear.{ClearanceSays}
 use Rattle.answer.specs.river.steps.Says.{RiverSays}
 use Rattle.answer.specs.river.Rows.{DepthGiven}
@@ -61,7 +61,7 @@ clear c =
     ⊎-elim
     (λ w. subst⁻¹ (ClearGives job) (w .3)
     (clear-gives job (decided (test .result) (w .0 .taken) (test .ensures)) (w .1 .result)
-    (subst (λ (x : Waterway). ClearanceAnswered (ClearanceSays (job .clearance) (x .discharge)) (w .1 .result)) (at .waterway-of .ensures) (w .1 .ensures)) (w .2 .result) (w .2 .ensures)))
+    (subst (λ (x : Waterway). ClearanceSays (job .clearance) (x .discharge) (clearance-told (w .1 .result))) (at .waterway-of .ensures) (w .1 .ensures)) (w .2 .result) (w .2 .ensures)))
     (λ w. subst⁻¹ (ClearGives job) (w .1) (no-clear job (refuted (test .result) (w .0 .left) (test .ensures))))
     (c .if2 .came)
 

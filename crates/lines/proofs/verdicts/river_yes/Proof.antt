@@ -17,7 +17,7 @@ returns : tie.Need-returns
 returns c = subst (λ (l : RiverLine). RiverYes l) (sym (c .enum-told .given .1)) tt
 
 returns-2 : tie.Need-returns-2
-returns-2 c = subst (λ (l : RiverLine). Decides (c .before .line .given .0 .1 .1 .1 .0) (RiverYes l)) (sym (c .before .line .given .1)) (decides-flag (c .before .line .given .0 .1 .1 .1 .0))
+returns-2 c = subst (λ (l : RiverLine). Decides (c .before .line .given .0 .1 .1 .0) (RiverYes l)) (sym (c .before .line .given .1)) (decides-flag (c .before .line .given .0 .1 .1 .0))
 
 pub river-yes-spec : {M : Type 1} → statement M
 river-yes-spec = tie.close (tie.spec enum-told enum-known-line returns returns-2)

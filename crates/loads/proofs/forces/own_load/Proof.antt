@@ -1,11 +1,12 @@
 -- V, x and H are the row's own numbers. y is not below zero, so H·y has the sign of H, and its size is at most 50,000 · 60,000.
 use borrow.Author.Needs.{needs}
 use native.Mathlib.Omega.{arith}
-use mathlib.Core.Path.{refl, sym, _∙_, ap, ap₂}
+use mathlib.Core.Path.{refl, sym, _∙_, ap}
 use native.Mathlib.Nat.{mul-le-mul}
 use lib.IntN.{ℤ, _*ℤ_}
 use Rattle.arithmetic.specs.signed.Whole.{amount}
-use Rattle.loads.proofs.forces.Amounts.{value-signed, signed-times, plain-value}
+use Rattle.kinds.specs.ranges.Range.{value}
+use Rattle.loads.proofs.forces.Amounts.{signed-times, plain-value}
 use Rattle.loads.proofs.forces.own_load.Statement.{statement}
 use Rattle.loads.proofs.forces.own_load.Tie as tie
 
@@ -47,11 +48,11 @@ returns c =
       refl,
       refl,
       record {
-        v = c .before .before .before .before .before .before .before .amount-of .ensures ∙ ap amount (value-signed (n .n1));
-        x = c .before .before .before .before .before .amount-of2 .ensures ∙ ap amount (value-signed (n .n2));
-        h = c .before .before .before .amount-of3 .ensures ∙ ap amount (value-signed (n .n3));
+        v = c .before .before .before .before .before .before .before .amount-of .ensures;
+        x = c .before .before .before .before .before .amount-of2 .ensures;
+        h = c .before .before .before .amount-of3 .ensures;
         twist = c .amount-of4 .ensures
-            ∙ ap amount (signed-times (n .n3 .minus) (n .n3 .size) (n .n4 .size) ∙ ap₂ (λ (y z : ℤ). y *ℤ z) (value-signed (n .n3)) (sym (plain-value (n .n4) (start .pre .2))));
+            ∙ ap amount (signed-times (n .n3 .minus) (n .n3 .size) (n .n4 .size) ∙ ap (λ (z : ℤ). value (n .n3) *ℤ z) (sym (plain-value (n .n4) (start .pre .2))));
       },
     )
 
