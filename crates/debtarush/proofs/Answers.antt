@@ -7,7 +7,7 @@ use lib.ListN.{length, drop}
 use Rattle.book.specs.Says as book
 use Rattle.book.proofs.Answers.{book-says-one, refused-none}
 use Rattle.earth.specs.declared.table2.Coefficient.{Coefficient}
-use Rattle.debtarush.proofs.finding.Answers.{job-one, job-there}
+use Rattle.debtarush.proofs.Locating.{job-one, job-there}
 use Rattle.debtarush.proofs.Texts.{text-one}
 use Rattle.debtarush.specs.CallTold.{CallTold, written, refused}
 use Rattle.debtarush.specs.Called.{Called, no-book, no-place, too-short, lines}

@@ -10,7 +10,9 @@ use Rattle.block.proofs.Pages.{block-held}
 use Rattle.buffer.specs.Copying as buffer
 use Rattle.debtarush.specs.CallTold.{CallTold, written, refused}
 use Rattle.debtarush.specs.Lines.{LinesIn}
-use Rattle.debtarush.proofs.finding.Finding.{HasJob}
+use Rattle.book.specs.JobBook.{Jobs, JobBook}
+use Rattle.book.specs.Values.{values}
+use Rattle.csv.specs.notes.Notes.{Nth}
 use Rattle.debtarush.specs.Called.{Called, too-short, lines}
 
 -- what is told of writing to the buffer, with the same length, or the same number and row
@@ -18,16 +20,17 @@ abbrev pub as-told : buffer.CopyTold → CallTold
 as-told (buffer.wrote n) = written n
 as-told (buffer.refused number row) = refused number row
 
-module _ {fill : ℕ → ℕ → Coefficient} {s : List ℕ} {place : ℕ} {job : Job} {b : Block} (h : HasJob s place job) (l : LinesIn fill job b) (before after : List ℕ) where
-  whole : block.text-held b ≡ l .bytes
-  whole = ap block.text-held (l .held) ∙ block-held (l .bytes) (l .fits)
+-- a block that a job's lines fill has their bytes for its text
+pub lines-held : {fill : ℕ → ℕ → Coefficient} {job : Job} {b : Block} (l : LinesIn fill job b) → block.text-held b ≡ l .bytes
+lines-held l = ap block.text-held (l .held) ∙ block-held (l .bytes) (l .fits)
 
+module _ {fill : ℕ → ℕ → Coefficient} {s : List ℕ} {place : ℕ} {js : Jobs} {job : Job} {b : Block} (book : JobBook s js) (at : Nth (values js) place job) (l : LinesIn fill job b) (before after : List ℕ) where
   call-as : (w : buffer.CopyTold) → buffer.Wrote (l .bytes) before after w → Called fill s place before after (as-told w)
   unfolding buffer.Wrote
-  call-as (buffer.wrote n) v = lines (h .book) (h .row) (l .lines) (v .0) (v .2) (ap written (v .1))
-  call-as (buffer.refused number row) v = too-short (h .book) (h .row) (l .lines) (v .0) (v .3) (cc (v .1, v .2))
+  call-as (buffer.wrote n) v = lines book at (l .lines) (v .0) (v .2) (ap written (v .1))
+  call-as (buffer.refused number row) v = too-short book at (l .lines) (v .0) (v .3) (cc (v .1, v .2))
 
   -- what the call is told is what writing to the buffer is
   pub call-delivered : (w : buffer.CopyTold) {t : CallTold} → t ≡ as-told w → buffer.Wrote (block.text-held b) before after w → Called fill s place before after t
   call-delivered w e v =
-      subst (Called fill s place before after) (sym e) (call-as w (subst (λ (bytes : List ℕ). buffer.Wrote bytes before after w) whole v))
+      subst (Called fill s place before after) (sym e) (call-as w (subst (λ (bytes : List ℕ). buffer.Wrote bytes before after w) (lines-held l) v))

@@ -1,4 +1,5 @@
 pub mod Lines
 pub mod Called
-pub mod finding
 pub mod CallTold
+pub mod Behind
+pub mod BookText

@@ -1,20 +1,24 @@
-// The bytes of a job's lines, and the call for the lines of one job of a book, named by its place (document 01, "Refusals of a
-// book", "The printed answer", "What every public promise says").
+// The bytes of a job's lines; the call for the lines of one job of a book, named by its place; and the text of a whole book (document 01,
+// "Refusals of a book", "The printed answer", "What every public promise says").
 //
-// The call takes the book as it is lent and keeps nothing: the same bytes give the same answer. It is told a length; or a refusal of the
-// book, 1 to 6, with its row; or 10 or 7, both with row 0, in this order, and a refused call writes nothing. A job's lines
-// fit their block, since their set numbers are those of at most 16 load rows.
-mod finding;
-
+// Both calls take the book as it is lent and keep nothing: the same bytes give the same answer. The call for one job is told a length; or a
+// refusal of the book, 1 to 6, with its row; or 10 or 7, both with row 0, in this order, and a refused call writes nothing. A job's lines
+// fit their block, since their set numbers are those of at most 16 load rows, and so the lines of 64 jobs fit 64 blocks. The jobs come by
+// value in 64 places, of which the book's jobs fill the first: a place past their number is none, whatever stands there.
 use block::Block;
+use book::counted::Count;
 use buffer::Copied;
-use finding::Found;
 use jobs::Job;
 use rows::refusals::Refusal;
+ghost use Prim.Native.Nat.{_+_, _≤_};
+ghost use lib.ListN.{length};
+ghost use Rattle.block.specs.Block.{text-held};
 ghost use Rattle.earth.specs.table2.Table2.{table2-fill};
 ghost use Rattle.debtarush.specs.Lines.{LinesIn};
 ghost use Rattle.debtarush.specs.CallTold.{call-told};
 ghost use Rattle.debtarush.specs.Called.{Called};
+ghost use Rattle.debtarush.specs.Behind.{Behind};
+ghost use Rattle.debtarush.specs.BookText.{Printed};
 
 // The length written; or the refusal of the book with its row, of the place, or of the buffer.
 pub enum Written {
@@ -37,17 +41,56 @@ pub fn lines_of(job: Job) -> Block
 pub fn job_lines(book: &[u8], place: usize, out: &mut [u8]) -> Written
     ensures { λ r. ⌜ Called table2-fill (now (book .entry)) place (now (out .entry)) (now (out .exit)) (call-told r) ⌝ }
 {
-    let at = finding::job_at(book, place);
-    let found = at.found;
-    match found {
-        Found::BookRefused(why, row) => Written::BookRefused(why, row),
-        Found::NoPlace => Written::NoPlace,
-        Found::There => {
-            let block = lines_of(at.job);
-            match buffer::write_block(block, out) {
+    let read = book::read_book(book);
+    let count = read.count;
+    match count {
+        Count::Refused(why, row) => Written::BookRefused(why, row),
+        Count::Given(n) => {
+            if (place == 0) | (n < place) {
+                return Written::NoPlace;
+            }
+            let at = place - 1;
+            let job = read.jobs[at];
+            match buffer::write_block(lines_of(job), out) {
                 Copied::Length(len) => Written::Length(len),
                 Copied::TooShort => Written::TooShort,
             }
+        }
+    }
+}
+
+// A block's text behind the first so many bytes of a buffer, which has room for a whole block there; and where it ends.
+fn append(out: &mut [u8], at: usize, block: Block) -> usize
+    requires { ⌜ at + 2048 ≤ length (now out) ⌝ }
+    ensures { λ r. ⌜ Behind at (text-held block) (now (out .entry)) (now (out .exit)) r ⌝ }
+{
+    match buffer::write_block(block, &mut out[at..]) {
+        Copied::Length(len) => at + len,
+        Copied::TooShort => at,
+    }
+}
+
+// The text of a whole book: its jobs' lines in book order, or the one line of a refused book, at the start of a lent buffer. The book
+// is read once.
+pub fn book_lines(book: &[u8], out: &mut [u8; 131072]) -> usize
+    ensures { λ r. ⌜ Printed table2-fill (now (book .entry)) (now (out .entry)) (now (out .exit)) r ⌝ }
+{
+    let read = book::read_book(book);
+    let count = read.count;
+    match count {
+        Count::Refused(why, row) => {
+            let line = printing::refused_book::book_line(rows::refusals::number_of(why), row);
+            append(out, 0, line)
+        }
+        Count::Given(n) => {
+            let mut end: usize = 0;
+            let mut i: usize = 0;
+            while i < n {
+                let job = read.jobs[i];
+                end = append(out, end, lines_of(job));
+                i += 1;
+            }
+            end
         }
     }
 }

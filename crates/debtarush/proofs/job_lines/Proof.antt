@@ -1,26 +1,72 @@
--- A refused book and a missing place leave the buffer as it was. Of a job that is found the block holds the lines whole,
--- so what writing the block does, 7 or the bytes, is what the call does with the lines.
-use mathlib.Core.Path.{refl, sym, ap}
+-- A refused book and a missing place leave the buffer as it was. A place from 1 up to the number of jobs holds the book's job there, and
+-- the block holds its lines whole, so what writing the block does, 7 or the bytes, is what the call does with the lines.
+use Prim.Native.Nat.{ℕ, _≤_, _<_}
+use native.Mathlib.Omega.{arith}
+use mathlib.Core.Path.{_≡_, refl, sym, ap}
+use mathlib.Core.Logic.{_⊎_, inl, inr, ⊎-elim}
+use mathlib.Core.Bool.{_||_}
+use lib.Dec.{ltb, eqb}
+use Rattle.arithmetic.specs.decides.Decides.{Decides, decided, refuted, decides-either, decides-equal, decides-below}
 use Rattle.buffer.specs.declared.Copied.{Copied}
 use Rattle.buffer.specs.Copying as buffer
-use Rattle.debtarush.proofs.finding.Finding.{refused-book, refused-place, found-job}
 use Rattle.debtarush.specs.Called.{no-book, no-place}
 use Rattle.debtarush.proofs.Delivering.{as-told, call-delivered}
+use Rattle.debtarush.proofs.Locating.{Held, held, refusal, job-at, no-job-at, no-job-zero}
 use borrow.Author.Needs.{needs}
 use Rattle.debtarush.proofs.job_lines.Statement.{statement}
 use Rattle.debtarush.proofs.job_lines.Tie as tie
 
-job-at-requires : tie.Need-job-at-requires
-job-at-requires c κs = search needs
+-- what the test of a place says
+outside : (place n : ℕ) → Decides (eqb place 0 || ltb n place) ((place ≡ 0) ⊎ (n < place))
+outside place n = decides-either _ _ (eqb place 0) (ltb n place) (decides-equal place 0) (decides-below n place)
 
-enum-known-found : tie.Need-enum-known-found
-enum-known-found c = search needs
+within : (place n : ℕ) → ((place ≡ 0) ⊎ (n < place) → ⊥) → (1 ≤ place) × (place ≤ n)
+within place n none =
+    let some : place ≡ 0 → ⊥ = λ e. none (inl e) in
+    let few : n < place → ⊥ = λ e. none (inr e) in
+    (omega (arith, some), omega (arith, few))
 
-enum-told : tie.Need-enum-told
-enum-told c = search needs
+-- the jobs of a book that is given
+module _ (c : tie.After-known-told2) where
+  abbrev read : tie.After-read-book
+  read = c .before .before .before
 
-enum-told-2 : tie.Need-enum-told-2
-enum-told-2 c = search needs
+  abbrev place : ℕ
+  place = read .before .before .before .args .place
+
+  abbrev many : ℕ
+  many = c .before .count2 .given .0 .0
+
+  jobs : Held (read .before .before .before .args .book .now) many (read .read-book .result .jobs)
+  jobs = held (read .read-book .ensures) (c .before .count2 .given .1)
+
+-- a place that has a job
+there : (c : tie.Else1) → (1 ≤ place (c .before)) × (place (c .before) ≤ many (c .before))
+there c = within _ _ (refuted _ (c .if1 .left) (outside (place (c .before)) (many (c .before))))
+
+read-book-requires : tie.Need-read-book-requires
+read-book-requires c κs = search needs
+
+enum-known-count : tie.Need-enum-known-count
+enum-known-count c = search needs
+
+enum-known-count-2 : tie.Need-enum-known-count-2
+enum-known-count-2 c = search needs
+
+returns : tie.Need-returns
+returns c =
+    let h = jobs (c .before) in
+    let none = decided _ (c .if1 .taken) (outside (place (c .before)) (many (c .before))) in
+    no-place (h .book) (⊎-elim (no-job-zero h _) (no-job-at h _) none) refl refl
+
+sub-at : tie.Need-sub-at
+sub-at c = let p = there c in omega arith
+
+mul-job : tie.Need-mul-job
+mul-job c = let p = there c in omega (arith, jobs (c .before) .few)
+
+element-copy-out-job : tie.Need-element-copy-out-job
+element-copy-out-job c = let p = there c in omega (arith, jobs (c .before) .few)
 
 lines-of-requires : tie.Need-lines-of-requires
 lines-of-requires c κs = search needs
@@ -31,14 +77,11 @@ write-block-requires c κs = search needs
 enum-known-len : tie.Need-enum-known-len
 enum-known-len c = search needs
 
-enum-told-3 : tie.Need-enum-told-3
-enum-told-3 c = search needs
-
-returns : tie.Need-returns
-returns c = no-book (refused-book (c .before .before .before .job-at .ensures) (c .before .found .given .1)) refl refl
+enum-told : tie.Need-enum-told
+enum-told c = search needs
 
 returns-2 : tie.Need-returns-2
-returns-2 c = let n = refused-place (c .before .before .job-at .ensures) (c .enum-told .given .1) in no-place (n .book) (n .none) refl refl
+returns-2 c = no-book (refusal (c .before .before .before .read-book .ensures) (c .before .count .given .1)) refl refl
 
 same-length : tie.Need-same-length
 same-length c = search needs
@@ -48,8 +91,10 @@ unfolding buffer.copy-told
 returns-3 c =
     let out = c .before .before .before .before .before in
     let lines = out .before .before in
-    let job = lines .before in
-    call-delivered (found-job (job .before .before .job-at .ensures) (job .enum-told2 .given .1)) (lines .lines-of .ensures) _ _ _
+    let test = lines .before .before in
+    let h = jobs (test .before) in
+    let p = there test in
+    call-delivered (h .book) (job-at h _ _ (p .0) (p .1)) (lines .lines-of .ensures) _ _ _
     (sym (ap (λ (w : Copied). as-told (buffer.copy-told w)) (c .before .len .given .1))) (out .write-block .ensures)
 
 same-length-2 : tie.Need-same-length-2
@@ -60,23 +105,27 @@ unfolding buffer.copy-told
 returns-4 c =
     let out = c .before .before .before .before in
     let lines = out .before .before in
-    let job = lines .before in
-    call-delivered (found-job (job .before .before .job-at .ensures) (job .enum-told2 .given .1)) (lines .lines-of .ensures) _ _ _
-    (sym (ap (λ (w : Copied). as-told (buffer.copy-told w)) (c .enum-told3 .given .1))) (out .write-block .ensures)
+    let test = lines .before .before in
+    let h = jobs (test .before) in
+    let p = there test in
+    call-delivered (h .book) (job-at h _ _ (p .0) (p .1)) (lines .lines-of .ensures) _ _ _
+    (sym (ap (λ (w : Copied). as-told (buffer.copy-told w)) (c .enum-told .given .1))) (out .write-block .ensures)
 
 pub job-lines-spec : {M : Type 1} → statement M
 job-lines-spec =
     tie.close
     (tie.spec
-    job-at-requires
-    enum-known-found
-    enum-told
-    enum-told-2
+    read-book-requires
+    enum-known-count
+    enum-known-count-2
+    returns
+    sub-at
+    mul-job
+    element-copy-out-job
     lines-of-requires
     write-block-requires
     enum-known-len
-    enum-told-3
-    returns
+    enum-told
     returns-2
     same-length
     returns-3

@@ -1,0 +1,11 @@
+-- A text behind what a lent buffer holds already: "exactly the lines' bytes are written .. and the rest is untouched" (document 01,
+-- Refusals of a book), from a place on.
+use Prim.Native.Nat.{ℕ, _+_}
+use mathlib.Core.Path.{_≡_}
+use mathlib.Core.List.{List, _++_}
+use lib.ListN.{length, take, drop}
+
+-- a text behind the first `at` bytes of a buffer that held `before` and holds `after` then, and where it ends
+pub record Behind (at : ℕ) (text before after : List ℕ) (end : ℕ) : Type 0 where
+  pub ends : end ≡ at + length text
+  pub whole : after ≡ take at before ++ (text ++ drop end before)

@@ -1,2 +1,0 @@
-pub mod JobAt
-pub mod FoundAt
