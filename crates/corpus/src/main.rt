@@ -17,6 +17,15 @@ fn has_ended(file: i32) -> bool {
     libc::read(file, &mut more) == 0
 }
 
+// Prints the lines of a book; where they cannot be written, that is told.
+fn print_lines(book: &[u8]) {
+    let mut lines = [0u8; 131072];
+    let len = debtarush::book_lines(book, &mut lines);
+    if !io::write_all(STDOUT_FILENO, &lines[0..len]) {
+        io::write_all(STDERR_FILENO, b"corpus: the lines could not be written\n");
+    }
+}
+
 // The book that an argument names.
 fn print_named(i: usize) {
     let mut name = io::buffer();
@@ -36,7 +45,7 @@ fn print_named(i: usize) {
     if (got == 65537) | has_ended(file) {
         io::write_all(STDOUT_FILENO, named);
         io::write_all(STDOUT_FILENO, b"\r\n");
-        show::print_book(b"corpus", &text[..got]);
+        print_lines(&text[..got]);
     } else {
         fail(named);
     }
