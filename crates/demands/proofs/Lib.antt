@@ -1,4 +1,4 @@
--- The proofs of the demands: `demand1`, `demand2` and `demand3`, for whatever is held for a soil and a slope.
+-- The proofs of the demands: `demand1`, `demand2`, `demand3` and `demand4`, for whatever is held for a soil and a slope.
 mod All
 mod Keys
 mod Numbers
@@ -8,3 +8,4 @@ mod Wrote
 pub mod Demand1
 pub mod Demand2
 pub mod Demand3
+pub mod Demand4
