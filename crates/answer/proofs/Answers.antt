@@ -14,7 +14,8 @@ use Rattle.lines.specs.declared.Answer.{Answer}
 use Rattle.lines.proofs.verdicts.Answers.{Alike, alike-one}
 use Rattle.answer.proofs.river.Answers.{depth-one, clear-one}
 use Rattle.answer.specs.Rules.{load-rows-of}
-use Rattle.answer.specs.Answer.{base-of, LinesAre, LinesGiven, refusal, AnswerIs, refused, answered}
+use Rattle.answer.specs.Columns.{base-of}
+use Rattle.answer.specs.Answer.{LinesAre, LinesGiven, refusal, AnswerIs, refused, answered}
 
 module _ (fill : ℕ → ℕ → Coefficient) (job : Job) where
   lines-same : (c : Combination) {s t : Loads} (l m : Lines) → s ≡ t → LinesAre c (base-of (job .base)) s l → LinesAre c (base-of (job .base)) t m → l ≡ m

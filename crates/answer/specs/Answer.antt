@@ -1,8 +1,6 @@
 -- Document 01, The printed answer: what a job is answered, from the job and `fill` alone.
 use Prim.Native.Nat.{ℕ}
 use mathlib.Core.Path.{_≡_}
-use lib.Dec.{eqb}
-use Rattle.kinds.specs.declared.Numbers.{Numbers}
 use Rattle.jobs.specs.declared.Job.{Job}
 use Rattle.earth.specs.declared.table2.Coefficient.{Coefficient}
 use Rattle.sets.specs.declared.Combination.{Combination}
@@ -21,14 +19,11 @@ use Rattle.lines.specs.declared.RiverLine.{RiverLine}
 use Rattle.lines.specs.declared.RiverLine.the-variants.{Missing}
 use Rattle.lines.specs.declared.Answer.{Answer}
 use Rattle.lines.specs.verdicts.Verdict.{VerdictIs}
+use Rattle.answer.specs.Columns.{base-of}
 use Rattle.answer.specs.river.River.{DepthIs, ClearIs}
 use Rattle.answer.specs.declared.river.RiverRead.{RiverRead}
 use Rattle.answer.specs.declared.river.RiverRead.the-variants as river
 use Rattle.answer.specs.Rules.{load-rows-of, Refuses, Unrefused}
-
--- width B, length L, allowable pressure, friction, and whether the strata are rock
-abbrev pub base-of : Numbers → Base
-base-of n = record { width = n .n1 .size; length = n .n2 .size; allowable = n .n3 .size; friction = n .n4 .size; rock = eqb (n .n5 .size) 1 }
 
 -- the lines of a combination are those of its checks
 abbrev pub LinesAre : Combination → Base → Loads → Lines → Type 0

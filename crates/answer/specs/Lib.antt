@@ -1,3 +1,4 @@
+pub mod Columns
 pub mod Rules
 pub mod Answer
 pub mod river

@@ -10,7 +10,7 @@ use lines::RiverLine;
 use scour::ScourAnswer;
 ghost use mathlib.Core.Path.{_≡_};
 ghost use Rattle.scour.specs.Scour.{scour-told};
-ghost use Rattle.answer.specs.Answer.{base-of};
+ghost use Rattle.answer.specs.Columns.{base-of};
 ghost use Rattle.answer.specs.river.steps.Says.{RiverSays};
 ghost use Rattle.answer.specs.river.Rows.{DepthGiven, ClearGiven, BothGive};
 

@@ -8,7 +8,7 @@ use Rattle.book.specs.JobBook.{Jobs, none, _and_}
 use Rattle.book.specs.Says as book
 use Rattle.book.proofs.Answers.{book-says-one, book-one, refused-none}
 use Rattle.printing.specs.refused_book.Text.{book-text}
-use Rattle.debtarush.specs.BookText.{JobsText, BookText, refused, jobs, Printed}
+use Rattle.debtarush.specs.BookText.{JobsText, BookText, refused, jobs, BookPrinted}
 use Rattle.debtarush.proofs.Texts.{text-one}
 
 pub jobs-text-one : (fill : ℕ → ℕ → Coefficient) (js : Jobs) (s t : List ℕ) → JobsText fill js s → JobsText fill js t → s ≡ t
@@ -32,7 +32,7 @@ module _ {fill : ℕ → ℕ → Coefficient} {b : List ℕ} where
   book-text-one (jobs p l) (refused q f) = absurd (refused-none q _ p)
   book-text-one {s} {t} (jobs {js} p l) (jobs q u) = jobs-text-one fill js s t l (subst (λ (ks : Jobs). JobsText fill ks t) (book-one q p) u)
 
-  pub printed-one : {before x y : List ℕ} {m n : ℕ} (p : Printed fill b before x m) (q : Printed fill b before y n) → (p .text ≡ q .text) × (x ≡ y) × (m ≡ n)
+  pub printed-one : {before x y : List ℕ} {m n : ℕ} (p : BookPrinted fill b before x m) (q : BookPrinted fill b before y n) → (p .text ≡ q .text) × (x ≡ y) × (m ≡ n)
   printed-one {before} p q =
       let e = book-text-one (p .is) (q .is) in
       (e, p .whole ∙ ap (λ (t : List ℕ). t ++ drop (length t) before) e ∙ sym (q .whole), p .long ∙ ap length e ∙ sym (q .long))

@@ -19,7 +19,7 @@ use Rattle.book.specs.Values.{job-value, values}
 use Rattle.book.proofs.Keeping.{values-many}
 use Rattle.debtarush.specs.Lines.{TextOf, LinesIn}
 use Rattle.debtarush.specs.Behind.{Behind}
-use Rattle.debtarush.specs.BookText.{OneMore, JobsText, refused, jobs, Printed}
+use Rattle.debtarush.specs.BookText.{OneMore, JobsText, refused, jobs, BookPrinted}
 use Rattle.debtarush.proofs.Delivering.{lines-held}
 use Rattle.debtarush.proofs.Joining.{Starts, starts-within, starts-none, starts-first, starts-more}
 use Rattle.debtarush.proofs.Locating.{Held}
@@ -76,7 +76,7 @@ module _ {fill : ℕ → ℕ → Coefficient} where
       }
 
   pub printed-jobs : {s before after : List ℕ} {n i end : ℕ} {held : List Job} → Held s n held → i ≤ n → n ≤ i → SoFar fill held i before after end
-      → Printed fill s before after end
+      → BookPrinted fill s before after end
   printed-jobs {n = n} {i} {end} {held} h low high p =
       let all : i ≡ count (h .written) = (let m = h .many in let v = values-many (h .written) in omega arith) in
       let first = subst (λ (k : ℕ). FirstText fill held k (p .text)) all (p .lines) in
@@ -90,7 +90,7 @@ module _ {fill : ℕ → ℕ → Coefficient} where
 
   -- the one line of a refused book, behind nothing
   pub printed-refusal : {s before after : List ℕ} {m n row end : ℕ} {block : Block} → book.BookSays s (book.refused n row) → m ≡ n → block ≡ block-of (book-text m row)
-      → length (book-text m row) ≤ 2048 → Behind 0 (text-held block) before after end → Printed fill s before after end
+      → length (book-text m row) ≤ 2048 → Behind 0 (text-held block) before after end → BookPrinted fill s before after end
   printed-refusal {before = before} {after} {m} {row = row} {end} says e held short b =
       let p = starts-first (subst (λ (t : List ℕ). Behind 0 t before after end) (ap text-held held ∙ block-held (book-text m row) short) b) in
       record { text = book-text m row; is = refused says (ap (λ (k : ℕ). book-text k row) e); long = p .long; fits = starts-within p; whole = p .whole }

@@ -31,7 +31,7 @@ pub data BookText (fill : ℕ → ℕ → Coefficient) (b text : List ℕ) : Typ
   jobs : {js : Jobs} → JobBook b js → JobsText fill js text → BookText fill b text
 
 -- that text in a buffer that held `before` and holds `after` then: its `len` bytes from the start, for which there is room, and the rest untouched
-pub record Printed (fill : ℕ → ℕ → Coefficient) (b before after : List ℕ) (len : ℕ) : Type 0 where
+pub record BookPrinted (fill : ℕ → ℕ → Coefficient) (b before after : List ℕ) (len : ℕ) : Type 0 where
   pub text : List ℕ
   pub is : BookText fill b text
   pub long : len ≡ length text

@@ -18,7 +18,7 @@ ghost use Rattle.debtarush.specs.Lines.{LinesIn};
 ghost use Rattle.debtarush.specs.CallTold.{call-told};
 ghost use Rattle.debtarush.specs.Called.{Called};
 ghost use Rattle.debtarush.specs.Behind.{Behind};
-ghost use Rattle.debtarush.specs.BookText.{Printed};
+ghost use Rattle.debtarush.specs.BookText.{BookPrinted};
 
 // The length written; or the refusal of the book with its row, of the place, or of the buffer.
 pub enum Written {
@@ -73,7 +73,7 @@ fn append(out: &mut [u8], at: usize, block: Block) -> usize
 // The text of a whole book: its jobs' lines in book order, or the one line of a refused book, at the start of a lent buffer. The book
 // is read once.
 pub fn book_lines(book: &[u8], out: &mut [u8; 131072]) -> usize
-    ensures { λ r. ⌜ Printed table2-fill (now (book .entry)) (now (out .entry)) (now (out .exit)) r ⌝ }
+    ensures { λ r. ⌜ BookPrinted table2-fill (now (book .entry)) (now (out .entry)) (now (out .exit)) r ⌝ }
 {
     let read = book::read_book(book);
     let count = read.count;

@@ -76,7 +76,7 @@ cut fill (js and j) text p =
 
 -- ---- the demand
 
-module _ {fill : ℕ → ℕ → Coefficient} {b before after : List ℕ} {len : ℕ} (p : printed.Printed fill b before after len) where
+module _ {fill : ℕ → ℕ → Coefficient} {b before after : List ℕ} {len : ℕ} (p : printed.BookPrinted fill b before after len) where
   first : take len after ≡ p .text
   first = ap (take len) (p .whole) ∙ take-at (p .text) (drop (length (p .text)) before) len (sym (p .long))
 

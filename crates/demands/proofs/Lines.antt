@@ -26,7 +26,8 @@ use Rattle.lines.specs.declared.Answer.{Answer}
 use Rattle.lines.specs.Lines.{LineName, PrintedLine, VERDICT, check, SC, CL, verdict-line, check-line, combination-lines, river-line, later-lines, unless-refused, lines-of}
 use Rattle.answer.specs.Rules.{load-rows-of, Unrefused}
 use Rattle.lines.specs.verdicts.Verdict.{VerdictIs}
-use Rattle.answer.specs.Answer.{base-of, LinesAre, LinesGiven, refusal, AnswerIs, refused, answered}
+use Rattle.answer.specs.Columns.{base-of}
+use Rattle.answer.specs.Answer.{LinesAre, LinesGiven, refusal, AnswerIs, refused, answered}
 use Rattle.csv.specs.notes.Notes.{Nth}
 use Rattle.demands.specs.Words.{NamesSet}
 use Rattle.demands.proofs.All as all

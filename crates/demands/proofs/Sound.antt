@@ -31,7 +31,8 @@ use Rattle.lines.specs.declared.Answer.{Answer}
 use Rattle.answer.specs.Rules.{load-rows-of}
 use Rattle.answer.proofs.river.Answers.{depth-one, clear-one}
 use Rattle.lines.specs.verdicts.Verdict.{LineYes, LinesYes, RiverYes, AllYes, VerdictIs}
-use Rattle.answer.specs.Answer.{base-of, LinesAre, LinesGiven, AnswerIs, refused, answered}
+use Rattle.answer.specs.Columns.{base-of}
+use Rattle.answer.specs.Answer.{LinesAre, LinesGiven, AnswerIs, refused, answered}
 use Rattle.demands.specs.Words.{Bears, Sound}
 
 -- every permitted set of one combination passes one check

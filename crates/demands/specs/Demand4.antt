@@ -1,5 +1,5 @@
 -- Demand 4: what is printed of a book is, place by place and in book order, what the calls for its jobs write, and nothing else; of a
--- refused book it is the one line with the refusal that every call is told. (That a text is printed, as `Printed` has it, is the promise of
+-- refused book it is the one line with the refusal that every call is told. (That a text is printed, as `BookPrinted` has it, is the promise of
 -- `book_lines`.)
 use Prim.Native.Nat.{ℕ, _≤_}
 use mathlib.Core.Path.{_≡_}
@@ -10,16 +10,16 @@ use Rattle.earth.specs.declared.table2.Coefficient.{Coefficient}
 use Rattle.printing.specs.refused_book.Text.{book-text}
 use Rattle.debtarush.specs.CallTold.{refused}
 use Rattle.debtarush.specs.Called.{Called}
-use Rattle.debtarush.specs.BookText.{Printed}
+use Rattle.debtarush.specs.BookText.{BookPrinted}
 use Rattle.demands.specs.Pieces.{Pieces}
 
 pub record Demand4 (fill : ℕ → ℕ → Coefficient) : Type 0 where
   -- one state of the buffer, and one length
-  pub one : {b before x y : List ℕ} {m n : ℕ} → Printed fill b before x m → Printed fill b before y n → (x ≡ y) × (m ≡ n)
+  pub one : {b before x y : List ℕ} {m n : ℕ} → BookPrinted fill b before x m → BookPrinted fill b before y n → (x ≡ y) × (m ≡ n)
   -- of a refused book its one BOOK line, with the number and the row that a call is told, whatever its place and its buffer
-  pub refused-line : {b before after before′ after′ : List ℕ} {len place n row : ℕ} → Printed fill b before after len
+  pub refused-line : {b before after before′ after′ : List ℕ} {len place n row : ℕ} → BookPrinted fill b before after len
       → Called fill b place before′ after′ (refused n row) → n ≤ 6 → take len after ≡ book-text n row
   -- else one piece for each job, in book order and nothing else, and each is what a call for its place writes
-  pub pieces : {b before after : List ℕ} {len : ℕ} → Printed fill b before after len → (js : Jobs) → JobBook b js → Pieces fill b (count js) (take len after)
+  pub pieces : {b before after : List ℕ} {len : ℕ} → BookPrinted fill b before after len → (js : Jobs) → JobBook b js → Pieces fill b (count js) (take len after)
   -- and the rest of the buffer is untouched
-  pub rest : {b before after : List ℕ} {len : ℕ} → Printed fill b before after len → drop len after ≡ drop len before
+  pub rest : {b before after : List ℕ} {len : ℕ} → BookPrinted fill b before after len → drop len after ≡ drop len before

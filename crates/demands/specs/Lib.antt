@@ -4,3 +4,4 @@ pub mod Demand2
 pub mod Demand3
 pub mod Pieces
 pub mod Demand4
+pub mod Demands

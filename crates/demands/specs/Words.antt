@@ -30,7 +30,8 @@ use Rattle.lines.specs.declared.RiverLine.{RiverLine}
 use Rattle.lines.specs.verdicts.Verdict.{RiverYes}
 use Rattle.answer.specs.river.River.{DepthIs, ClearIs}
 use Rattle.answer.specs.Rules.{load-rows-of, Unrefused}
-use Rattle.answer.specs.Answer.{base-of, AnswerIs}
+use Rattle.answer.specs.Columns.{base-of}
+use Rattle.answer.specs.Answer.{AnswerIs}
 use Rattle.printing.specs.Keys.{IsKey}
 use Rattle.printing.specs.Text.{texts}
 

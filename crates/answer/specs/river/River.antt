@@ -1,10 +1,11 @@
 -- Document 01, what the river rows of a job give it, where it has them: refusals 12 to 14, and the lines SC and CL.
 use Prim.Native.Nat.{ℕ, _≤_}
 use mathlib.Core.Path.{_≡_}
-use mathlib.Core.Bool.{Bool}
+use mathlib.Core.Bool.{Bool, true}
 use lib.IntN.{pos}
 use Rattle.arithmetic.specs.decides.Decides.{Decides}
 use Rattle.jobs.specs.declared.Job.{Job}
+use Rattle.answer.specs.Columns.{base-of}
 use Rattle.jobs.specs.stages.Rows.{HasScour, HasClearance}
 use Rattle.scour.specs.Scour.{waterway-of, ScourTold, needs, ScourRule}
 use Rattle.clearance.specs.Clear.{opening-of, Cleared, AtLeast}
@@ -24,9 +25,9 @@ pub record ClearanceGives (job : Job) (t : ClearanceTold) : Type 0 where
   pub has : HasClearance (job .stage)
   pub rule : Cleared (opening-of (job .clearance)) (waterway-of (job .scour) .discharge) t
 
--- strata: 0 soil, 1 rock
+-- the base stands on rock
 abbrev pub OnRock : Job → Type 0
-OnRock job = job .base .n5 .size ≡ 1
+OnRock job = base-of (job .base) .rock ≡ true
 
 -- SC: soil, with S; value needed, limit found; it needs value <= limit
 pub record Founded (job : Job) : Type 0 where

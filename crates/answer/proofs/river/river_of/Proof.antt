@@ -1,13 +1,15 @@
 -- Each row that the job has gives what it is told, and one that it has not gives no line; both together are what the river says.
 use borrow.Author.Needs.{needs}
 use mathlib.Core.Path.{_≡_, subst, subst⁻¹}
-use mathlib.Core.Bool.{Bool}
+use mathlib.Core.Bool.{Bool, true}
 use mathlib.Core.Logic.{⊎-elim}
-use Rattle.arithmetic.specs.decides.Decides.{Decides, decided, refuted, decides-equal}
+use Rattle.arithmetic.specs.decides.Decides.{Decides, decided, refuted, decides-flag}
 use Rattle.scour.specs.declared.Waterway.{Waterway}
 use Rattle.scour.specs.Scour.{scour-told}
 use Rattle.clearance.specs.ClearanceTold.{clearance-told}
 use Rattle.clearance.specs.Clear.{ClearanceSays}
+use Rattle.answer.specs.Columns.{base-of}
+use Rattle.answer.specs.river.River.{OnRock}
 use Rattle.answer.specs.river.steps.Says.{RiverSays}
 use Rattle.answer.specs.river.Rows.{DepthGiven}
 use Rattle.answer.proofs.river.Telling.{DepthGives, ClearGives, no-depth, no-clear, depth-gives, clear-gives, both-give}
@@ -38,8 +40,8 @@ clear-of-requires c κs = search needs
 both-requires : tie.Need-both-requires
 both-requires c κs = search needs
 
-rock : (c : tie.Start) → Decides (c .args .rock) (c .args .job .base .n5 .size ≡ 1)
-rock c = subst⁻¹ (λ (b : Bool). Decides b (c .args .job .base .n5 .size ≡ 1)) (c .pre) (decides-equal (c .args .job .base .n5 .size) 1)
+rock : (c : tie.Start) → Decides (c .args .rock) (OnRock (c .args .job))
+rock c = let r = base-of (c .args .job .base) .rock in subst⁻¹ (λ (b : Bool). Decides b (r ≡ true)) (c .pre) (decides-flag r)
 
 depth : (c : tie.Joined1) → DepthGives (c .before .before .before .args .job) (c .if1 .depth)
 depth c =

@@ -1,0 +1,16 @@
+-- The four demands, of the program: with Table 2, as it holds it.
+use Rattle.earth.specs.table2.Table2.{table2-fill}
+use Rattle.demands.specs.Demand1.{Demand1}
+use Rattle.demands.specs.Demand2.{Demand2}
+use Rattle.demands.specs.Demand3.{Demand3}
+use Rattle.demands.specs.Demand4.{Demand4}
+
+pub record Demands : Type 0 where
+  -- every string of bytes is a book
+  pub first : Demand1 table2-fill
+  -- each answer is the code's
+  pub second : Demand2 table2-fill
+  -- a job book is stated, and a job's lines depend on its own key, kinds and numbers alone
+  pub third : Demand3 table2-fill
+  -- what is printed of a book is what the calls for its jobs write
+  pub fourth : Demand4 table2-fill
