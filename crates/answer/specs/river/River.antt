@@ -18,6 +18,7 @@ use Rattle.lines.specs.declared.RiverLine.the-variants as line
 -- the job has an S row, and its columns give this
 pub record ScourGives (job : Job) (t : ScourTold) : Type 0 where
   pub has : HasScour (job .stage)
+  -- "On rock no depth is needed, but 12 and 13 still apply.": no strata are asked for
   pub rule : ScourRule (waterway-of (job .scour)) t
 
 -- the job has a C row, and its columns give this with the Q of the S row
