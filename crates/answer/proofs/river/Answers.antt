@@ -12,7 +12,7 @@ use Rattle.clearance.proofs.Clearances.{cleared-one}
 use Rattle.lines.specs.declared.RiverLine.{RiverLine}
 use Rattle.lines.specs.declared.RiverLine.the-variants as line
 use Rattle.clearance.specs.Clear.{AtLeast}
-use Rattle.answer.specs.river.River.{Founded, DepthShown, DepthIs, ClearShown, ClearIs}
+use Rattle.answer.specs.river.River.{Founded, DepthShown, DepthIs, ClearIs}
 
 module _ (job : Job) where
   founded : {depth : Amount} {found : ℕ} {passes : Bool} → DepthShown job depth found passes → Founded job

@@ -1,9 +1,9 @@
 -- What `scour` and `clearance` tell of a row, told of its job: a refusal of a row is one of the job, the lower of two comes first, and no
 -- other holds beside what is told.
 use Prim.Native.Nat.{ℕ, _≤_}
-use mathlib.Core.Path.{_≡_, refl, sym, subst, subst⁻¹}
-use mathlib.Core.Bool.{Bool, true}
-use Rattle.arithmetic.proofs.Cases.{impossible, unlike}
+use mathlib.Core.Path.{_≡_, subst, subst⁻¹}
+use mathlib.Core.Bool.{Bool}
+use Rattle.arithmetic.proofs.Cases.{impossible}
 use Rattle.arithmetic.specs.decides.Decides.{Decides, decided, refuted}
 use Rattle.kinds.specs.ranges.Range.{Ranged}
 use Rattle.kinds.specs.declared.Kind.the-variants.{S, C}

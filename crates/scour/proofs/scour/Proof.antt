@@ -1,5 +1,5 @@
 -- `scour::scour` meets its contract: the ranges are what `scour::scour_of` asks of the row's columns.
-use mathlib.Core.Path.{sym, subst}
+use mathlib.Core.Path.{subst}
 use borrow.Author.Needs.{needs}
 use Rattle.arithmetic.specs.decides.Decides.{decided, refuted}
 use Rattle.kinds.specs.ranges.Range.{Ranged}
