@@ -30,7 +30,8 @@ use Rattle.lines.specs.declared.Answer.{Answer}
 use Rattle.lines.specs.declared.RiverLine.{RiverLine}
 use Rattle.checks.specs.declared.Base.{Base}
 use Rattle.answer.specs.Columns.{base-of}
-use Rattle.answer.specs.Answer.{LinesGiven, WholeIs, earlier, told-first}
+use Rattle.answer.specs.Answer.{LinesGiven}
+use Rattle.answer.specs.steps.Whole.{WholeIs, earlier, told-first}
 
 -- what the load rows are told
 module _ {fill : ℕ → ℕ → Coefficient} {rows : List Row} where

@@ -9,7 +9,7 @@ use Rattle.earth.specs.declared.table2.Coefficient.{Coefficient}
 use Rattle.loads.specs.LoadRows.{AllRanged, NoneBlank, optionals}
 use Rattle.jobs.specs.stages.Rows.{RowsRanged}
 use Rattle.scour.specs.Scour as scour
-use Rattle.clearance.specs.ClearanceTold as clearance
+use Rattle.clearance.specs.Clear as clearance
 use Rattle.answer.specs.river.River.{ScourGives, ClearanceGives}
 
 -- the job's load rows

@@ -1,3 +1,2 @@
 pub mod River
-pub mod Rows
 pub mod steps

@@ -15,11 +15,12 @@ use river::RiverRead;
 use sets::Combination;
 use sets::Loads;
 ghost use mathlib.Core.Path.{_≡_};
-ghost use Rattle.sets.specs.Sets.{Bounded};
+ghost use Rattle.sets.specs.Bounded.{Bounded};
 ghost use Rattle.earth.specs.table2.Table2.{table2-fill};
 ghost use Rattle.checks.specs.Sized.{Sized};
 ghost use Rattle.answer.specs.Columns.{base-of};
-ghost use Rattle.answer.specs.Answer.{refusal, WholeIs, AnswerIs, told-first};
+ghost use Rattle.answer.specs.Answer.{refusal, AnswerIs};
+ghost use Rattle.answer.specs.steps.Whole.{WholeIs, told-first};
 
 // The base of a B row.
 fn base_at(numbers: Numbers) -> Base

@@ -9,10 +9,10 @@ use jobs::Job;
 use lines::RiverLine;
 use scour::ScourAnswer;
 ghost use mathlib.Core.Path.{_≡_};
-ghost use Rattle.scour.specs.Scour.{scour-told};
+ghost use Rattle.scour.specs.ScourRow.{scour-told};
 ghost use Rattle.answer.specs.Columns.{base-of};
 ghost use Rattle.answer.specs.river.steps.Says.{RiverSays};
-ghost use Rattle.answer.specs.river.Rows.{DepthGiven, ClearGiven, BothGive};
+ghost use Rattle.answer.specs.river.steps.Rows.{DepthGiven, ClearGiven, BothGive};
 
 // What the river rows of a job give: their refusal, 11 to 14, or their lines.
 pub enum RiverRead {

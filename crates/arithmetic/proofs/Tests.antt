@@ -2,7 +2,8 @@
 use Prim.Native.Nat.{ℕ, _≤_}
 use mathlib.Core.Bool.{Bool, _&&_}
 use lib.Dec.{leb}
-use Rattle.arithmetic.specs.decides.Decides.{Decides, decides-both, decides-at-most}
+use Rattle.arithmetic.specs.decides.Decides.{Decides}
+use Rattle.arithmetic.proofs.Deciding.{decides-both, decides-at-most}
 
 -- from one number to another
 pub decides-within : (a b x : ℕ) → Decides (leb a x && leb x b) ((a ≤ x) × (x ≤ b))

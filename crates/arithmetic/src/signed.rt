@@ -6,7 +6,8 @@
 ghost use mathlib.Core.Path.{_≡_};
 ghost use Prim.Native.Nat.{_+_, _-_};
 ghost use lib.IntN.{pos, _-ℤ_};
-ghost use Rattle.arithmetic.specs.signed.Whole.{worth, amount, parts-of, times, Small};
+ghost use Rattle.arithmetic.specs.signed.Whole.{worth, amount};
+ghost use Rattle.arithmetic.specs.signed.Parts.{parts-of, times, Small};
 
 // A whole number: its size, and whether it is below zero.
 pub struct Amount {

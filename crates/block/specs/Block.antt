@@ -5,7 +5,6 @@ use mathlib.Core.Bool.{cond}
 use mathlib.Core.List.{List, [], _∷_, _++_}
 use lib.Dec.{ltb}
 use lib.ListN.{length, take, set, replicate}
-use Rattle.csv.specs.rfc4180.Rfc4180.{CR, LF, COMMA}
 use Rattle.block.specs.declared.Block.{Block}
 
 -- bytes, the first so many of which are the text
@@ -23,16 +22,6 @@ block-of t = filled (take 2048 t)
 -- the text that a block holds
 unfoldable pub text-held : Block → List ℕ
 text-held block = take (block .len) (block .bytes)
-
--- ---- how a text is written
-
--- a field behind the first of a row: a comma, and its content
-abbrev pub field : List ℕ → List ℕ
-field t = COMMA ∷ t
-
--- "Lines end with CRLF."
-abbrev pub line-end : List ℕ
-line-end = CR ∷ LF ∷ []
 
 -- no text, and zeros
 unfoldable pub blank : Block

@@ -9,7 +9,8 @@ ghost use mathlib.Core.List.{[], _∷_};
 ghost use Prim.Native.Nat.{_+_, _≤_};
 ghost use lib.ListN.{length};
 ghost use Rattle.block.specs.Decimal.{decimal};
-ghost use Rattle.block.specs.Block.{page, puts, field, Adds};
+ghost use Rattle.block.specs.Block.{page, puts, Adds};
+ghost use Rattle.block.specs.Fields.{field};
 
 // A text of at most 2,048 bytes, and zeros behind it.
 pub struct Block {

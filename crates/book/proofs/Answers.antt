@@ -18,7 +18,8 @@ use Rattle.book.specs.JobBook.{Jobs, count, Different, rows-of, Forms, n
 use Rattle.book.specs.Beginning.{Loaded, Placed, Begins}
 use Rattle.book.specs.counted.Places.{places}
 use Rattle.book.specs.Values.{values}
-use Rattle.book.specs.Says.{BookTold, given, refused, formless, misplaced, surplus, reused, Unplaced, Surplus, Reused, Bad, FirstBad, Unfinished, BookSays, too-long, not-csv, bad-row, unfinished, book, book-told, jobs-told, BookIs, CountIs}
+use Rattle.book.specs.Says.{BookTold, given, refused, formless, misplaced, surplus, reused, Unplaced, Surplus, Reused, Bad, FirstBad, Unfinished, BookSays, too-long, not-csv, bad-row, unfinished, book}
+use Rattle.book.specs.Reading.{book-told, jobs-told, BookIs, CountIs}
 use Rattle.rows.specs.refusals.Numbers.{refusal-number}
 use Rattle.rows.proofs.refusals.Numbers.{number-one}
 use Rattle.book.specs.declared.counted.Count.{Count}

@@ -20,7 +20,7 @@ use Rattle.jobs.specs.declared.stages.Stage.the-variants.{Unbegun}
 use Rattle.book.specs.JobBook.{River, dry, scoured, crossed, job, Jobs, none, _and_}
 use Rattle.book.specs.Beginning.{Loaded}
 use Rattle.book.specs.Values.{stage-of, scour-of, clearance-of, load-rows}
-use Rattle.book.specs.walk.Kept.{last-value}
+use Rattle.book.specs.steps.Kept.{last-value}
 use Rattle.book.proofs.Steps.{GrowsBy, starts, scours, crosses, bears}
 
 -- the jobs with one row more, of which the last has the value that the row's taking gives

@@ -17,7 +17,7 @@ use Rattle.book.specs.JobBook.{IsA, dry, job, base, Jobs, none, _and_, c
 use Rattle.rows.specs.keys.Among.{void-key, Among}
 use Rattle.book.specs.counted.Places.{in-places, places}
 use Rattle.book.specs.Values.{job-value, values}
-use Rattle.book.specs.walk.Kept.{last-value, keys-of, key-places}
+use Rattle.book.specs.steps.Kept.{last-value, keys-of, key-places}
 use Rattle.book.proofs.Steps.{GrowsBy, starts, scours, crosses, bears, rebased}
 
 -- a value in the first unused place, and a value in place of the last

@@ -5,7 +5,8 @@ use mathlib.Core.Path.{refl, sym, ap, subst, _∙_, _≡_}
 use mathlib.Core.List.{List, [], _∷_, _++_}
 use lib.ListN.{length}
 use Rattle.csv.specs.rfc4180.Rfc4180.{Cell}
-use Rattle.csv.specs.notes.Notes.{Nth, NoteIn, cell, no-cell, NoteAt}
+use Rattle.csv.specs.notes.Notes.{NoteIn, cell, no-cell, NoteAt}
+use Rattle.csv.specs.Nth.{Nth}
 use Rattle.csv.proofs.notes.Answers.{nth-one}
 use Rattle.rows.specs.Form.{BookRow, Form}
 use Rattle.rows.proofs.Forms.{note-is}

@@ -11,7 +11,8 @@ use Rattle.rows.specs.keys.Keyed.{no-row}
 use Rattle.rows.specs.declared.keys.Keyed.{Keyed}
 use Rattle.csv.proofs.Lists.{heads, tails}
 use Rattle.book.specs.JobBook.{IsA, River, WrittenJob, LoadRows, no-load, load, Rivers, is-dry, is-scoured, is-crossed, GoodJob, good, river-rows}
-use Rattle.book.specs.Values.{stage-of, scour-of, clearance-of, load-rows, job-value, keyed-rows, SameJob}
+use Rattle.book.specs.Values.{stage-of, scour-of, clearance-of, load-rows, job-value}
+use Rattle.book.specs.SameJob.{keyed-rows, SameJob}
 
 loads-same : (ls ms : List BookRow) → keyed-rows ls ≡ keyed-rows ms → (load-rows ls ≡ load-rows ms) × (length ls ≡ length ms)
 loads-same [] [] e = (refl, refl)

@@ -24,13 +24,14 @@ use Rattle.rows.specs.declared.keys.Beginning.{Beginning}
 use Rattle.rows.specs.declared.keys.Beginning.the-variants.{Allowed, Barred}
 use Rattle.book.specs.counted.Places.{places}
 use Rattle.book.specs.Values.{values}
-use Rattle.book.specs.walk.Kept.{last-value}
-use Rattle.book.specs.Says.{refused, formless, misplaced, surplus, reused, Bad, BookSays, bad-row, unfinished, book, book-told, jobs-told, BookIs}
-use Rattle.book.specs.walk.Ended.{EndedIs, missing, whole}
+use Rattle.book.specs.steps.Kept.{last-value}
+use Rattle.book.specs.Says.{refused, formless, misplaced, surplus, reused, Bad, BookSays, bad-row, unfinished, book}
+use Rattle.book.specs.Reading.{book-told, jobs-told, BookIs}
+use Rattle.book.specs.steps.Ended.{EndedIs, missing, whole}
 use Rattle.rows.specs.refusals.Numbers.{refusal-number}
 use Rattle.rows.specs.declared.refusals.Refusal.{Refusal}
 use Rattle.rows.specs.declared.refusals.Refusal.the-variants.{TooLong, NotCsv, NoForm, Misplaced, TooManyJobs, UsedKey}
-use Rattle.book.specs.step.Step.{RefusesRow}
+use Rattle.book.specs.steps.Step.{RefusesRow}
 use Rattle.book.specs.declared.counted.Count.{Count}
 use Rattle.book.specs.declared.counted.Count.the-variants.{Given, Refused}
 use Rattle.book.specs.declared.counted.Book.{Book}

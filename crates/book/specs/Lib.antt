@@ -4,5 +4,6 @@ pub mod Values
 pub mod Says
 pub mod Notes
 pub mod counted
-pub mod step
-pub mod walk
+pub mod Reading
+pub mod SameJob
+pub mod steps

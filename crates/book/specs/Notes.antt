@@ -3,7 +3,7 @@
 use Prim.Native.Nat.{ℕ}
 use mathlib.Core.Path.{_≡_}
 use mathlib.Core.List.{List, []}
-use Rattle.csv.specs.notes.Notes.{Nth}
+use Rattle.csv.specs.Nth.{Nth}
 use Rattle.rows.specs.Form.{BookRow}
 use Rattle.book.specs.JobBook.{Jobs, JobBook}
 

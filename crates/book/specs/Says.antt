@@ -2,18 +2,13 @@
 use Prim.Native.Nat.{ℕ, _+_, _≤_, _<_}
 use mathlib.Core.Path.{_≡_}
 use mathlib.Core.List.{List, [], _∷_, _++_}
-use lib.ListN.{length, take}
+use lib.ListN.{length}
 use Rattle.csv.specs.rfc4180.Rfc4180.{Cell, File, Readable}
 use Rattle.rows.specs.Form.{BookRow, Form}
 use Rattle.jobs.specs.declared.Job.{Job}
-use Rattle.rows.specs.refusals.Numbers.{refusal-number}
 use Rattle.book.specs.JobBook.{Jobs, count, Different, JobBook}
 use Rattle.book.specs.Beginning.{Loaded, Placed, Begins}
-use Rattle.book.specs.counted.Places.{places}
 use Rattle.book.specs.Values.{values}
-use Rattle.book.specs.declared.counted.Count.{Count}
-use Rattle.book.specs.declared.counted.Count.the-variants.{Given, Refused}
-use Rattle.book.specs.declared.counted.Book.{Book}
 
 -- what a book is told: so many jobs, and these; or a refusal's number, and its row
 pub data BookTold : Type 0 where
@@ -76,22 +71,3 @@ pub data BookSays (s : List ℕ) (t : BookTold) : Type 0 where
   bad-row : {rows : List (List Cell)} {why n : ℕ} → length s ≤ 65536 → File s rows → FirstBad why rows n → t ≡ refused why n → BookSays s t
   unfinished : {rows : List (List Cell)} → length s ≤ 65536 → File s rows → Unfinished rows → t ≡ refused 4 (length rows + 1) → BookSays s t
   book : {js : Jobs} → JobBook s js → t ≡ given (count js) (values js) → BookSays s t
-
--- an answer in the paper's numbers and values
-abbrev pub book-told : Count → List Job → BookTold
-book-told (Given n) js = given n (take n js)
-book-told (Refused why row) js = refused (refusal-number why) row
-
-abbrev pub jobs-told : BookTold → List Job
-jobs-told (given n js) = js
-jobs-told (refused n row) = []
-
--- the answer with the jobs by value, in 64 places
-pub record BookIs (s : List ℕ) (b : Book) : Type 0 where
-  pub says : BookSays s (book-told (b .count) (b .jobs))
-  pub held : b .jobs ≡ places (jobs-told (book-told (b .count) (b .jobs)))
-
--- the answer with the number of jobs alone
-pub record CountIs (s : List ℕ) (c : Count) : Type 0 where
-  pub jobs : List Job
-  pub says : BookSays s (book-told c jobs)

@@ -1,6 +1,5 @@
 -- The jobs of a book as values: by key, kinds and numbers, and without their notes.
 use Prim.Native.Nat.{_-_}
-use mathlib.Core.Path.{_≡_}
 use mathlib.Core.List.{List, [], _∷_, _++_}
 use lib.ListN.{length, replicate}
 use Rattle.kinds.specs.Table.{blank-numbers}
@@ -8,11 +7,10 @@ use Rattle.kinds.specs.declared.Numbers.{Numbers}
 use Rattle.kinds.specs.declared.Row.{Row}
 use Rattle.rows.specs.Form.{BookRow}
 use Rattle.rows.specs.keys.Keyed.{no-row}
-use Rattle.rows.specs.declared.keys.Keyed.{Keyed}
 use Rattle.jobs.specs.declared.Job.{Job}
 use Rattle.jobs.specs.declared.stages.Stage.{Stage}
 use Rattle.jobs.specs.declared.stages.Stage.the-variants.{Dry, Scoured, Crossed}
-use Rattle.book.specs.JobBook.{River, dry, scoured, crossed, WrittenJob, job, Jobs, none, _and_, job-rows}
+use Rattle.book.specs.JobBook.{River, dry, scoured, crossed, WrittenJob, job, Jobs, none, _and_}
 
 abbrev pub stage-of : River → Stage
 stage-of dry = Dry
@@ -48,11 +46,3 @@ job-value (job b v ls) = record {
 abbrev pub values : Jobs → List Job
 values none = []
 values (js and j) = values js ++ job-value j ∷ []
-
--- two jobs are the same by key, kinds and numbers, though every note differs
-abbrev pub keyed-rows : List BookRow → List Keyed
-keyed-rows [] = []
-keyed-rows (r ∷ rs) = r .keyed ∷ keyed-rows rs
-
-abbrev pub SameJob : WrittenJob → WrittenJob → Type 0
-SameJob a b = keyed-rows (job-rows a) ≡ keyed-rows (job-rows b)

@@ -10,7 +10,7 @@ mod walk;
 use counted::Book;
 use counted::Count;
 use rows::refusals::Refusal;
-ghost use Rattle.book.specs.Says.{BookIs, CountIs};
+ghost use Rattle.book.specs.Reading.{BookIs, CountIs};
 ghost use Rattle.book.specs.Notes.{NoteIs};
 
 // The jobs of a book, by value; or why it is refused.

@@ -8,7 +8,7 @@ use rows::refusals::Refusal;
 ghost use Prim.Native.Nat.{_≤_};
 ghost use lib.ListN.{length, drop};
 ghost use Rattle.csv.specs.rfc4180.Rfc4180.{Readable};
-ghost use Rattle.book.specs.step.Step.{StepIs};
+ghost use Rattle.book.specs.steps.Step.{StepIs};
 
 // What a row does, the job behind it, and where the next row starts.
 pub struct Step {

@@ -15,8 +15,8 @@ use rows::refusals::Refusal;
 ghost use Prim.Native.Nat.{_≤_};
 ghost use lib.ListN.{length};
 ghost use Rattle.csv.specs.rfc4180.Rfc4180.{Readable};
-ghost use Rattle.book.specs.Says.{BookIs};
-ghost use Rattle.book.specs.walk.Ended.{EndedIs};
+ghost use Rattle.book.specs.Reading.{BookIs};
+ghost use Rattle.book.specs.steps.Ended.{EndedIs};
 
 // Behind the last row: the jobs; or a load row is missing, one past the last row.
 fn ended(jobs: [Job; 64], n: usize, loads: usize, row: usize) -> Book

@@ -6,7 +6,7 @@ use crate::Check;
 use crate::Figure;
 use sets::Loads;
 use sums::Sums;
-ghost use Rattle.sets.specs.Sets.{Bounded};
+ghost use Rattle.sets.specs.Bounded.{Bounded};
 ghost use Rattle.sums.specs.steps.Sums.{Room};
 ghost use Rattle.checks.specs.Order.{side};
 ghost use Rattle.checks.specs.steps.Ranks.{Ranks};

@@ -2,7 +2,8 @@
 use mathlib.Core.Path.{_≡_, refl, sym, ap, _∙_}
 use mathlib.Core.Bool.{cond}
 use lib.Dec.{eqb}
-use Rattle.clearance.specs.ClearanceTold.{ClearanceTold, refused, given, clearance-told}
+use Rattle.clearance.specs.ClearanceRow.{clearance-told}
+use Rattle.clearance.specs.Clear.{ClearanceTold, refused, given}
 use Rattle.clearance.specs.declared.ClearanceAnswer.{ClearanceAnswer}
 use Rattle.clearance.specs.declared.ClearanceAnswer.the-variants.{OutOfRange, OverObstructed, Given}
 

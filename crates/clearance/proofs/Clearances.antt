@@ -5,18 +5,19 @@ use native.Mathlib.Omega.{arith}
 use lib.IntN.{pos, _-ℤ_}
 use mathlib.Core.Bool.{Bool, true, false, not, _&&_}
 use lib.Dec.{leb}
-use Rattle.arithmetic.specs.decides.Decides.{Decides, decides-same, decides-both, decides-at-most}
+use Rattle.arithmetic.specs.decides.Decides.{Decides}
+use Rattle.arithmetic.proofs.Deciding.{decides-same, decides-both, decides-at-most}
 use Rattle.arithmetic.specs.signed.Whole.{worth, amount}
 use Rattle.arithmetic.specs.declared.signed.Amount.{Amount}
 use Rattle.arithmetic.proofs.Cases.{impossible}
 use Rattle.arithmetic.proofs.rounding.Laws.{least-one}
 use Rattle.kinds.specs.declared.Numbers.{Numbers}
 use Rattle.clearance.proofs.afflux.Rules.{clearance-needed-one}
-use Rattle.clearance.specs.ClearanceTold.{ClearanceTold, clearance-told}
+use Rattle.clearance.specs.ClearanceRow.{clearance-told, ClearanceSays, out-of-range, in-range}
+use Rattle.clearance.specs.Clear.{ClearanceTold, Cleared, over-obstructed, clear, AtLeast}
 use Rattle.clearance.specs.declared.Opening.{Opening}
 use Rattle.clearance.specs.declared.ClearanceAnswer.{ClearanceAnswer}
 use Rattle.clearance.proofs.ClearanceTold.{clearance-told-one}
-use Rattle.clearance.specs.Clear.{Cleared, over-obstructed, clear, ClearanceSays, out-of-range, in-range, AtLeast}
 
 module _ {row : Opening} {Q : ℕ} where
   pub cleared-one : {t u : ClearanceTold} → Cleared row Q t → Cleared row Q u → t ≡ u

@@ -8,7 +8,8 @@ use native.Mathlib.Omega.{arith}
 use lib.IntN.{ℤ, pos, negℤ, _-ℤ_, +ℤ-idl}
 use Rattle.arithmetic.specs.declared.signed.Amount.{Amount}
 use Rattle.arithmetic.specs.declared.signed.Parts.{Parts}
-use Rattle.arithmetic.specs.signed.Whole.{worth, above, below, parts-of}
+use Rattle.arithmetic.specs.signed.Whole.{worth, above, below}
+use Rattle.arithmetic.specs.signed.Parts.{parts-of}
 use Rattle.arithmetic.proofs.signed.Laws.{above-size, below-size, above-neg, below-neg, add-parts, add-diffs}
 use Rattle.fields.specs.declared.Entry.{Entry}
 use Rattle.kinds.specs.ranges.Range.{Around}

@@ -6,11 +6,8 @@ use lib.IntN.{pos, _-ℤ_}
 use Rattle.arithmetic.specs.declared.signed.Amount.{Amount}
 use Rattle.arithmetic.specs.signed.Whole.{worth, amount}
 use Rattle.fields.specs.declared.Entry.{Entry}
-use Rattle.kinds.specs.ranges.Range.{Ranged}
-use Rattle.kinds.specs.declared.Kind.the-variants.{C}
 use Rattle.kinds.specs.declared.Numbers.{Numbers}
 use Rattle.clearance.specs.afflux.Rules.{Afflux, ClearanceNeeded}
-use Rattle.clearance.specs.ClearanceTold.{ClearanceTold, refused, given}
 use Rattle.clearance.specs.declared.Opening.{Opening}
 
 -- a level, above zero or below
@@ -21,17 +18,17 @@ level e = record { minus = e .minus; size = e .size }
 abbrev pub opening-of : Numbers → Opening
 opening-of n = record { velocity = n .n1 .size; area = n .n2 .size; obstructed = n .n3 .size; underside = level (n .n4); flood = level (n .n5) }
 
+-- an answer in the paper's numbers: refused with a number, or the clearance there is and the clearance needed
+pub data ClearanceTold : Type 0 where
+  refused : ℕ → ClearanceTold
+  given : Amount → ℕ → ClearanceTold
+
 -- "14, a above A"; else underside - flood - afflux and the clearance needed
 pub data Cleared (row : Opening) (Q : ℕ) : ClearanceTold → Type 0 where
   over-obstructed : row .area < row .obstructed → Cleared row Q (refused 14)
   clear : {afflux needed : ℕ} {clearance : Amount} → row .obstructed ≤ row .area → Afflux (row .velocity) (row .area) (row .obstructed) afflux
       → clearance ≡ amount (worth (row .underside) -ℤ worth (row .flood) -ℤ pos afflux) → ClearanceNeeded Q needed
       → Cleared row Q (given clearance needed)
-
--- "11, a number out of range"; else what the row's columns give
-pub data ClearanceSays (row : Numbers) (Q : ℕ) : ClearanceTold → Type 0 where
-  out-of-range : (Ranged C row → ⊥) → ClearanceSays row Q (refused 11)
-  in-range : {t : ClearanceTold} → Ranged C row → Cleared (opening-of row) Q t → ClearanceSays row Q t
 
 -- "CL value >= limit": a clearance is not below zero, and at least the clearance needed
 pub record AtLeast (clearance : Amount) (needed : ℕ) : Type 0 where

@@ -1,3 +1,3 @@
 pub mod Clear
 pub mod afflux
-pub mod ClearanceTold
+pub mod ClearanceRow

@@ -7,8 +7,8 @@ use mathlib.Core.Logic.{_↔_}
 use mathlib.Core.List.{List, _∷_, _++_, append-nil}
 use lib.ListN.{length, drop, length-drop}
 use Rattle.csv.specs.rfc4180.Rfc4180.{COMMA, CR, LF, Readable}
-use Rattle.csv.specs.rfc4180.Part.{part}
-use Rattle.csv.specs.field.Answer.{FieldAt}
+use Rattle.csv.specs.Part.{part}
+use Rattle.csv.specs.steps.FieldAt.{FieldAt}
 use Rattle.csv.specs.declared.field.Ended.the-variants.{Comma, Row, End, Bad}
 use Rattle.csv.proofs.rfc4180.First.{comma-readable, row-readable, end-readable, starts}
 use Rattle.csv.proofs.rfc4180.Parts.{part-rest, past}

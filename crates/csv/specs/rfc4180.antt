@@ -1,2 +1,1 @@
 pub mod Rfc4180
-pub mod Part

@@ -6,7 +6,7 @@ use crate::quoted;
 use crate::quoted::ClosingQuote;
 ghost use Prim.Native.Nat.{_≤_};
 ghost use lib.ListN.{length};
-ghost use Rattle.csv.specs.field.Answer.{PlainTo, FieldAt};
+ghost use Rattle.csv.specs.steps.FieldAt.{PlainTo, FieldAt};
 
 // What follows the field at a place: a comma or a row's end, with the index at which the field ends; the text's end, which is
 // that index itself; or Bad, where no field stands there that may be followed so.

@@ -6,7 +6,7 @@ ghost use Prim.Native.Nat.{_≤_};
 ghost use lib.ListN.{length, drop};
 ghost use Rattle.csv.specs.rfc4180.Rfc4180.{Textdata};
 ghost use Rattle.arithmetic.specs.decides.Decides.{Decides};
-ghost use Rattle.csv.specs.quoted.Closing.{FirstByte, ClosedAt};
+ghost use Rattle.csv.specs.steps.Closing.{FirstByte, ClosedAt};
 
 // Where a closing quote stands.
 pub enum ClosingQuote {

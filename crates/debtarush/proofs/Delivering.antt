@@ -9,10 +9,10 @@ use Rattle.block.specs.Block as block
 use Rattle.block.proofs.Pages.{block-held}
 use Rattle.buffer.specs.Copying as buffer
 use Rattle.debtarush.specs.CallTold.{CallTold, written, refused}
-use Rattle.debtarush.specs.Lines.{LinesIn}
+use Rattle.debtarush.specs.LinesIn.{LinesIn}
 use Rattle.book.specs.JobBook.{Jobs, JobBook}
 use Rattle.book.specs.Values.{values}
-use Rattle.csv.specs.notes.Notes.{Nth}
+use Rattle.csv.specs.Nth.{Nth}
 use Rattle.debtarush.specs.Called.{Called, too-short, lines}
 
 -- what is told of writing to the buffer, with the same length, or the same number and row

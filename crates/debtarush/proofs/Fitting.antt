@@ -7,7 +7,8 @@ use Rattle.sets.specs.declared.Combination.the-variants.{I, II, III, IV}
 use Rattle.worst.proofs.Sets.{sets-fit}
 use Rattle.loads.proofs.Loaded.{loads-few}
 use Rattle.lines.specs.declared.Answer.{Answer}
-use Rattle.lines.specs.Lines.{no-lines, SetFits, SetsFit, Numbered}
+use Rattle.lines.specs.Lines.{no-lines}
+use Rattle.lines.specs.Numbered.{SetFits, SetsFit, Numbered}
 use Rattle.answer.specs.Answer.{AnswerIs, refused, answered}
 
 none-fit : SetsFit no-lines

@@ -17,8 +17,9 @@ use Rattle.book.specs.Says as book
 use Rattle.book.specs.JobBook.{Jobs, none, _and_, count}
 use Rattle.book.specs.Values.{job-value, values}
 use Rattle.book.proofs.Keeping.{values-many}
-use Rattle.debtarush.specs.Lines.{TextOf, LinesIn}
-use Rattle.debtarush.specs.Behind.{Behind}
+use Rattle.debtarush.specs.Lines.{TextOf}
+use Rattle.debtarush.specs.LinesIn.{LinesIn}
+use Rattle.debtarush.specs.steps.Behind.{Behind}
 use Rattle.debtarush.specs.BookText.{OneMore, JobsText, refused, jobs, BookPrinted}
 use Rattle.debtarush.proofs.Delivering.{lines-held}
 use Rattle.debtarush.proofs.Joining.{Starts, starts-within, starts-none, starts-first, starts-more}

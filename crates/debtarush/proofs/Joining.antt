@@ -10,7 +10,7 @@ use Rattle.block.specs.Block.{text-held}
 use Rattle.buffer.specs.declared.Copied.{Copied}
 use Rattle.buffer.specs.declared.Copied.the-variants.{Length, TooShort}
 use Rattle.buffer.specs.Copying.{copy-told, Wrote}
-use Rattle.debtarush.specs.Behind.{Behind}
+use Rattle.debtarush.specs.steps.Behind.{Behind}
 
 -- a block's text has no more bytes than the block
 pub held-few : (block : Block) → length (block .bytes) ≡ 2048 → length (text-held block) ≤ 2048

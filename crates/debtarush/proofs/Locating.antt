@@ -11,7 +11,8 @@ use Rattle.book.specs.JobBook.{Jobs, JobBook}
 use Rattle.book.specs.counted.Places.{places}
 use Rattle.book.specs.Values.{values}
 use Rattle.book.specs.Says as book
-use Rattle.csv.specs.notes.Notes.{Nth}
+use Rattle.book.specs.Reading as reading
+use Rattle.csv.specs.Nth.{Nth}
 use Rattle.csv.proofs.notes.Answers.{nth-one}
 use Rattle.rows.specs.refusals.Numbers.{refusal-number}
 use Rattle.rows.specs.declared.refusals.Refusal.{Refusal}
@@ -38,20 +39,20 @@ pub record Held (s : List ℕ) (n : ℕ) (jobs : List Job) : Type 0 where
   pub few : n ≤ 64
   pub are : jobs ≡ places (values written)
 
-module _ {s : List ℕ} {b : Book} (w : book.BookIs s b) where
+module _ {s : List ℕ} {b : Book} (w : reading.BookIs s b) where
   pub held : {n : ℕ} → b .count ≡ Given n → Held s n (b .jobs)
   held {n} e =
-      let p = subst (λ (c : Count). book.BookSays s (book.book-told c (b .jobs))) e (w .says) in
+      let p = subst (λ (c : Count). book.BookSays s (reading.book-told c (b .jobs))) e (w .says) in
       let a = read-exactly .0 p in
       let m : n ≡ length (values (a .jobs)) = a .many ∙ sym (values-many (a .jobs)) in
       let f = a .book .few in
       let k = a .many in
-      let h = subst (λ (c : Count). b .jobs ≡ places (book.jobs-told (book.book-told c (b .jobs)))) e (w .held) in
+      let h = subst (λ (c : Count). b .jobs ≡ places (reading.jobs-told (reading.book-told c (b .jobs)))) e (w .held) in
       record { written = a .jobs; book = a .book; many = m; few = omega arith; are = h ∙ ap places (a .are) }
 
   -- and one that is refused says so
   pub refusal : {why : Refusal} {row : ℕ} → b .count ≡ Refused why row → book.BookSays s (book.refused (refusal-number why) row)
-  refusal e = subst (λ (c : Count). book.BookSays s (book.book-told c (b .jobs))) e (w .says)
+  refusal e = subst (λ (c : Count). book.BookSays s (reading.book-told c (b .jobs))) e (w .says)
 
 module _ {s : List ℕ} {n : ℕ} {jobs : List Job} (h : Held s n jobs) where
   pub within : {i : ℕ} → i < n → i < length jobs

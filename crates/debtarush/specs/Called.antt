@@ -9,7 +9,7 @@ use Rattle.book.specs.Values.{values}
 use Rattle.book.specs.Says as book
 use Rattle.earth.specs.declared.table2.Coefficient.{Coefficient}
 use Rattle.debtarush.specs.Lines.{TextOf}
-use Rattle.csv.specs.notes.Notes.{Nth}
+use Rattle.csv.specs.Nth.{Nth}
 use Rattle.debtarush.specs.CallTold.{CallTold, written, refused}
 
 -- a call for the lines of the job at a place of a book, with a buffer that held `before` and holds `after` then.

@@ -1,5 +1,6 @@
 pub mod Lines
 pub mod Called
 pub mod CallTold
-pub mod Behind
 pub mod BookText
+pub mod LinesIn
+pub mod steps

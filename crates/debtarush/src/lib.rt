@@ -14,10 +14,10 @@ ghost use Prim.Native.Nat.{_+_, _≤_};
 ghost use lib.ListN.{length};
 ghost use Rattle.block.specs.Block.{text-held};
 ghost use Rattle.earth.specs.table2.Table2.{table2-fill};
-ghost use Rattle.debtarush.specs.Lines.{LinesIn};
+ghost use Rattle.debtarush.specs.LinesIn.{LinesIn};
 ghost use Rattle.debtarush.specs.CallTold.{call-told};
 ghost use Rattle.debtarush.specs.Called.{Called};
-ghost use Rattle.debtarush.specs.Behind.{Behind};
+ghost use Rattle.debtarush.specs.steps.Behind.{Behind};
 ghost use Rattle.debtarush.specs.BookText.{BookPrinted};
 
 // The length written; or the refusal of the book with its row, of the place, or of the buffer.

@@ -10,7 +10,7 @@ use Rattle.jobs.specs.declared.Job.{Job}
 use Rattle.book.specs.JobBook.{Jobs, JobBook}
 use Rattle.book.specs.Values.{values}
 use Rattle.earth.specs.declared.table2.Coefficient.{Coefficient}
-use Rattle.csv.specs.notes.Notes.{Nth}
+use Rattle.csv.specs.Nth.{Nth}
 use Rattle.lines.specs.declared.Verdict.the-variants.{Refused}
 use Rattle.lines.specs.Lines.{verdict-line, unless-refused, lines-of}
 use Rattle.answer.specs.Rules.{Refuses}

@@ -6,7 +6,7 @@ use Rattle.arithmetic.proofs.Cases.{impossible}
 use Rattle.rows.specs.declared.keys.Key.{Key}
 use Rattle.jobs.specs.declared.Job.{Job}
 use Rattle.earth.specs.declared.table2.Coefficient.{Coefficient}
-use Rattle.csv.specs.notes.Notes.{Nth}
+use Rattle.csv.specs.Nth.{Nth}
 use Rattle.sets.specs.declared.Combination.{Combination}
 use Rattle.checks.specs.declared.Check.{Check}
 use Rattle.lines.specs.declared.Verdict.{Verdict}
@@ -16,7 +16,9 @@ use Rattle.answer.specs.Rules.{Unrefused}
 use Rattle.printing.specs.Text.{line-text, texts, text}
 use Rattle.printing.proofs.Injective.{line-injective, texts-injective}
 use Rattle.printing.specs.Keys.{IsKey}
-use Rattle.demands.specs.Words.{CallWrote, StartsWith, Tells, LinesOf, Sound, NamesSet, Checked, HasLine}
+use Rattle.demands.specs.CheckLine.{NamesSet, Checked, HasLine}
+use Rattle.demands.specs.Sound.{Sound}
+use Rattle.demands.specs.Bytes.{CallWrote, StartsWith, Tells, LinesOf}
 use Rattle.demands.specs.Demand2.{Demand2}
 use Rattle.demands.proofs.Keys.{job-key}
 use Rattle.demands.proofs.Sound.{sound-accepted, accepted-sound}

@@ -7,15 +7,15 @@ use lib.ListN.{length}
 use Rattle.arithmetic.proofs.Cases.{impossible}
 use Rattle.jobs.specs.declared.Job.{Job}
 use Rattle.book.specs.JobBook.{WrittenJob, Jobs, JobBook}
-use Rattle.book.specs.Values.{job-value, SameJob}
-use Rattle.csv.specs.notes.Notes.{Nth}
+use Rattle.book.specs.Values.{job-value}
+use Rattle.book.specs.SameJob.{SameJob, listed}
+use Rattle.csv.specs.Nth.{Nth}
 use Rattle.book.proofs.Answers as read
 use Rattle.book.proofs.Same.{same-value}
 use Rattle.earth.specs.declared.table2.Coefficient.{Coefficient}
 use Rattle.debtarush.specs.CallTold.{CallTold, written, refused}
 use Rattle.debtarush.specs.Called.{Called, no-book, no-place, too-short, lines}
 use Rattle.debtarush.proofs.Texts.{text-one}
-use Rattle.demands.specs.Words.{listed}
 use Rattle.demands.specs.Demand3.{Demand3}
 use Rattle.demands.proofs.Keys.{good-job, value-at}
 use Rattle.demands.proofs.Numbers.{book-numbers}

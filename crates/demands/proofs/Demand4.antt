@@ -6,7 +6,7 @@ use mathlib.Core.List.{List, [], _∷_, _++_, append-nil, append-assoc}
 use lib.ListN.{length, take, drop}
 use lib.Seq.{take-at, drop-at}
 use Rattle.arithmetic.proofs.Cases.{impossible}
-use Rattle.csv.specs.notes.Notes.{Nth}
+use Rattle.csv.specs.Nth.{Nth}
 use Rattle.jobs.specs.declared.Job.{Job}
 use Rattle.earth.specs.declared.table2.Coefficient.{Coefficient}
 use Rattle.book.specs.JobBook.{Jobs, none, _and_, count, JobBook}

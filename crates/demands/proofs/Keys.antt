@@ -9,8 +9,8 @@ use Rattle.jobs.specs.declared.Job.{Job}
 use Rattle.book.specs.JobBook.{WrittenJob, job, Jobs, none, _and_, job-rows, rows-of, GoodJob, Forms, no-form, form, Whole, no-whole, one-whole, JobBook}
 use Rattle.book.specs.Values.{job-value, values}
 use Rattle.printing.specs.Keys.{IsKey}
-use Rattle.csv.specs.notes.Notes.{Nth}
-use Rattle.demands.specs.Words.{listed}
+use Rattle.csv.specs.Nth.{Nth}
+use Rattle.book.specs.SameJob.{listed}
 use Rattle.demands.proofs.All as all
 
 form-key : {cs : List Cell} {r : BookRow} → Form cs r → IsKey (r .keyed .key)

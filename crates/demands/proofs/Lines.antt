@@ -28,8 +28,8 @@ use Rattle.answer.specs.Rules.{load-rows-of, Unrefused}
 use Rattle.lines.specs.verdicts.Verdict.{VerdictIs}
 use Rattle.answer.specs.Columns.{base-of}
 use Rattle.answer.specs.Answer.{LinesAre, LinesGiven, refusal, AnswerIs, refused, answered}
-use Rattle.csv.specs.notes.Notes.{Nth}
-use Rattle.demands.specs.Words.{NamesSet}
+use Rattle.csv.specs.Nth.{Nth}
+use Rattle.demands.specs.CheckLine.{NamesSet}
 use Rattle.demands.proofs.All as all
 
 module _ (fill : ℕ → ℕ → Coefficient) (job : Job) where

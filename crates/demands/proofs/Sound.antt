@@ -3,7 +3,7 @@ use Prim.Native.Nat.{ℕ}
 use mathlib.Core.Path.{_≡_, refl, sym, ap, subst, _∙_}
 use mathlib.Core.Bool.{true, false}
 use Rattle.arithmetic.proofs.Cases.{impossible}
-use Rattle.arithmetic.specs.decides.Decides.{decided}
+use Rattle.arithmetic.proofs.Deciding.{decided}
 use Rattle.jobs.specs.declared.Job.{Job}
 use Rattle.earth.specs.declared.table2.Coefficient.{Coefficient}
 use Rattle.sets.specs.declared.Combination.{Combination}
@@ -33,7 +33,7 @@ use Rattle.answer.proofs.river.Answers.{depth-one, clear-one}
 use Rattle.lines.specs.verdicts.Verdict.{LineYes, LinesYes, RiverYes, AllYes, VerdictIs}
 use Rattle.answer.specs.Columns.{base-of}
 use Rattle.answer.specs.Answer.{LinesAre, LinesGiven, AnswerIs, refused, answered}
-use Rattle.demands.specs.Words.{Bears, Sound}
+use Rattle.demands.specs.Sound.{Bears, Sound}
 
 -- every permitted set of one combination passes one check
 AllPass : Combination → Check → Base → Loads → Type 0

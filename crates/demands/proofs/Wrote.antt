@@ -8,7 +8,7 @@ use Rattle.arithmetic.proofs.Cases.{impossible}
 use Rattle.jobs.specs.declared.Job.{Job}
 use Rattle.book.specs.JobBook.{Jobs, JobBook}
 use Rattle.book.specs.Values.{values}
-use Rattle.csv.specs.notes.Notes.{Nth}
+use Rattle.csv.specs.Nth.{Nth}
 use Rattle.book.proofs.Answers.{refused-none, book-one}
 use Rattle.csv.proofs.notes.Answers.{nth-one}
 use Rattle.earth.specs.declared.table2.Coefficient.{Coefficient}

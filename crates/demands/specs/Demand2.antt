@@ -5,14 +5,16 @@ use mathlib.Core.List.{List}
 use Rattle.rows.specs.declared.keys.Key.{Key}
 use Rattle.jobs.specs.declared.Job.{Job}
 use Rattle.earth.specs.declared.table2.Coefficient.{Coefficient}
-use Rattle.csv.specs.notes.Notes.{Nth}
+use Rattle.csv.specs.Nth.{Nth}
 use Rattle.sets.specs.declared.Combination.{Combination}
 use Rattle.checks.specs.declared.Check.{Check}
 use Rattle.lines.specs.declared.Verdict.the-variants.{Accepted}
 use Rattle.lines.specs.Lines.{PrintedLine, check, verdict-line}
 use Rattle.answer.specs.Rules.{Unrefused}
 use Rattle.printing.specs.Text.{line-text}
-use Rattle.demands.specs.Words.{CallWrote, StartsWith, Tells, LinesOf, Sound, NamesSet, Checked, HasLine}
+use Rattle.demands.specs.CheckLine.{NamesSet, Checked, HasLine}
+use Rattle.demands.specs.Sound.{Sound}
+use Rattle.demands.specs.Bytes.{CallWrote, StartsWith, Tells, LinesOf}
 
 -- what is demanded of the bytes that a call wrote for a job
 pub record CodeAnswer (fill : ℕ → ℕ → Coefficient) (job : Job) (bytes : List ℕ) : Type 0 where

@@ -4,12 +4,11 @@ use mathlib.Core.Path.{_≡_}
 use mathlib.Core.List.{List}
 use lib.ListN.{length, take}
 use Rattle.book.specs.JobBook.{WrittenJob, Jobs, JobBook}
-use Rattle.book.specs.Values.{SameJob}
+use Rattle.book.specs.SameJob.{SameJob, listed}
 use Rattle.earth.specs.declared.table2.Coefficient.{Coefficient}
-use Rattle.csv.specs.notes.Notes.{Nth}
+use Rattle.csv.specs.Nth.{Nth}
 use Rattle.debtarush.specs.CallTold.{CallTold, written, refused}
 use Rattle.debtarush.specs.Called.{Called}
-use Rattle.demands.specs.Words.{listed}
 
 pub record Demand3 (fill : ℕ → ℕ → Coefficient) : Type 0 where
   -- a call is refused with 1 to 6 exactly if the bytes are no job book

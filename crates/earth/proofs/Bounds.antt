@@ -5,7 +5,7 @@ use native.Mathlib.Nat.{le-trans, mul-le-mul, pow-le-pow-left}
 use native.Mathlib.Omega.{arith}
 use lib.Dec.{lit≤}
 use Rattle.kinds.specs.declared.Numbers.{Numbers}
-use Rattle.earth.specs.table2.Table2.{LowCoefficient}
+use Rattle.earth.specs.steps.LowCoefficient.{LowCoefficient}
 use Rattle.earth.specs.Earth.{push, Pushed, has-coefficient, Pressed, in-range}
 use Rattle.earth.specs.declared.table2.Coefficient.{Coefficient}
 use Rattle.earth.specs.declared.Backfill.{Backfill}

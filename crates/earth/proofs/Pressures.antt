@@ -6,7 +6,8 @@ use lib.Dec.{eqb}
 use Rattle.arithmetic.proofs.Cases.{impossible}
 use Rattle.arithmetic.proofs.rounding.Laws.{least-one}
 use Rattle.kinds.specs.declared.Numbers.{Numbers}
-use Rattle.earth.specs.Earth.{EarthTold, refused, push, earth-told, Pushed, blank, has-coefficient, Pressed, out-of-range, in-range}
+use Rattle.earth.specs.Earth.{EarthTold, refused, push, Pushed, blank, has-coefficient, Pressed, out-of-range, in-range}
+use Rattle.earth.specs.EarthTold.{earth-told}
 use Rattle.earth.specs.declared.table2.Coefficient.{Coefficient}
 use Rattle.earth.specs.thrust.Thrust.{Thrust}
 use Rattle.earth.specs.declared.Backfill.{Backfill}

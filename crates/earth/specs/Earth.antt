@@ -9,8 +9,6 @@ use Rattle.earth.specs.declared.table2.Coefficient.{Coefficient}
 use Rattle.earth.specs.declared.table2.Coefficient.the-variants.{Blank, Value}
 use Rattle.earth.specs.thrust.Thrust.{Thrust, Arm}
 use Rattle.earth.specs.declared.Backfill.{Backfill}
-use Rattle.earth.specs.declared.EarthAnswer.{EarthAnswer}
-use Rattle.earth.specs.declared.EarthAnswer.the-variants.{OutOfRange, NoCoefficient, Push}
 
 -- the columns of an E row: soil, slope, height, length
 abbrev pub backfill-of : Numbers → Backfill
@@ -20,11 +18,6 @@ backfill-of n = record { soil = n .n1 .size; slope = n .n2 .size; height = n .n3
 pub data EarthTold : Type 0 where
   refused : ℕ → EarthTold
   push : (H y : ℕ) → EarthTold
-
-abbrev pub earth-told : EarthAnswer → EarthTold
-earth-told OutOfRange = refused 11
-earth-told NoCoefficient = refused 15
-earth-told (Push thrust arm) = push thrust arm
 
 -- "15, Table 2 is blank there"; else H and y, by the coefficient that is held for the row's soil and slope
 pub data Pushed (fill : ℕ → ℕ → Coefficient) (row : Backfill) : EarthTold → Type 0 where

@@ -3,7 +3,8 @@ use Prim.Native.Nat.{ℕ}
 use mathlib.Core.Path.{_≡_, refl, sym, ap, subst, _∙_}
 use mathlib.Core.List.{List}
 use Rattle.csv.proofs.rfc4180.Unique.{content-unique}
-use Rattle.fields.specs.Numbers.{IsNumber, IsEmpty, EntryIn, EntryAt}
+use Rattle.fields.specs.Numbers.{IsNumber, IsEmpty}
+use Rattle.fields.specs.Entries.{EntryIn, EntryAt}
 use Rattle.fields.specs.declared.Entry.{Entry}
 use Rattle.fields.specs.declared.Entered.{Entered}
 use Rattle.fields.specs.declared.Entered.the-variants.{Is, Wrong}

@@ -16,7 +16,8 @@ use Rattle.csv.specs.rfc4180.Rfc4180.{high, Plain, none, text}
 use Rattle.fields.specs.digits.Numerals.{Digited}
 use Rattle.fields.proofs.digits.Numerals.{Digit, numeral-some, numeral-digit, numeral-unique}
 use Rattle.fields.specs.content.Content.{Bare}
-use Rattle.fields.specs.Numbers.{positive, negative, IsNumber, is-positive, is-negative, IsEmpty, EntryAt}
+use Rattle.fields.specs.Numbers.{positive, negative, IsNumber, is-positive, is-negative, IsEmpty}
+use Rattle.fields.specs.Entries.{EntryAt}
 use Rattle.fields.specs.declared.Entry.{Entry}
 use Rattle.fields.specs.declared.Entered.{Entered}
 use Rattle.fields.specs.declared.Entered.the-variants.{Is, Wrong}

@@ -3,11 +3,8 @@ use Prim.Native.Nat.{ℕ, _≤_}
 use mathlib.Core.Path.{_≡_}
 use mathlib.Core.Bool.{true, false}
 use mathlib.Core.List.{List, [], _∷_}
-use Rattle.csv.specs.rfc4180.Rfc4180.{Field}
 use Rattle.fields.specs.digits.Numerals.{Digited}
 use Rattle.fields.specs.declared.Entry.{Entry}
-use Rattle.fields.specs.declared.Entered.{Entered}
-use Rattle.fields.specs.declared.Entered.the-variants.{Is, Wrong}
 
 -- a field left empty, a number from 0 up, and a number below 0
 abbrev pub absent : Entry
@@ -27,14 +24,3 @@ pub data IsNumber (c : List ℕ) (e : Entry) : Type 0 where
 -- the content is empty
 abbrev pub IsEmpty : List ℕ → Entry → Type 0
 IsEmpty c e = (c ≡ []) × (e ≡ absent)
-
--- the stretch is a field, and its content has the form F, by which it is this entry
-pub record EntryIn (F : List ℕ → Entry → Type 0) (raw : List ℕ) (e : Entry) : Type 0 where
-  pub content : List ℕ
-  pub field : Field raw content
-  pub is : F content e
-
--- the answer for a stretch: its entry, or that it has none
-abbrev pub EntryAt : (List ℕ → Entry → Type 0) → List ℕ → Entered → Type 0
-EntryAt F raw (Is e) = EntryIn F raw e
-EntryAt F raw Wrong = (e : Entry) → EntryIn F raw e → ⊥

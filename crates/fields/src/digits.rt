@@ -1,7 +1,7 @@
 // Digits, and what they are worth (document 01, the job book: "1 to 9 digits, no leading zero save 0 itself").
 //
 // The worth of nine digits fits a word, and the answer is exact whatever the bytes.
-ghost use Rattle.fields.specs.digits.Numerals.{DigitsAre};
+ghost use Rattle.fields.specs.steps.Digits.{DigitsAre};
 
 // What digits are worth, or that a content is not digits.
 pub enum Digits {

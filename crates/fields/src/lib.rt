@@ -8,7 +8,8 @@ pub mod names;
 
 use digits::Digits;
 ghost use mathlib.Core.Path.{_≡_};
-ghost use Rattle.fields.specs.Numbers.{IsNumber, IsEmpty, absent, EntryAt};
+ghost use Rattle.fields.specs.Numbers.{IsNumber, IsEmpty, absent};
+ghost use Rattle.fields.specs.Entries.{EntryAt};
 
 // What a number field holds: nothing, or a number by its sign and size. No field gives a minus zero.
 pub struct Entry {

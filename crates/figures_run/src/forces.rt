@@ -11,7 +11,7 @@ use kinds::Numbers;
 use kinds::Row;
 use sets::Combination;
 use sets::Loads;
-ghost use Rattle.sets.specs.Sets.{Bounded};
+ghost use Rattle.sets.specs.Bounded.{Bounded};
 ghost use Rattle.checks.specs.Sized.{Sized};
 
 pub(crate) fn filled(size: u32) -> Entry {

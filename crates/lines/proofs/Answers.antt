@@ -6,7 +6,8 @@ use mathlib.Core.Bool.{Bool, true, false}
 use mathlib.Core.List.{List, [], _∷_}
 use lib.ListN.{length}
 use Rattle.lines.specs.declared.Verdict.{Verdict}
-use Rattle.lines.specs.Lines.{PrintedLine, verdict-line, Alone}
+use Rattle.lines.specs.Lines.{PrintedLine, verdict-line}
+use Rattle.lines.specs.Alone.{Alone}
 
 abbrev some-line : Verdict → List PrintedLine
 some-line verdict = verdict-line verdict ∷ []

@@ -1,2 +1,4 @@
 pub mod Lines
 pub mod verdicts
+pub mod Alone
+pub mod Numbered

@@ -1,6 +1,5 @@
 -- Document 01, The printed answer: the lines of an answer, in their order. A line's key is the job's, and stands before each of them.
-use Prim.Native.Nat.{ℕ, _<_}
-use mathlib.Core.Path.{_≡_}
+use Prim.Native.Nat.{ℕ}
 use mathlib.Core.Bool.{Bool, true, false, cond}
 use mathlib.Core.List.{List, [], _∷_, _++_}
 use Rattle.arithmetic.specs.declared.signed.Amount.{Amount}
@@ -113,33 +112,9 @@ unless-refused Accepted later = later
 unless-refused NotAccepted later = later
 unless-refused (Refused n) later = []
 
--- whether VERDICT stands alone
-abbrev pub Alone : Bool → Verdict → Type 0
-Alone true verdict = (later : List PrintedLine) → unless-refused verdict later ≡ []
-Alone false verdict = (later : List PrintedLine) → unless-refused verdict later ≡ later
-
 unfoldable pub lines-of : Answer → List PrintedLine
 lines-of answer = verdict-line (answer .verdict) ∷ unless-refused (answer .verdict) (later-lines answer)
 
 -- the lines of a combination that has none: "A combination with no set is not checked."
 abbrev pub no-lines : Lines
 no-lines = record { op = line.Missing; om = line.Missing; sl = line.Missing; pr = line.Missing; rk = line.Missing }
-
--- A set number of 16 load rows is below 65,536.
-unfoldable pub SetFits : Line → Type 0
-SetFits line.Missing = Unit {0}
-SetFits (line.Shown figure limit set passes) = set < 65536
-
-pub record SetsFit (lines : Lines) : Type 0 where
-  pub op : SetFits (lines .op)
-  pub om : SetFits (lines .om)
-  pub sl : SetFits (lines .sl)
-  pub pr : SetFits (lines .pr)
-  pub rk : SetFits (lines .rk)
-
--- the set numbers of a job's lines, each one's combination over at most 16 load rows
-pub record Numbered (answer : Answer) : Type 0 where
-  pub one : SetsFit (answer .one)
-  pub two : SetsFit (answer .two)
-  pub three : SetsFit (answer .three)
-  pub four : SetsFit (answer .four)

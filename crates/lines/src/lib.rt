@@ -7,7 +7,8 @@ pub mod verdicts;
 use arithmetic::signed::Amount;
 use checks::Figure;
 ghost use mathlib.Core.Path.{_≡_};
-ghost use Rattle.lines.specs.Lines.{no-lines, Alone};
+ghost use Rattle.lines.specs.Lines.{no-lines};
+ghost use Rattle.lines.specs.Alone.{Alone};
 
 // The line of a check: value, limit, set, and whether it says Y.
 pub enum Line {

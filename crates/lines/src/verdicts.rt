@@ -8,7 +8,8 @@ use crate::Lines;
 use crate::RiverLine;
 use crate::Verdict;
 ghost use Rattle.arithmetic.specs.decides.Decides.{Decides};
-ghost use Rattle.lines.specs.verdicts.Verdict.{LineYes, LinesYes, RiverYes, Judged};
+ghost use Rattle.lines.specs.verdicts.Verdict.{LineYes, LinesYes, RiverYes};
+ghost use Rattle.lines.specs.verdicts.Judged.{Judged};
 
 // Whether a line says Y, where there is one.
 fn line_yes(line: Line) -> bool

@@ -11,10 +11,11 @@ use native.Mathlib.Omega.{arith}
 use Rattle.arithmetic.proofs.Cases.{impossible, unlike}
 use Rattle.kinds.specs.declared.Row.{Row}
 use Rattle.earth.specs.declared.table2.Coefficient.{Coefficient}
-use Rattle.earth.specs.table2.Table2.{LowCoefficient}
+use Rattle.earth.specs.steps.LowCoefficient.{LowCoefficient}
 use Rattle.sets.specs.declared.Load.{Load}
 use Rattle.sets.specs.declared.Loads.{Loads}
-use Rattle.sets.specs.Sets.{row, no-load, BoundedLoad, Bounded}
+use Rattle.sets.specs.Sets.{row, no-load}
+use Rattle.sets.specs.Bounded.{BoundedLoad, Bounded}
 use Rattle.loads.proofs.forces.Exerting.{exerts-bounded}
 use Rattle.loads.specs.LoadRows.{Every, AllRanged, Laid, AreLoads}
 use Rattle.loads.proofs.Loaded.{loads-one, loads-few}

@@ -7,7 +7,8 @@ use mathlib.Core.Bool.{Bool, true, false}
 use mathlib.Core.List.{List}
 use Prim.Native.Nat.{ℕ, _+_, _≤_, _<_}
 use lib.ListN.{length, take, set, length-set}
-use Rattle.arithmetic.specs.decides.Decides.{Decides, decides-same}
+use Rattle.arithmetic.specs.decides.Decides.{Decides}
+use Rattle.arithmetic.proofs.Deciding.{decides-same}
 use Rattle.arithmetic.proofs.Cases.{impossible}
 use Rattle.kinds.specs.declared.Row.{Row}
 use Rattle.kinds.specs.ranges.Range.{Ranged}
@@ -17,10 +18,10 @@ use Rattle.sets.specs.declared.Class.{Class}
 use Rattle.sets.specs.declared.Class.the-variants.{Permanent, Free, Wind, Earthquake}
 use Rattle.sets.specs.declared.Load.{Load}
 use Rattle.loads.specs.forces.Blank.{BlankThere}
-use Rattle.loads.specs.forces.Exerted.{LoadOf}
+use Rattle.loads.specs.steps.Exerted.{LoadOf}
 use Rattle.loads.specs.declared.forces.RowLoad.the-variants.{OutOfRange, NoCoefficient, Exerted}
 use Rattle.loads.proofs.FirstRows.{load-row, FirstEvery, first-every, every-first, first-optionals, optionals-first}
-use Rattle.loads.specs.Asking.{AskedIs}
+use Rattle.loads.specs.steps.Asking.{AskedIs}
 use Rattle.loads.proofs.forces.Exerting.{blank-ranged}
 use Rattle.loads.proofs.Laying.{LaidFirst, laid-more, laid-all}
 

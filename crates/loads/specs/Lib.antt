@@ -1,4 +1,4 @@
 pub mod Answer
 pub mod LoadRows
-pub mod Asking
 pub mod forces
+pub mod steps

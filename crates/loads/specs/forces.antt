@@ -1,3 +1,2 @@
 pub mod Blank
 pub mod Exerts
-pub mod Exerted

@@ -13,7 +13,7 @@ ghost use Prim.Native.Nat.{_≤_};
 ghost use Rattle.earth.specs.table2.Table2.{table2-fill};
 ghost use Rattle.arithmetic.specs.signed.Whole.{signed, amount};
 ghost use Rattle.loads.specs.forces.Exerts.{OwnForces, EarthLoad};
-ghost use Rattle.loads.specs.forces.Exerted.{LoadOf};
+ghost use Rattle.loads.specs.steps.Exerted.{LoadOf};
 
 // What a load row is told: its load; or refusal 11, a number out of range, or 15, Table 2 is blank there.
 pub enum RowLoad {

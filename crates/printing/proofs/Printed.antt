@@ -17,14 +17,17 @@ use Rattle.lines.specs.declared.Line.{Line}
 use Rattle.lines.specs.declared.Line.the-variants as line
 use Rattle.lines.specs.declared.RiverLine.{RiverLine}
 use Rattle.lines.specs.declared.RiverLine.the-variants as river
-use Rattle.lines.specs.Lines.{LineName, PrintedLine, value-of, signed-value, check-line, river-line, verdict-line, later-lines, unless-refused, Alone, lines-of}
+use Rattle.lines.specs.Lines.{LineName, PrintedLine, value-of, signed-value, check-line, river-line, verdict-line, later-lines, unless-refused, lines-of}
+use Rattle.lines.specs.Alone.{Alone}
 use Rattle.block.specs.declared.Block.{Block}
 use Rattle.block.specs.Decimal.{decimal}
-use Rattle.block.specs.Block.{field, puts, Put}
+use Rattle.block.specs.Block.{puts, Put}
+use Rattle.block.specs.Fields.{field}
 use Rattle.printing.specs.line_key.Text.{key-text}
-use Rattle.printing.specs.line_fields.Text.{HYPHEN, combination-text, check-text, name-text, value-text, number-text, ending}
+use Rattle.printing.specs.line_fields.Text.{HYPHEN, combination-text, check-text, name-text, value-text, number-text}
+use Rattle.printing.specs.steps.Ending.{ending}
 use Rattle.printing.specs.Text.{line-text, texts, text}
-use Rattle.printing.specs.Room.{line-room}
+use Rattle.printing.specs.steps.Room.{line-room}
 use Rattle.block.proofs.Pages.{spelled, then-put, put-as, put-nothing}
 use Rattle.lines.specs.declared.Verdict.{Verdict}
 use Rattle.lines.specs.declared.Answer.{Answer}

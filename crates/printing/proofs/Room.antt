@@ -5,8 +5,8 @@ use Rattle.lines.specs.declared.Line.{Line}
 use Rattle.lines.specs.declared.Line.the-variants.{Missing, Shown}
 use Rattle.lines.specs.declared.Lines.{Lines}
 use Rattle.lines.specs.declared.Answer.{Answer}
-use Rattle.lines.specs.Lines.{SetFits, SetsFit, Numbered}
-use Rattle.printing.specs.Room.{line-room, lines-room, answer-room}
+use Rattle.lines.specs.Numbered.{SetFits, SetsFit, Numbered}
+use Rattle.printing.specs.steps.Room.{line-room, lines-room, answer-room}
 use Rattle.block.proofs.Numbers.{decimal-length}
 
 line-fits : (l : Line) → SetFits l → line-room l ≤ 84

@@ -1,6 +1,6 @@
 pub mod Keys
 pub mod Text
-pub mod Room
 pub mod line_fields
 pub mod line_key
 pub mod refused_book
+pub mod steps

@@ -3,7 +3,7 @@ use Prim.Native.Nat.{ℕ}
 use mathlib.Core.List.{List, [], _∷_, _++_}
 use Rattle.rows.specs.declared.keys.Key.{Key}
 use Rattle.lines.specs.Lines.{PrintedLine, lines-of}
-use Rattle.block.specs.Block.{field, line-end}
+use Rattle.block.specs.Fields.{field, line-end}
 use Rattle.printing.specs.line_key.Text.{key-text}
 use Rattle.printing.specs.line_fields.Text.{name-text, value-text, number-text, mark-text}
 use Rattle.lines.specs.declared.Answer.{Answer}

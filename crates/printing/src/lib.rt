@@ -21,11 +21,14 @@ ghost use Prim.Native.Nat.{_≤_};
 ghost use lib.ListN.{length};
 ghost use Rattle.sets.specs.declared.Combination.{Combination};
 ghost use Rattle.checks.specs.declared.Check.{Check};
-ghost use Rattle.lines.specs.Lines.{LineName, combination-lines, later-lines, Numbered, value-of, verdict-line, check-line, river-line};
-ghost use Rattle.block.specs.Block.{Adds, block-of, field};
-ghost use Rattle.printing.specs.line_fields.Text.{HYPHEN, combination-text, check-text, name-text, value-text, ending};
+ghost use Rattle.lines.specs.Lines.{LineName, combination-lines, later-lines, value-of, verdict-line, check-line, river-line};
+ghost use Rattle.lines.specs.Numbered.{Numbered};
+ghost use Rattle.block.specs.Block.{Adds, block-of};
+ghost use Rattle.block.specs.Fields.{field};
+ghost use Rattle.printing.specs.line_fields.Text.{HYPHEN, combination-text, check-text, name-text, value-text};
+ghost use Rattle.printing.specs.steps.Ending.{ending};
 ghost use Rattle.printing.specs.Text.{texts, text, line-text};
-ghost use Rattle.printing.specs.Room.{lines-room, answer-room, line-room};
+ghost use Rattle.printing.specs.steps.Room.{lines-room, answer-room, line-room};
 
 // The value of a check.
 fn put_figure(out: &mut [u8; 2048], at: usize, figure: Figure) -> usize

@@ -6,7 +6,8 @@
 use arithmetic::signed::Amount;
 use lines::Verdict;
 ghost use Rattle.lines.specs.Lines.{signed-value, verdict-value};
-ghost use Rattle.block.specs.Block.{field, Adds};
+ghost use Rattle.block.specs.Block.{Adds};
+ghost use Rattle.block.specs.Fields.{field};
 ghost use Rattle.printing.specs.line_fields.Text.{value-text};
 
 // The value of SC and of CL.

@@ -8,12 +8,14 @@ use lib.ListN.{length, drop}
 use Rattle.csv.specs.rfc4180.Rfc4180.{Cell, Field, File}
 use Rattle.csv.proofs.rfc4180.Unique.{content-unique}
 use Rattle.arithmetic.proofs.Tests.{AllSix, all-six, decides-six}
-use Rattle.arithmetic.specs.decides.Decides.{Decides, decides-both, decides-flag}
+use Rattle.arithmetic.specs.decides.Decides.{Decides}
+use Rattle.arithmetic.proofs.Deciding.{decides-both, decides-flag}
 use Rattle.csv.specs.cells.Cells.{offset, RowAt, CellAt}
 use Rattle.csv.specs.declared.cells.Cells.{Cells}
 use Rattle.csv.proofs.cells.Fields.{row-fields}
-use Rattle.fields.specs.names.Names.{NameOf, NameIn, NameGiven, NameAt}
-use Rattle.fields.specs.Numbers.{EntryAt}
+use Rattle.fields.specs.names.Names.{NameOf}
+use Rattle.fields.specs.names.NameAt.{NameIn, NameGiven, NameAt}
+use Rattle.fields.specs.Entries.{EntryAt}
 use Rattle.fields.specs.declared.names.Name.{Name}
 use Rattle.fields.specs.declared.names.NameRead.{NameRead}
 use Rattle.fields.specs.declared.Entry.{Entry}
@@ -28,7 +30,8 @@ use Rattle.kinds.specs.declared.Numbers.{Numbers}
 use Rattle.kinds.proofs.letters.Letters.{letters-one}
 use Rattle.rows.specs.Form.{BookRow, Six, Form}
 use Rattle.rows.specs.keys.Keyed.{no-row}
-use Rattle.rows.specs.Answer.{raw, content, first-ten, TenAt, entered, NumbersGiven, RowSeen}
+use Rattle.rows.specs.Answer.{raw, content, first-ten, RowSeen}
+use Rattle.rows.specs.steps.Numbers.{TenAt, entered, NumbersGiven}
 use Rattle.rows.specs.declared.EntryRead.{EntryRead}
 use Rattle.rows.specs.declared.RowRead.{RowRead}
 use Rattle.rows.specs.declared.keys.Keyed.{Keyed}

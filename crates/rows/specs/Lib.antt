@@ -2,3 +2,4 @@ pub mod Form
 pub mod Answer
 pub mod keys
 pub mod refusals
+pub mod steps

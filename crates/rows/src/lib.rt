@@ -20,10 +20,11 @@ ghost use mathlib.Core.Bool.{false};
 ghost use Prim.Native.Nat.{_≤_};
 ghost use lib.ListN.{length, drop};
 ghost use Rattle.csv.specs.rfc4180.Rfc4180.{Readable};
-ghost use Rattle.fields.specs.Numbers.{EntryAt};
+ghost use Rattle.fields.specs.Entries.{EntryAt};
 ghost use Rattle.kinds.specs.Form.{Means};
 ghost use Rattle.rows.specs.keys.Keyed.{no-row};
-ghost use Rattle.rows.specs.Answer.{entered, NumbersAre, SeenAt};
+ghost use Rattle.rows.specs.Answer.{SeenAt};
+ghost use Rattle.rows.specs.steps.Numbers.{entered, NumbersAre};
 
 // A number or an empty field; or neither, where a field holds neither by its column.
 struct EntryRead {

@@ -1,10 +1,10 @@
 -- An S row is told one thing, and so is given one answer.
 use mathlib.Core.Path.{_≡_, refl}
 use Rattle.kinds.specs.declared.Numbers.{Numbers}
-use Rattle.scour.specs.Scour.{ScourTold, scour-told}
+use Rattle.scour.specs.Scour.{ScourTold}
+use Rattle.scour.specs.ScourRow.{scour-told, ScourSays, out-of-range, in-range}
 use Rattle.scour.specs.declared.ScourAnswer.{ScourAnswer}
 use Rattle.scour.proofs.Scours.{scour-rule-one, scour-told-one}
-use Rattle.scour.specs.ScourRow.{ScourSays, out-of-range, in-range}
 
 pub scour-says-one : {row : Numbers} {t u : ScourTold} → ScourSays row t → ScourSays row u → t ≡ u
 scour-says-one (out-of-range h) (out-of-range k) = refl

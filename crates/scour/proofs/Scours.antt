@@ -6,7 +6,8 @@ use native.Mathlib.Omega.{arith}
 use lib.Dec.{eqb}
 use Rattle.arithmetic.proofs.rounding.Laws.{least-one}
 use Rattle.scour.specs.lacey.Lacey.{Intensity, RegimeDepth, ConstrictedDepth, DepthNeeded}
-use Rattle.scour.specs.Scour.{ScourTold, refused, needs, scour-told, Constricted, LaceyDepth, regime, constricted, ScourRule, large-catchment, too-intense, needed}
+use Rattle.scour.specs.Scour.{ScourTold, refused, needs, Constricted, LaceyDepth, regime, constricted, ScourRule, large-catchment, too-intense, needed}
+use Rattle.scour.specs.ScourRow.{scour-told}
 use Rattle.scour.specs.declared.Waterway.{Waterway}
 use Rattle.scour.specs.declared.ScourAnswer.{ScourAnswer}
 use Rattle.scour.specs.declared.ScourAnswer.the-variants.{OutOfRange, LargeCatchment, TooIntense, Needed}

@@ -4,8 +4,6 @@ use Rattle.scour.specs.discharge.Discharge.{FoundationDischarge}
 use Rattle.scour.specs.lacey.Lacey.{RegimeMet, RegimeDepth, Intensity, ConstrictedDepth, DepthNeeded}
 use Rattle.kinds.specs.declared.Numbers.{Numbers}
 use Rattle.scour.specs.declared.Waterway.{Waterway}
-use Rattle.scour.specs.declared.ScourAnswer.{ScourAnswer}
-use Rattle.scour.specs.declared.ScourAnswer.the-variants.{OutOfRange, LargeCatchment, TooIntense, Needed}
 
 -- the columns of an S row: Q, catchment, silt factor, waterway W, reach, foundation depth below flood
 abbrev pub waterway-of : Numbers → Waterway
@@ -15,12 +13,6 @@ waterway-of n = record { discharge = n .n1 .size; catchment = n .n2 .size; silt 
 pub data ScourTold : Type 0 where
   refused : ℕ → ScourTold
   needs : ℕ → ScourTold
-
-abbrev pub scour-told : ScourAnswer → ScourTold
-scour-told OutOfRange = refused 11
-scour-told LargeCatchment = refused 12
-scour-told TooIntense = refused 13
-scour-told (Needed depth) = needs depth
 
 -- the constricted rule applies, and gives q
 pub record Constricted (row : Waterway) (q : ℕ) : Type 0 where

@@ -2,7 +2,7 @@
 use mathlib.Core.Path.{_≡_}
 use mathlib.Core.Logic.{_⊎_}
 use mathlib.Core.Bool.{false}
-use Prim.Native.Nat.{ℕ, _/_, _%_, _^_, _≤_, _<_}
+use Prim.Native.Nat.{ℕ, _/_, _%_, _^_, _<_}
 use lib.ListN.{getD}
 use Rattle.arithmetic.specs.declared.signed.Amount.{Amount}
 use Rattle.sets.specs.declared.Class.{Class}
@@ -65,14 +65,3 @@ pub record Permitted (combination : Combination) (loads : Loads) (set : ℕ) : T
   pub mixed : Mixed combination loads set
   -- IV, only if some row has phase 1.
   pub erection : combination ≡ IV → Erected loads
-
--- How large a load may be for every sum to fit a word; what 01's rows exert is within it. |V| in kN, |x| in mm, |H| in kN, |H y| in kN mm.
-pub record BoundedLoad (load : Load) : Type 0 where
-  pub v : load .v .size ≤ 50000
-  pub x : load .x .size ≤ 32000
-  pub h : load .h .size ≤ 300000
-  pub twist : load .twist .size ≤ 3000000000
-
-pub record Bounded (loads : Loads) : Type 0 where
-  pub count : loads .count ≤ 16
-  pub each : (i : ℕ) → i < loads .count → BoundedLoad (row loads i)

@@ -9,7 +9,8 @@ use lib.IntN.{ℤ, pos, _+ℤ_, _-ℤ_, _*ℤ_}
 use lib.Pow.{pow-mono}
 use Rattle.arithmetic.specs.declared.signed.Amount.{Amount}
 use Rattle.arithmetic.specs.declared.signed.Parts.{Parts}
-use Rattle.arithmetic.specs.signed.Whole.{worth, above, below, parts-of, times}
+use Rattle.arithmetic.specs.signed.Whole.{worth, above, below}
+use Rattle.arithmetic.specs.signed.Parts.{parts-of, times}
 use Rattle.arithmetic.proofs.signed.Laws.{same-parts, parts, add-diffs, add-parts, above-less, below-less, above-more, below-more, above-neg, below-neg, above-twice, below-twice, above-mul, below-mul, above-size, below-size}
 use Rattle.sums.specs.declared.Balance.{Balance}
 use Rattle.sets.specs.declared.Class.{Class}
@@ -17,7 +18,8 @@ use Rattle.sets.specs.declared.Class.the-variants.{Permanent, Free, Wind, Earth
 use Rattle.sets.specs.declared.Load.{Load}
 use Rattle.sets.specs.declared.Loads.{Loads}
 use Rattle.sums.specs.declared.Sums.{Sums}
-use Rattle.sets.specs.Sets.{bit, row, Bounded, BoundedLoad}
+use Rattle.sets.specs.Sets.{bit, row}
+use Rattle.sets.specs.Bounded.{Bounded, BoundedLoad}
 use Rattle.sums.specs.Totals.{countedℤ, counted, sumℤ, sum, N, H, M, moment, plus, minus, arm, v-moment, h-moment, resists, overturns, resisting, overturning}
 use Rattle.sums.specs.steps.Sums.{parts-sum, balance-sum, no-sums, add, add-if, balance-of, is-wind, is-earthquake, moment-of, terms-of, sums-to, sums-of, arm-by, balance-by, moment-by, Room}
 

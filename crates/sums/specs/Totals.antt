@@ -1,10 +1,9 @@
 -- Document 01, Load sets: the sums over the rows of a set. N and the sum of H are in kN, M in kN mm, and so is what resists and what overturns.
 use Prim.Native.Nat.{ℕ, zero, suc, _+_}
 use lib.IntN.{ℤ, pos, negℤ, _+ℤ_, _-ℤ_, _*ℤ_}
-use Rattle.arithmetic.specs.signed.Whole.{worth, amount, above, below}
+use Rattle.arithmetic.specs.signed.Whole.{worth, above, below}
 use Rattle.sets.specs.declared.Load.{Load}
 use Rattle.sets.specs.declared.Loads.{Loads}
-use Rattle.sums.specs.declared.Totals.{Totals}
 use Rattle.sets.specs.Sets.{bit, row}
 
 -- what a row gives counts where the row is in the set
@@ -69,14 +68,3 @@ resisting edge width loads set = sum (resists edge width) loads set (loads .coun
 
 unfoldable pub overturning : Edge → ℕ → Loads → ℕ → ℕ
 overturning edge width loads set = sum (overturns edge width) loads set (loads .count)
-
--- all of them
-unfoldable pub totals-of : ℕ → Loads → ℕ → Totals
-totals-of width loads set =
-    record {
-      n = amount (N loads set);
-      h = amount (H loads set);
-      m = amount (M loads set);
-      plus = record { resisting = resisting plus width loads set; overturning = overturning plus width loads set };
-      minus = record { resisting = resisting minus width loads set; overturning = overturning minus width loads set };
-    }

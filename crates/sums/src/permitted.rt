@@ -5,7 +5,8 @@
 use sets::Combination;
 use sets::Loads;
 ghost use Rattle.arithmetic.specs.decides.Decides.{Decides};
-ghost use Rattle.sets.specs.Sets.{Permitted, Bounded};
+ghost use Rattle.sets.specs.Sets.{Permitted};
+ghost use Rattle.sets.specs.Bounded.{Bounded};
 
 // Whether a combination permits a set: every row may stand in it as its bit says, it has no row past the last, some row raises the
 // combination, and its wind and earthquake rows may act together. Its sums count those, whatever the width.

@@ -8,8 +8,8 @@ use sets::Class;
 use sets::Load;
 ghost use mathlib.Core.Path.{_≡_};
 ghost use Prim.Native.Nat.{_≤_};
-ghost use Rattle.arithmetic.specs.signed.Whole.{Small};
-ghost use Rattle.sets.specs.Sets.{BoundedLoad};
+ghost use Rattle.arithmetic.specs.signed.Parts.{Small};
+ghost use Rattle.sets.specs.Bounded.{BoundedLoad};
 ghost use Rattle.sums.specs.steps.Sums.{arm-by, balance-by, terms-of};
 
 // What one row gives at an edge of a base of this width, where V stands so far toward the edge or so far away from it. The arm is taken

@@ -4,8 +4,8 @@ use crate::Totals;
 use sets::Loads;
 ghost use mathlib.Core.Path.{_≡_};
 ghost use Prim.Native.Nat.{_≤_};
-ghost use Rattle.sets.specs.Sets.{Bounded};
-ghost use Rattle.sums.specs.Totals.{totals-of};
+ghost use Rattle.sets.specs.Bounded.{Bounded};
+ghost use Rattle.sums.specs.TotalsOf.{totals-of};
 ghost use Rattle.sums.specs.steps.Sums.{sums-of};
 
 // The sums over the rows of a set.

@@ -10,7 +10,7 @@ use Rattle.checks.specs.declared.Check.the-variants.{OP, OM, SL, PR, RK}
 use Rattle.lines.specs.declared.Line.{Line}
 use Rattle.lines.specs.declared.Line.the-variants.{Missing, Shown}
 use Rattle.lines.specs.declared.Lines.{Lines}
-use Rattle.lines.specs.Lines.{SetFits, SetsFit}
+use Rattle.lines.specs.Numbered.{SetFits, SetsFit}
 use Rattle.worst.specs.Lines.{LineSays, line}
 
 module _ (combination : Combination) (base : Base) (loads : Loads) (few : loads .count ≤ 16) where

@@ -8,11 +8,13 @@ use native.Mathlib.Nat.{lt-of-lt-of-le}
 use native.Mathlib.Decide.{decLt}
 use lib.Pow.{pow-mono}
 use Rattle.arithmetic.proofs.Cases.{by-cases}
-use Rattle.arithmetic.specs.decides.Decides.{Decides, decided}
+use Rattle.arithmetic.specs.decides.Decides.{Decides}
+use Rattle.arithmetic.proofs.Deciding.{decided}
 use Rattle.sets.specs.declared.Combination.{Combination}
 use Rattle.sets.specs.declared.Loads.{Loads}
 use Rattle.sums.specs.declared.Sums.{Sums}
-use Rattle.sets.specs.Sets.{row, Bounded, Permitted}
+use Rattle.sets.specs.Sets.{row, Permitted}
+use Rattle.sets.specs.Bounded.{Bounded}
 use Rattle.sets.specs.steps.Deciding.{Arises, Admits, RowFits}
 use Rattle.sums.specs.steps.Sums.{sums-of}
 use Rattle.sets.proofs.Permitting.{Fit}

@@ -17,7 +17,7 @@ use weighing::ranked::RankedSet;
 ghost use mathlib.Core.Path.{_≡_};
 ghost use Prim.Native.Nat.{_≤_};
 ghost use Rattle.sets.specs.declared.Loads.{Loads};
-ghost use Rattle.sets.specs.Sets.{Bounded};
+ghost use Rattle.sets.specs.Bounded.{Bounded};
 ghost use Rattle.sets.specs.steps.Deciding.{Arises};
 ghost use Rattle.checks.specs.Sized.{Sized};
 ghost use Rattle.checks.specs.steps.HasCheck.{HasCheck};

@@ -14,7 +14,7 @@ ghost use Rattle.worst.specs.steps.Terms.{Puts, terms-at, terms-from};
 ghost use mathlib.Core.Path.{_≡_};
 ghost use Rattle.sums.specs.steps.Sums.{Room};
 ghost use Rattle.worst.specs.steps.Stance.{chosen};
-ghost use Rattle.sets.specs.Sets.{Bounded};
+ghost use Rattle.sets.specs.Bounded.{Bounded};
 ghost use Rattle.worst.specs.steps.TermTable.{TableIs};
 
 // The rows of a combination: the terms of its choosable rows, 13 numbers each, how many they are, and the sums of the rows in every set.

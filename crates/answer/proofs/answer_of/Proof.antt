@@ -2,7 +2,7 @@
 -- and their bounds and the base's are what `whole` asks.
 use mathlib.Core.Path.{sym, ap, subst, _∙_}
 use borrow.Author.Tests.{not-true, not-false}
-use Rattle.arithmetic.specs.decides.Decides.{decided, refuted}
+use Rattle.arithmetic.proofs.Deciding.{decided, refuted}
 use Rattle.earth.specs.table2.Table2.{table2-fill}
 use Rattle.earth.proofs.table2.Marks.{table2-small}
 use Rattle.checks.specs.Sized.{Sized}

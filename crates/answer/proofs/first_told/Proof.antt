@@ -5,7 +5,7 @@ use mathlib.Core.Logic.{⊎-elim}
 use Rattle.loads.specs.declared.LoadsAnswer as loads
 use Rattle.answer.specs.declared.river.RiverRead.{RiverRead}
 use Rattle.answer.specs.declared.river.RiverRead.the-variants.{Refused}
-use Rattle.answer.specs.Answer.{earlier, told-first}
+use Rattle.answer.specs.steps.Whole.{earlier, told-first}
 use borrow.Author.Needs.{needs}
 use Rattle.answer.proofs.first_told.Statement.{statement}
 use Rattle.answer.proofs.first_told.Tie as tie

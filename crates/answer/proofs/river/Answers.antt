@@ -5,7 +5,8 @@ use mathlib.Core.Bool.{Bool}
 use lib.IntN.{pos}
 use Rattle.arithmetic.specs.declared.signed.Amount.{Amount}
 use Rattle.arithmetic.specs.signed.Whole.{amount}
-use Rattle.arithmetic.specs.decides.Decides.{Decides, decides-one}
+use Rattle.arithmetic.specs.decides.Decides.{Decides}
+use Rattle.arithmetic.proofs.Deciding.{decides-one}
 use Rattle.jobs.specs.declared.Job.{Job}
 use Rattle.scour.proofs.Scours.{scour-rule-one}
 use Rattle.clearance.proofs.Clearances.{cleared-one}

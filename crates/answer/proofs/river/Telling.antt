@@ -4,7 +4,8 @@ use Prim.Native.Nat.{ℕ, _≤_}
 use mathlib.Core.Path.{_≡_, subst, subst⁻¹}
 use mathlib.Core.Bool.{Bool}
 use Rattle.arithmetic.proofs.Cases.{impossible}
-use Rattle.arithmetic.specs.decides.Decides.{Decides, decided, refuted}
+use Rattle.arithmetic.specs.decides.Decides.{Decides}
+use Rattle.arithmetic.proofs.Deciding.{decided, refuted}
 use Rattle.kinds.specs.ranges.Range.{Ranged}
 use Rattle.kinds.specs.declared.Kind.the-variants.{S, C}
 use Rattle.jobs.specs.declared.Job.{Job}
@@ -12,7 +13,7 @@ use Rattle.jobs.specs.stages.Rows.{HasScour, HasClearance}
 use Rattle.scour.specs.Scour as scour
 use Rattle.scour.specs.ScourRow as scour-row
 use Rattle.arithmetic.specs.declared.signed.Amount.{Amount}
-use Rattle.clearance.specs.ClearanceTold as told
+use Rattle.clearance.specs.ClearanceRow as told
 use Rattle.clearance.specs.Clear as clearing
 use Rattle.clearance.specs.declared.ClearanceAnswer.{ClearanceAnswer}
 use Rattle.clearance.specs.declared.ClearanceAnswer.the-variants as clearance
@@ -23,7 +24,7 @@ use Rattle.lines.specs.declared.RiverLine.the-variants as lines
 use Rattle.answer.specs.river.River.{OnRock, DepthIs, ClearIs}
 use Rattle.answer.specs.river.steps.Says.{LargeCatchment, TooIntense, OverObstructed, ScourAllowed, RiverSays}
 use Rattle.answer.specs.river.steps.Says as says
-use Rattle.answer.specs.river.Rows.{DepthLineIs, DepthGiven, ClearLineIs, ClearGiven, both}
+use Rattle.answer.specs.river.steps.Rows.{DepthLineIs, DepthGiven, ClearLineIs, ClearGiven, both}
 use Rattle.answer.specs.declared.river.RowGives.{RowGives}
 use Rattle.answer.specs.declared.river.RowGives.the-variants.{Refused, Line}
 
@@ -93,11 +94,11 @@ module _ (job : Job) where
 
   -- the C row
   module _ (has : HasClearance (job .stage)) where
-    abbrev Says : told.ClearanceTold → Type 0
-    Says t = clearing.ClearanceSays (job .clearance) (scour.waterway-of (job .scour) .discharge) t
+    abbrev Says : clearing.ClearanceTold → Type 0
+    Says t = told.ClearanceSays (job .clearance) (scour.waterway-of (job .scour) .discharge) t
 
     abbrev Cleared : Amount → ℕ → Type 0
-    Cleared there needed = clearing.Cleared (clearing.opening-of (job .clearance)) (scour.waterway-of (job .scour) .discharge) (told.given there needed)
+    Cleared there needed = clearing.Cleared (clearing.opening-of (job .clearance)) (scour.waterway-of (job .scour) .discharge) (clearing.given there needed)
 
     module _ (there : Amount) (needed : ℕ) where
       -- what gives a clearance does not give 14
@@ -112,10 +113,10 @@ module _ (job : Job) where
           subst⁻¹ (λ (l : RiverLine). ClearGives job (Line l)) same (clear {l = lines.Shown there needed passes} (λ _. k) (not-obstructed v) here)
 
     pub clear-gives : (a : ClearanceAnswer) → Says (told.clearance-told a) → (r : RowGives) → ClearGiven a r → ClearGives job r
-    clear-gives clearance.OutOfRange (clearing.out-of-range h) r e = subst⁻¹ (ClearGives job) e (unranged (λ r. h (r has)))
-    clear-gives clearance.OverObstructed (clearing.in-range k v) r e = subst⁻¹ (ClearGives job) e (obstructed (λ _. k) (record { has = has; rule = v }))
+    clear-gives clearance.OutOfRange (told.out-of-range h) r e = subst⁻¹ (ClearGives job) e (unranged (λ r. h (r has)))
+    clear-gives clearance.OverObstructed (told.in-range k v) r e = subst⁻¹ (ClearGives job) e (obstructed (λ _. k) (record { has = has; rule = v }))
     clear-gives (clearance.Given there needed) s (Refused n) w = absurd w
-    clear-gives (clearance.Given there needed) (clearing.in-range k v) (Line l) w = clear-line there needed l k v w
+    clear-gives (clearance.Given there needed) (told.in-range k v) (Line l) w = clear-line there needed l k v w
 
   -- ---- both rows: 11 before 12 and 13, and those before 14
   pub both-give : {d c : RowGives} → DepthGives job d → ClearGives job c → RiverSays job (both d c)

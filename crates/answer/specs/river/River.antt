@@ -8,10 +8,9 @@ use Rattle.jobs.specs.declared.Job.{Job}
 use Rattle.answer.specs.Columns.{base-of}
 use Rattle.jobs.specs.stages.Rows.{HasScour, HasClearance}
 use Rattle.scour.specs.Scour.{waterway-of, ScourTold, needs, ScourRule}
-use Rattle.clearance.specs.Clear.{opening-of, Cleared, AtLeast}
+use Rattle.clearance.specs.Clear.{opening-of, Cleared, AtLeast, ClearanceTold, given}
 use Rattle.arithmetic.specs.declared.signed.Amount.{Amount}
 use Rattle.arithmetic.specs.signed.Whole.{amount}
-use Rattle.clearance.specs.ClearanceTold.{ClearanceTold, given}
 use Rattle.lines.specs.declared.RiverLine.{RiverLine}
 use Rattle.lines.specs.declared.RiverLine.the-variants as line
 

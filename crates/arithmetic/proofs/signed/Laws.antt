@@ -9,7 +9,8 @@ use lib.Dec.{ltb}
 use lib.IntN.{ℤ, pos, negsuc, negℤ, natAbs, _+ℤ_, _-ℤ_, _*ℤ_, negℤ-negℤ, +ℤ-assoc, +ℤ-comm, negℤ-+ℤ, pos-+ℤ-pos, +ℤ-idr, +ℤ-idl}
 use Rattle.arithmetic.specs.declared.signed.Amount.{Amount}
 use Rattle.arithmetic.specs.declared.signed.Parts.{Parts}
-use Rattle.arithmetic.specs.signed.Whole.{signed, worth, amount, above, below, times, Small}
+use Rattle.arithmetic.specs.signed.Whole.{signed, worth, amount, above, below}
+use Rattle.arithmetic.specs.signed.Parts.{times, Small}
 
 -- an amount's parts
 pub above-minus : (a : Amount) → a .minus ≡ true → above (worth a) ≡ 0

@@ -1,9 +1,8 @@
 -- Whole numbers of either sign: the number that an amount stands for, and what a number is above and below zero.
 use mathlib.Core.Bool.{Bool, true, false}
-use Prim.Native.Nat.{ℕ, suc, _+_, _*_, _≤_}
+use Prim.Native.Nat.{ℕ, suc}
 use lib.IntN.{ℤ, pos, negsuc, negℤ}
 use Rattle.arithmetic.specs.declared.signed.Amount.{Amount}
-use Rattle.arithmetic.specs.declared.signed.Parts.{Parts}
 
 -- the number of this size, below zero or not
 unfoldable pub signed : Bool → ℕ → ℤ
@@ -28,16 +27,3 @@ above (negsuc n) = 0
 unfoldable pub below : ℤ → ℕ
 below (pos n) = 0
 below (negsuc n) = suc n
-
--- both together
-unfoldable pub parts-of : ℤ → Parts
-parts-of z = record { above = above z; below = below z }
-
--- what a product is above and below zero, from the parts of its factors
-unfoldable pub times : Parts → Parts → Parts
-times p q = record { above = p .above * q .above + p .below * q .below; below = p .above * q .below + p .below * q .above }
-
--- factors whose products fit easily
-pub record Small (p : Parts) : Type 0 where
-  pub above : p .above ≤ 1000000
-  pub below : p .below ≤ 1000000

@@ -1,6 +1,6 @@
 -- A book that is given is a job book, and its rows have the notes that its text gives them; a refused one is no job book, so nothing is due.
 use mathlib.Core.Path.{refl, subst}
-use Rattle.book.specs.Says.{CountIs}
+use Rattle.book.specs.Reading.{CountIs}
 use Rattle.book.specs.Notes.{no-book}
 use Rattle.book.proofs.Answers.{read-exactly, refused-none}
 use Rattle.book.proofs.Noting.{book-note}

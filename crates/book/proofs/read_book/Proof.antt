@@ -1,7 +1,7 @@
 -- 1, then 2: each is given where the one before is not, and a text past both is short enough and readable, which is what `read_rows` asks.
 use mathlib.Core.Path.{refl}
 use borrow.Author.Tests.{not-true, not-false}
-use Rattle.arithmetic.specs.decides.Decides.{decided, refuted}
+use Rattle.arithmetic.proofs.Deciding.{decided, refuted}
 use Rattle.book.specs.Says.{too-long, not-csv}
 use Rattle.rows.specs.declared.refusals.Refusal.the-variants.{TooLong, NotCsv}
 use Rattle.book.proofs.Walking.{refused-is}

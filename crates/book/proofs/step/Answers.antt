@@ -13,7 +13,7 @@ use Rattle.rows.specs.declared.RowRead.{RowRead}
 use Rattle.rows.proofs.Forms.{row-read-one}
 use Rattle.jobs.specs.Place.{InPlace}
 use Rattle.jobs.specs.declared.Job.{Job}
-use Rattle.book.specs.step.Step.{RefusesRow, Goes, StepIs}
+use Rattle.book.specs.steps.Step.{RefusesRow, Goes, StepIs}
 use Rattle.jobs.specs.declared.Took.{Took}
 use Rattle.jobs.specs.declared.Took.the-variants.{Refused, Joined, Started}
 use Rattle.book.specs.declared.step.Step.{Step}

@@ -4,13 +4,13 @@ use mathlib.Core.Path.{sym, subst}
 use Prim.Native.Nat.{_≤_}
 use borrow.Author.Needs.{needs}
 use borrow.Author.Tests.{not-true, not-false}
-use Rattle.arithmetic.specs.decides.Decides.{decided, refuted}
+use Rattle.arithmetic.proofs.Deciding.{decided, refuted}
 use Rattle.kinds.specs.ranges.Range.{Ranged}
 use Rattle.kinds.specs.declared.Kind.the-variants.{C}
 use Rattle.clearance.proofs.afflux.Bounds.{afflux-most}
 use Rattle.clearance.specs.declared.Opening.{Opening}
-use Rattle.clearance.specs.ClearanceTold.{ClearanceTold}
-use Rattle.clearance.specs.Clear.{opening-of, Cleared, ClearanceSays, out-of-range, in-range, over-obstructed, clear}
+use Rattle.clearance.specs.Clear.{ClearanceTold, opening-of, Cleared, over-obstructed, clear}
+use Rattle.clearance.specs.ClearanceRow.{ClearanceSays, out-of-range, in-range}
 use Rattle.clearance.proofs.Levels.{level-most}
 use Rattle.clearance.proofs.clearance.Statement.{statement}
 use Rattle.clearance.proofs.clearance.Tie as tie

@@ -10,8 +10,8 @@ use lib.ListN.{length, getD, set, drop, replicate, length-append, length-set, le
 use lib.Seq.{getD-set-same, getD-set-other, getD-at, length-take-le}
 use Rattle.arithmetic.proofs.Cases.{by-cases}
 use Rattle.csv.specs.rfc4180.Rfc4180.{COMMA, CR, LF, Cell, File, Readable}
-use Rattle.csv.specs.rfc4180.Part.{part}
-use Rattle.csv.specs.field.Answer.{FieldTo, FieldAt}
+use Rattle.csv.specs.Part.{part}
+use Rattle.csv.specs.steps.FieldAt.{FieldTo, FieldAt}
 use Rattle.csv.specs.declared.field.Ended.the-variants.{Comma, Row, End}
 use Rattle.csv.proofs.rfc4180.Parts.{part-rest, past}
 use Rattle.csv.proofs.rfc4180.First.{cell, comma-rows, row-rows, end-rows}

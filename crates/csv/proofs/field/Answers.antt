@@ -6,8 +6,8 @@ use mathlib.Core.Path.{_≡_, refl, sym, ap, subst, _∙_}
 use mathlib.Core.List.{List}
 use lib.ListN.{length, drop}
 use Rattle.csv.specs.rfc4180.Rfc4180.{COMMA, CR}
-use Rattle.csv.specs.rfc4180.Part.{part}
-use Rattle.csv.specs.field.Answer.{FieldTo, FieldAt, Stop, at-end, at-comma, at-row}
+use Rattle.csv.specs.Part.{part}
+use Rattle.csv.specs.steps.FieldAt.{FieldTo, FieldAt, Stop, at-end, at-comma, at-row}
 use Rattle.csv.specs.declared.field.Ended.{Ended}
 use Rattle.csv.specs.declared.field.Ended.the-variants.{Comma, Row, End, Bad}
 use Rattle.csv.proofs.Lists.{nil-cons, heads}

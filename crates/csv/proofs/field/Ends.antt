@@ -5,9 +5,9 @@ use mathlib.Core.Path.{_≡_, sym, ap, subst, _∙_}
 use mathlib.Core.List.{List, [], _∷_, _++_, append-assoc}
 use lib.ListN.{getD, drop}
 use Rattle.csv.specs.rfc4180.Rfc4180.{DQUOTE, Escaped, Field, plain, quoted}
-use Rattle.csv.specs.rfc4180.Part.{part}
-use Rattle.csv.specs.quoted.Closing.{FirstByte, EscapedTo}
-use Rattle.csv.specs.field.Answer.{PlainTo, FieldTo, FieldAt, Stop}
+use Rattle.csv.specs.Part.{part}
+use Rattle.csv.specs.steps.Closing.{FirstByte, EscapedTo}
+use Rattle.csv.specs.steps.FieldAt.{PlainTo, FieldTo, FieldAt, Stop}
 use Rattle.csv.specs.declared.field.Ended.the-variants.{Bad}
 use Rattle.csv.proofs.Lists.{tails}
 use Rattle.csv.proofs.rfc4180.Unique.{plain-unique, escaped-unique, closing-halts, plain-quote, stop-quote, stop-plain}

@@ -5,9 +5,9 @@ use mathlib.Core.Path.{_≡_, refl, sym, ap, _∙_}
 use mathlib.Core.List.{List, [], _∷_, _++_}
 use lib.ListN.{length, getD, drop}
 use Rattle.csv.specs.rfc4180.Rfc4180.{COMMA, CR, LF, Textdata, Plain, none, text}
-use Rattle.csv.specs.field.Answer.{Stop, at-end, at-comma, at-row}
-use Rattle.csv.specs.rfc4180.Part.{part}
-use Rattle.csv.specs.quoted.Closing.{FirstByte}
+use Rattle.csv.specs.steps.FieldAt.{Stop, at-end, at-comma, at-row}
+use Rattle.csv.specs.Part.{part}
+use Rattle.csv.specs.steps.Closing.{FirstByte}
 use Rattle.csv.proofs.Lists.{nil-cons}
 use Rattle.csv.proofs.rfc4180.Parts.{at-index, part-more, first-byte-at, first-byte-is, first-byte-lt, first-byte-behind}
 

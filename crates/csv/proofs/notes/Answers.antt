@@ -7,7 +7,8 @@ use lib.ListN.{getD}
 use Rattle.csv.proofs.Lists.{level}
 use Rattle.csv.specs.rfc4180.Rfc4180.{Cell, Readable}
 use Rattle.csv.specs.cells.Cells as cells
-use Rattle.csv.specs.notes.Notes.{Nth, NoteIn, cell, no-cell, NoteAt}
+use Rattle.csv.specs.notes.Notes.{NoteIn, cell, no-cell, NoteAt}
+use Rattle.csv.specs.Nth.{Nth}
 
 pub nth-one : {A : Type 0} {rs : List A} {n : ℕ} {x y : A} → Nth rs n x → Nth rs n y → x ≡ y
 nth-one {x = x} {y} p q =

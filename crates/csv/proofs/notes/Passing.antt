@@ -8,7 +8,7 @@ use lib.Dec.{lit<}
 use lib.ListN.{length, getD, length-append, List·getD-eq-default}
 use Rattle.arithmetic.proofs.Cases.{by-cases}
 use Rattle.csv.specs.rfc4180.Rfc4180.{Cell, Readable}
-use Rattle.csv.specs.rfc4180.Part.{part}
+use Rattle.csv.specs.Part.{part}
 use Rattle.csv.proofs.rfc4180.Unique.{file-unique}
 use Rattle.csv.specs.cells.Cells as cells
 use Rattle.csv.specs.declared.cells.Cells.{Cells}

@@ -6,10 +6,10 @@ use mathlib.Core.List.{List, _∷_, _++_}
 use lib.ListN.{length, drop, length-drop}
 use lib.Seq.{length-take-le}
 use Rattle.csv.specs.rfc4180.Rfc4180.{DQUOTE}
-use Rattle.csv.specs.rfc4180.Part.{part}
+use Rattle.csv.specs.Part.{part}
 use Rattle.csv.proofs.rfc4180.Unique.{EscapedHalts, closing-halts, escaped-unique}
 use Rattle.csv.proofs.rfc4180.Parts.{part-rest}
-use Rattle.csv.specs.quoted.Closing.{EscapedTo, ClosedAt}
+use Rattle.csv.specs.steps.Closing.{EscapedTo, ClosedAt}
 use Rattle.csv.specs.declared.quoted.ClosingQuote.{ClosingQuote}
 use Rattle.csv.specs.declared.quoted.ClosingQuote.the-variants.{At, Unclosed}
 

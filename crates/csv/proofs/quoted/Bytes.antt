@@ -6,7 +6,8 @@ use mathlib.Core.Path.{_≡_}
 use mathlib.Core.Bool.{Bool, true, false, not, _&&_, _||_}
 use lib.Dec.{leb, eqb}
 use Rattle.arithmetic.proofs.Cases.{by-cases}
-use Rattle.arithmetic.specs.decides.Decides.{Decides, decides-at-most, decides-equal}
+use Rattle.arithmetic.specs.decides.Decides.{Decides}
+use Rattle.arithmetic.proofs.Deciding.{decides-at-most, decides-equal}
 use Rattle.csv.specs.rfc4180.Rfc4180.{COMMA, CR, DQUOTE, LF, Textdata, low, middle, high, Inside, is-text, is-comma, is-cr, is-lf}
 
 -- TEXTDATA is every byte from a blank to a tilde but the quote and the comma

@@ -5,10 +5,11 @@ use mathlib.Core.Path.{_≡_, sym, _∙_}
 use mathlib.Core.List.{List, [], _∷_, _++_, append-assoc}
 use lib.Dec.{eqb}
 use lib.ListN.{length, getD, drop}
-use Rattle.arithmetic.specs.decides.Decides.{Decides, decides-same, decides-equal}
+use Rattle.arithmetic.specs.decides.Decides.{Decides}
+use Rattle.arithmetic.proofs.Deciding.{decides-same, decides-equal}
 use Rattle.csv.specs.rfc4180.Rfc4180.{DQUOTE, Inside, Escaped, empty, byte, doubled}
-use Rattle.csv.specs.rfc4180.Part.{part}
-use Rattle.csv.specs.quoted.Closing.{FirstByte, EscapedTo}
+use Rattle.csv.specs.Part.{part}
+use Rattle.csv.specs.steps.Closing.{FirstByte, EscapedTo}
 use Rattle.csv.proofs.rfc4180.Unique.{EscapedHalts, closing-halts, escaped-unique}
 use Rattle.csv.proofs.rfc4180.Parts.{part-none, part-more, part-rest, first-byte-at, first-byte-is, first-byte-lt}
 

@@ -6,7 +6,7 @@ use native.Mathlib.Omega.{arith}
 use mathlib.Core.List.{List, [], _∷_, _++_, append-assoc, append-nil}
 use Rattle.csv.specs.rfc4180.Rfc4180.{COMMA, CR, LF, none, Field, plain, Cell, Record, only, then, File, last, closed, next, Readable}
 use Rattle.csv.specs.cells.Cells.{Rest, nothing, more}
-use Rattle.csv.specs.field.Answer.{Stop, at-end, at-comma, at-row}
+use Rattle.csv.specs.steps.FieldAt.{Stop, at-end, at-comma, at-row}
 use Rattle.csv.proofs.Lists.{nil-cons, heads, tails}
 use Rattle.csv.proofs.rfc4180.Unique.{cells, field-unique, stop-halts}
 

@@ -7,7 +7,7 @@ use mathlib.Core.Path.{_≡_, sym, ap, _∙_}
 use mathlib.Core.List.{List, [], _∷_, _++_}
 use lib.ListN.{length, getD, drop, take-append-drop, length-drop, drop-of-length-le}
 use lib.Seq.{take-suc, drop-cons, drop-drop, getD-drop}
-use Rattle.csv.specs.rfc4180.Part.{part}
+use Rattle.csv.specs.Part.{part}
 use Rattle.csv.proofs.Lists.{nil-cons, heads, tails}
 
 module _ (s : List ℕ) where

@@ -5,7 +5,7 @@ use mathlib.Core.Path.{_≡_, refl, sym, ap, ap₂, _∙_}
 use mathlib.Core.List.{List, [], _∷_, _++_, append-assoc, append-nil}
 use Rattle.csv.proofs.Lists.{nil-cons, heads, tails, conses}
 use Rattle.csv.specs.rfc4180.Rfc4180.{COMMA, CR, DQUOTE, LF, Textdata, low, middle, high, Plain, none, text, Inside, is-text, is-comma, is-cr, is-lf, Escaped, empty, byte, doubled, Field, plain, quoted, Cell, Record, only, then, File, last, closed, next}
-use Rattle.csv.specs.field.Answer.{Stop, at-end, at-comma, at-row}
+use Rattle.csv.specs.steps.FieldAt.{Stop, at-end, at-comma, at-row}
 
 -- a byte of TEXTDATA is none of the four others
 pub text-comma : {b : ℕ} → Textdata b → b ≡ COMMA → ⊥

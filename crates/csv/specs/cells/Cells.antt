@@ -4,7 +4,7 @@ use mathlib.Core.Path.{_≡_}
 use mathlib.Core.List.{List, [], _∷_}
 use lib.ListN.{length, getD, drop}
 use Rattle.csv.specs.rfc4180.Rfc4180.{Cell, File}
-use Rattle.csv.specs.rfc4180.Part.{part}
+use Rattle.csv.specs.Part.{part}
 use Rattle.csv.specs.declared.cells.Cells.{Cells}
 
 -- no field: what stands where a row has none

@@ -1,18 +1,12 @@
 -- Document 01, the job book: the note "is handed on as the stretch of the book from its comma to its row's end, quotes included,
 -- that comma and the row's CRLF not".
-use Prim.Native.Nat.{ℕ, _+_}
+use Prim.Native.Nat.{ℕ}
 use mathlib.Core.Path.{_≡_}
-use mathlib.Core.List.{List, [], _∷_, _++_}
-use lib.ListN.{length, getD}
+use mathlib.Core.List.{List, []}
+use lib.ListN.{getD}
 use Rattle.csv.specs.rfc4180.Rfc4180.{Cell, File}
 use Rattle.csv.specs.cells.Cells as cells
-
--- x is the n-th of a list, the first being 1
-pub record Nth {A : Type 0} (xs : List A) (n : ℕ) (x : A) : Type 0 where
-  pub before : List A
-  pub behind : List A
-  pub are : xs ≡ before ++ x ∷ behind
-  pub number : n ≡ length before + 1
+use Rattle.csv.specs.Nth.{Nth}
 
 -- the note of a row of a text: its tenth cell; nothing where it has none, and where there is no such row
 pub data NoteIn (rows : List (List Cell)) (n : ℕ) (note : List ℕ) : Type 0 where

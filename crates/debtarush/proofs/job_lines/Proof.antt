@@ -6,7 +6,8 @@ use mathlib.Core.Path.{_≡_, refl, sym, ap}
 use mathlib.Core.Logic.{_⊎_, inl, inr, ⊎-elim}
 use mathlib.Core.Bool.{_||_}
 use lib.Dec.{ltb, eqb}
-use Rattle.arithmetic.specs.decides.Decides.{Decides, decided, refuted, decides-either, decides-equal, decides-below}
+use Rattle.arithmetic.specs.decides.Decides.{Decides}
+use Rattle.arithmetic.proofs.Deciding.{decided, refuted, decides-either, decides-equal, decides-below}
 use Rattle.buffer.specs.declared.Copied.{Copied}
 use Rattle.buffer.specs.Copying as buffer
 use Rattle.debtarush.specs.Called.{no-book, no-place}

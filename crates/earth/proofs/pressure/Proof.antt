@@ -4,10 +4,11 @@ use mathlib.Core.Path.{sym, _∙_, subst}
 use Prim.Native.Nat.{_≤_}
 use borrow.Author.Needs.{needs}
 use borrow.Author.Tests.{not-true, not-false}
-use Rattle.arithmetic.specs.decides.Decides.{decided, refuted}
+use Rattle.arithmetic.proofs.Deciding.{decided, refuted}
 use Rattle.kinds.specs.ranges.Range.{Ranged}
 use Rattle.kinds.specs.declared.Kind.the-variants.{E}
-use Rattle.earth.specs.table2.Table2.{table2-fill, LowCoefficient}
+use Rattle.earth.specs.table2.Table2.{table2-fill}
+use Rattle.earth.specs.steps.LowCoefficient.{LowCoefficient}
 use Rattle.earth.specs.Earth.{EarthTold, Pushed, blank, has-coefficient, Pressed, out-of-range, in-range}
 use Rattle.earth.specs.declared.Backfill.{Backfill}
 use Rattle.earth.proofs.table2.Marks.{table2-small}

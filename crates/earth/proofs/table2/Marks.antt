@@ -4,7 +4,8 @@ use mathlib.Core.List.{List, [], map}
 use Prim.Native.Nat.{ℕ, zero, suc, _-_, _≤_}
 use lib.ListN.{getD, List·getD-map}
 use Rattle.arithmetic.proofs.rounding.Tables.{under-rows}
-use Rattle.earth.specs.table2.Table2.{table2, table2-fill, LowCoefficient}
+use Rattle.earth.specs.table2.Table2.{table2, table2-fill}
+use Rattle.earth.specs.steps.LowCoefficient.{LowCoefficient}
 use Rattle.earth.specs.declared.table2.Coefficient.{Coefficient}
 use Rattle.earth.specs.declared.table2.Coefficient.the-variants.{Blank, Value}
 

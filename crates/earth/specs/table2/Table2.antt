@@ -1,6 +1,6 @@
 -- Document 01, "Earth pressure" (002, 5.7.2, Table 2, N): five soils by five slopes.
 use mathlib.Core.List.{List, [], _∷_}
-use Prim.Native.Nat.{ℕ, _-_, _≤_}
+use Prim.Native.Nat.{ℕ, _-_}
 use lib.ListN.{getD}
 use Rattle.earth.specs.declared.table2.Coefficient.{Coefficient}
 use Rattle.earth.specs.declared.table2.Coefficient.the-variants.{Blank, Value}
@@ -18,8 +18,3 @@ table2 =
 -- what Table 2 holds for a soil and a slope, each from 1 to 5
 abbrev pub table2-fill : ℕ → ℕ → Coefficient
 table2-fill soil slope = getD (getD table2 (soil - 1) []) (slope - 1) Blank
-
--- the code's numbers fit for any coefficient up to 40,000
-abbrev pub LowCoefficient : Coefficient → Type 0
-LowCoefficient Blank = Unit {0}
-LowCoefficient (Value K) = K ≤ 40000

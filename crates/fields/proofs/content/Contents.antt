@@ -8,9 +8,10 @@ use lib.Dec.{eqb}
 use lib.ListN.{length, getD, drop, length-append}
 use lib.Seq.{getD-at}
 use Rattle.arithmetic.proofs.Cases.{impossible}
-use Rattle.arithmetic.specs.decides.Decides.{Decides, decided, refuted, decides-both, decides-equal}
+use Rattle.arithmetic.specs.decides.Decides.{Decides}
+use Rattle.arithmetic.proofs.Deciding.{decided, refuted, decides-both, decides-equal}
 use Rattle.csv.specs.rfc4180.Rfc4180.{DQUOTE, Plain, none, text, is-text, Escaped, empty, byte, doubled, Field, plain, quoted}
-use Rattle.csv.specs.rfc4180.Part.{part}
+use Rattle.csv.specs.Part.{part}
 use Rattle.csv.proofs.Lists.{tails, lasts}
 use Rattle.csv.proofs.rfc4180.Unique.{text-quote}
 use Rattle.csv.proofs.rfc4180.Parts.{at-index, past, part-rest}

@@ -2,7 +2,7 @@
 use mathlib.Core.Path.{_≡_, refl, ap}
 use mathlib.Core.List.{List}
 use Prim.Native.Nat.{ℕ}
-use Rattle.fields.specs.digits.Numerals.{DigitsAre}
+use Rattle.fields.specs.steps.Digits.{DigitsAre}
 use Rattle.fields.specs.declared.digits.Digits.{Digits}
 use Rattle.fields.specs.declared.digits.Digits.the-variants.{Worth, NoDigits}
 use Rattle.fields.proofs.digits.Numerals.{numeral-unique}

@@ -13,7 +13,8 @@ use lib.ListN.{length, getD, take, length-take, length-append, List·getD-append
 use lib.Seq.{getD-at, take-suc, take-all}
 use Rattle.arithmetic.proofs.Cases.{by-cases}
 use Rattle.csv.proofs.Lists.{heads, lasts}
-use Rattle.arithmetic.specs.decides.Decides.{Decides, decided, refuted, decides-either, decides-both, decides-below, decides-equal}
+use Rattle.arithmetic.specs.decides.Decides.{Decides}
+use Rattle.arithmetic.proofs.Deciding.{decided, refuted, decides-either, decides-both, decides-below, decides-equal}
 use Rattle.fields.specs.digits.Numerals.{Numeral, one, more}
 
 pub numeral-some : {s : List ℕ} {n : ℕ} → Numeral s n → 1 ≤ length s

@@ -4,7 +4,8 @@ use mathlib.Core.Path.{_≡_, refl, sym, ap, _∙_}
 use mathlib.Core.Bool.{Bool, true, false}
 use mathlib.Core.List.{List}
 use Rattle.csv.proofs.rfc4180.Unique.{content-unique}
-use Rattle.fields.specs.names.Names.{name, NameIn, NameGiven, NameAt}
+use Rattle.fields.specs.names.Names.{name}
+use Rattle.fields.specs.names.NameAt.{NameIn, NameGiven, NameAt}
 use Rattle.fields.specs.declared.names.Name.{Name}
 use Rattle.fields.specs.declared.names.NameRead.{NameRead}
 

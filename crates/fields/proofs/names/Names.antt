@@ -13,9 +13,11 @@ use lib.ListN.{length, getD, take, set, replicate}
 use lib.Seq.{take-suc, length-take-le, set-at, append-snoc, take-length}
 use Rattle.csv.specs.rfc4180.Rfc4180.{Textdata, high, Plain, none, text}
 use Rattle.fields.specs.content.Content.{Bare}
-use Rattle.arithmetic.specs.decides.Decides.{Decides, not-both, decides-same, decides-either, decides-equal}
+use Rattle.arithmetic.specs.decides.Decides.{Decides}
+use Rattle.arithmetic.proofs.Deciding.{not-both, decides-same, decides-either, decides-equal}
 use Rattle.arithmetic.proofs.Tests.{decides-within}
-use Rattle.fields.specs.names.Names.{Letter, hyphen, digit, upper, IsName, no-name, NameGiven, ContentNamed}
+use Rattle.fields.specs.names.Names.{Letter, hyphen, digit, upper, IsName, no-name}
+use Rattle.fields.specs.names.NameAt.{NameGiven, ContentNamed}
 use Rattle.fields.specs.declared.names.Name.{Name}
 use Rattle.fields.proofs.content.Contents.{bare-field, content-none}
 

@@ -2,7 +2,7 @@
 -- No number has a quote in it, so the number of the stretch without its quotes is that of the field.
 use mathlib.Core.Path.{refl, subst}
 use mathlib.Core.Logic.{inl, inr, ⊎-elim}
-use Rattle.fields.specs.digits.Numerals.{DigitsAre}
+use Rattle.fields.specs.steps.Digits.{DigitsAre}
 use Rattle.fields.proofs.digits.Numerals.{numeral-unique}
 use Rattle.fields.specs.declared.Entered.the-variants.{Is, Wrong}
 use Rattle.fields.proofs.Numerals.{Signed, sign-told, sign-within, number, no-number, number-field}

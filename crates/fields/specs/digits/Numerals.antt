@@ -2,8 +2,6 @@
 use Prim.Native.Nat.{ℕ, _+_, _*_, _≤_}
 use mathlib.Core.List.{List, [], _∷_, _++_}
 use lib.ListN.{length}
-use Rattle.fields.specs.declared.digits.Digits.{Digits}
-use Rattle.fields.specs.declared.digits.Digits.the-variants.{Worth, NoDigits}
 
 -- digits with no leading zero, and what they are worth
 pub data Numeral : List ℕ → ℕ → Type 0 where
@@ -14,8 +12,3 @@ pub data Numeral : List ℕ → ℕ → Type 0 where
 pub record Digited (s : List ℕ) (n : ℕ) : Type 0 where
   pub numeral : Numeral s n
   pub few : length s ≤ 9
-
--- the answer for digits
-abbrev pub DigitsAre : List ℕ → Digits → Type 0
-DigitsAre s (Worth n) = Digited s n
-DigitsAre s NoDigits = (n : ℕ) → Digited s n → ⊥

@@ -1,12 +1,9 @@
 -- Document 01, the job book: "Member and job: 1 to 12 of A-Z, 0-9, hyphen".
 use Prim.Native.Nat.{ℕ, _-_, _≤_, _<_}
 use mathlib.Core.Path.{_≡_}
-use mathlib.Core.Bool.{Bool, true, false}
 use mathlib.Core.List.{List, [], _++_}
 use lib.ListN.{length, getD, replicate}
-use Rattle.csv.specs.rfc4180.Rfc4180.{Field}
 use Rattle.fields.specs.declared.names.Name.{Name}
-use Rattle.fields.specs.declared.names.NameRead.{NameRead}
 
 -- A-Z, 0-9, hyphen
 pub data Letter (b : ℕ) : Type 0 where
@@ -31,22 +28,3 @@ pub record NameOf (c : List ℕ) (n : Name) : Type 0 where
 
 abbrev pub no-name : Name
 no-name = name []
-
--- the stretch is a field, and its content is this name
-pub record NameIn (raw : List ℕ) (n : Name) : Type 0 where
-  pub content : List ℕ
-  pub field : Field raw content
-  pub named : NameOf content n
-
--- the answer for a content: its name; or that it is none, and no name
-abbrev pub ContentNamed : Bool → List ℕ → Name → Type 0
-ContentNamed true c n = NameOf c n
-ContentNamed false c n = (IsName c → ⊥) × (n ≡ no-name)
-
--- the answer for a stretch: its name; or that it has none, and no name
-abbrev pub NameGiven : Bool → List ℕ → Name → Type 0
-NameGiven true raw n = NameIn raw n
-NameGiven false raw n = ((m : Name) → NameIn raw m → ⊥) × (n ≡ no-name)
-
-abbrev pub NameAt : List ℕ → NameRead → Type 0
-NameAt raw r = NameGiven (r .good) raw (r .name)

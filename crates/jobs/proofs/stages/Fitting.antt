@@ -5,7 +5,8 @@ use mathlib.Core.List.{[], _∷_}
 use mathlib.Core.Bool.{Bool, true, not, _&&_, _||_}
 use lib.ListN.{getD}
 use lib.Dec.{ltb, eqb}
-use Rattle.arithmetic.specs.decides.Decides.{Decides, decides-same, decides-not, decides-both, decides-either, decides-below, decides-equal, decides-flag}
+use Rattle.arithmetic.specs.decides.Decides.{Decides}
+use Rattle.arithmetic.proofs.Deciding.{decides-same, decides-not, decides-both, decides-either, decides-below, decides-equal, decides-flag}
 use Rattle.kinds.specs.declared.Role.{Role}
 use Rattle.kinds.specs.declared.Role.the-variants.{Base, Scour, Clearance, Load}
 use Rattle.jobs.specs.stages.Fits.{Fits}

@@ -13,7 +13,8 @@ use lib.ListN.{length, getD, take}
 use lib.Seq.{take-suc, take-all}
 use Rattle.arithmetic.proofs.Cases.{by-cases}
 use Rattle.csv.specs.rfc4180.Rfc4180.{Textdata, high, Plain, none, text, Field}
-use Rattle.arithmetic.specs.decides.Decides.{Decides, decided, refuted, decides-both, decides-below}
+use Rattle.arithmetic.specs.decides.Decides.{Decides}
+use Rattle.arithmetic.proofs.Deciding.{decided, refuted, decides-both, decides-below}
 use Rattle.fields.specs.content.Content.{Bare}
 use Rattle.fields.proofs.content.Contents.{bare-field, field-bare}
 use Rattle.kinds.specs.Table.{letters}

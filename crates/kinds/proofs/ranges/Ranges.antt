@@ -4,7 +4,8 @@ use mathlib.Core.Path.{_≡_, refl}
 use mathlib.Core.Logic.{_⊎_, inl, inr}
 use mathlib.Core.Bool.{Bool, true, false, not, _&&_, cond}
 use lib.Dec.{leb}
-use Rattle.arithmetic.specs.decides.Decides.{Decides, not-both, decides-same, decides-at-most}
+use Rattle.arithmetic.specs.decides.Decides.{Decides}
+use Rattle.arithmetic.proofs.Deciding.{not-both, decides-same, decides-at-most}
 use Rattle.arithmetic.proofs.Tests.{decides-within, all-six, decides-six}
 use Rattle.fields.specs.declared.Entry.{Entry}
 use Rattle.kinds.specs.ranges.Range.{Between, Around, InRange, InColumns}

@@ -5,7 +5,8 @@ use Rattle.lines.specs.declared.Verdict.{Verdict}
 use Rattle.lines.specs.declared.Verdict.the-variants.{Accepted, NotAccepted, Refused}
 use Rattle.lines.specs.declared.RiverLine.{RiverLine}
 use Rattle.lines.specs.declared.Answer.{Answer}
-use Rattle.lines.specs.verdicts.Verdict.{LinesYes, RiverYes, AllYes, VerdictIs, Judged}
+use Rattle.lines.specs.verdicts.Verdict.{LinesYes, RiverYes, AllYes, VerdictIs}
+use Rattle.lines.specs.verdicts.Judged.{Judged}
 
 -- the verdict goes by the lines alone
 verdict-one : (v w : Verdict) (a b : Answer) → (AllYes a → AllYes b) → (AllYes b → AllYes a) → VerdictIs v a → VerdictIs w b → v ≡ w

@@ -1,6 +1,7 @@
 -- Every line says Y, from the answers for the lines.
 use mathlib.Core.Bool.{Bool, _&&_}
-use Rattle.arithmetic.specs.decides.Decides.{Decides, decides-same, decides-both}
+use Rattle.arithmetic.specs.decides.Decides.{Decides}
+use Rattle.arithmetic.proofs.Deciding.{decides-same, decides-both}
 use Rattle.lines.specs.declared.Lines.{Lines}
 use Rattle.lines.specs.declared.Answer.{Answer}
 use Rattle.lines.specs.verdicts.Verdict.{LineYes, LinesYes, RiverYes, AllYes}

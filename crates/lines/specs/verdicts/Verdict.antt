@@ -40,13 +40,3 @@ abbrev pub VerdictIs : Verdict → Answer → Type 0
 VerdictIs Accepted a = AllYes a
 VerdictIs NotAccepted a = AllYes a → ⊥
 VerdictIs (Refused n) a = ⊥
-
--- the answer of these lines: the lines themselves, and their verdict
-pub record Judged (l1 l2 l3 l4 : Lines) (d c : RiverLine) (a : Answer) : Type 0 where
-  pub one : a .one ≡ l1
-  pub two : a .two ≡ l2
-  pub three : a .three ≡ l3
-  pub four : a .four ≡ l4
-  pub depth : a .depth ≡ d
-  pub clear : a .clear ≡ c
-  pub verdict : VerdictIs (a .verdict) a

@@ -7,7 +7,7 @@ use mathlib.Core.Logic.{⊎-elim}
 use Prim.Native.Nat.{ℕ, _-_, _≤_, _<_}
 use lib.ListN.{length}
 use Rattle.earth.specs.table2.Table2.{table2-fill}
-use Rattle.loads.specs.forces.Exerted.{LoadOf}
+use Rattle.loads.specs.steps.Exerted.{LoadOf}
 use Rattle.loads.specs.declared.forces.RowLoad.{RowLoad}
 use Rattle.loads.proofs.FirstRows.{load-row}
 use Rattle.loads.proofs.Laying.{laid-none}

@@ -14,7 +14,7 @@ use Rattle.kinds.specs.declared.Row.{Row}
 use Rattle.kinds.specs.Table.{load-columns, phase}
 use Rattle.kinds.specs.ranges.Range.{Around, InColumns, Ranged, value}
 use Rattle.earth.specs.declared.table2.Coefficient.{Coefficient}
-use Rattle.earth.specs.table2.Table2.{LowCoefficient}
+use Rattle.earth.specs.steps.LowCoefficient.{LowCoefficient}
 use Rattle.earth.specs.Earth.{EarthTold, refused, Pushed, blank, Pressed, out-of-range, in-range}
 use Rattle.earth.specs.Earth as earth
 use Rattle.earth.specs.declared.Backfill.{Backfill}
@@ -23,13 +23,13 @@ use Rattle.earth.proofs.Bounds.{pressed-modest}
 use Rattle.arithmetic.specs.declared.signed.Amount.{Amount}
 use Rattle.arithmetic.specs.signed.Whole.{amount}
 use Rattle.sets.specs.declared.Load.{Load}
-use Rattle.sets.specs.Sets.{BoundedLoad}
+use Rattle.sets.specs.Bounded.{BoundedLoad}
 use Rattle.kinds.specs.declared.classes.Source.{Source}
 use Rattle.kinds.specs.declared.classes.Source.the-variants.{Absent, Earth, Own}
 use Rattle.kinds.specs.classes.Classes.{class-of, source}
 use Rattle.kinds.proofs.classes.Sources.{absent-not, earth-not, absent-earth, own-earth}
 use Rattle.loads.specs.forces.Blank.{BlankThere}
-use Rattle.loads.specs.forces.Exerted.{LoadOf}
+use Rattle.loads.specs.steps.Exerted.{LoadOf}
 use Rattle.loads.specs.declared.forces.RowLoad.the-variants as RowLoad
 use Rattle.loads.specs.forces.Exerts.{OwnForces, EarthLoad, Forces, Exerts}
 use Rattle.loads.proofs.forces.Amounts.{amount-size, value-size, product-size}

@@ -6,7 +6,7 @@ use mathlib.Core.List.{List}
 use Prim.Native.Nat.{ℕ, _≤_, _<_}
 use lib.ListN.{length, take}
 use borrow.Author.Tests.{not-true, not-false}
-use Rattle.arithmetic.specs.decides.Decides.{decided, refuted}
+use Rattle.arithmetic.proofs.Deciding.{decided, refuted}
 use Rattle.earth.specs.table2.Table2.{table2-fill}
 use Rattle.kinds.specs.declared.Row.{Row}
 use Rattle.loads.specs.LoadRows.{AllRanged, NoneBlank, optionals}

@@ -7,12 +7,13 @@ use native.Mathlib.Omega.{arith}
 use lib.ListN.{length}
 use Rattle.rows.specs.declared.keys.Key.{Key}
 use Rattle.lines.specs.declared.Answer.{Answer}
-use Rattle.lines.specs.Lines.{Numbered, later-lines}
+use Rattle.lines.specs.Lines.{later-lines}
+use Rattle.lines.specs.Numbered.{Numbered}
 use Rattle.block.specs.declared.Block.{Block}
 use Rattle.block.specs.Block.{blank, block-of, Put}
 use Rattle.block.proofs.Pages.{puts-blank}
 use Rattle.printing.specs.Text.{text}
-use Rattle.printing.specs.Room.{answer-room}
+use Rattle.printing.specs.steps.Room.{answer-room}
 use Rattle.printing.proofs.Printed.{no-line, alone-holds, alone-fails, answer-printed}
 use Rattle.printing.proofs.Room.{room-fits}
 use borrow.Author.Needs.{needs}

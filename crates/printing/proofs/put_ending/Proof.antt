@@ -4,8 +4,9 @@ use mathlib.Core.Path.{sym, ap, _∙_}
 use mathlib.Core.List.{List, _∷_}
 use mathlib.Core.Logic.{⊎-elim}
 use Rattle.lines.specs.Lines.{mark-of}
-use Rattle.printing.specs.line_fields.Text.{mark-text, ending}
-use Rattle.block.specs.Block.{field, line-end}
+use Rattle.printing.specs.line_fields.Text.{mark-text}
+use Rattle.printing.specs.steps.Ending.{ending}
+use Rattle.block.specs.Fields.{field, line-end}
 use Rattle.block.proofs.Pages.{spelled}
 use borrow.Author.Needs.{needs}
 use Rattle.printing.proofs.put_ending.Statement.{statement}

@@ -5,7 +5,7 @@ use mathlib.Core.List.{List}
 use native.Mathlib.Omega.{arith}
 use Rattle.checks.specs.declared.Figure.{Figure}
 use Rattle.lines.specs.Lines.{value-of}
-use Rattle.block.specs.Block.{field}
+use Rattle.block.specs.Fields.{field}
 use Rattle.printing.specs.line_fields.Text.{value-text}
 use Rattle.block.proofs.Pages.{spelled, put-as}
 use borrow.Author.Needs.{needs}

@@ -3,7 +3,7 @@ use mathlib.Core.Path.{refl}
 use Rattle.sets.specs.declared.Combination.the-variants.{I, II, III, IV}
 use Rattle.lines.specs.Lines.{SC, CL, later-lines}
 use Rattle.printing.specs.line_fields.Text.{combination-text, name-text}
-use Rattle.printing.specs.Room.{answer-room}
+use Rattle.printing.specs.steps.Room.{answer-room}
 use Rattle.printing.proofs.Printed.{then-lines}
 use borrow.Author.Needs.{needs}
 use Rattle.printing.proofs.put_later.Statement.{statement}

@@ -3,7 +3,7 @@ use mathlib.Core.Path.{refl}
 use Rattle.checks.specs.declared.Check.the-variants.{OP, OM, SL, PR, RK}
 use Rattle.lines.specs.Lines.{combination-lines}
 use Rattle.printing.specs.line_fields.Text.{check-text}
-use Rattle.printing.specs.Room.{lines-room}
+use Rattle.printing.specs.steps.Room.{lines-room}
 use Rattle.printing.proofs.Printed.{then-lines}
 use borrow.Author.Needs.{needs}
 use Rattle.printing.proofs.put_lines.Statement.{statement}

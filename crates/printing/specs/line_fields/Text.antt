@@ -1,14 +1,12 @@
 -- Document 01, The printed answer: the bytes of a line's fields behind its key.
 use Prim.Native.Nat.{ℕ}
-use mathlib.Core.Bool.{Bool}
 use mathlib.Core.List.{List, [], _∷_, _++_}
 use Rattle.sets.specs.declared.Combination.{Combination}
 use Rattle.sets.specs.declared.Combination.the-variants.{I, II, III, IV}
 use Rattle.checks.specs.declared.Check.{Check}
 use Rattle.checks.specs.declared.Check.the-variants.{OP, OM, SL, PR, RK}
-use Rattle.lines.specs.Lines.{LineName, VERDICT, check, SC, CL, Value, accepted, not-accepted, none, off, number, minus, NumberField, empty, holds, YesOrNo, unmarked, Y, N, mark-of}
+use Rattle.lines.specs.Lines.{LineName, VERDICT, check, SC, CL, Value, accepted, not-accepted, none, off, number, minus, NumberField, empty, holds, YesOrNo, unmarked, Y, N}
 use Rattle.block.specs.Decimal.{decimal}
-use Rattle.block.specs.Block.{field, line-end}
 
 abbrev pub HYPHEN : ℕ
 HYPHEN = 0x2D
@@ -53,7 +51,3 @@ unfoldable pub mark-text : YesOrNo → List ℕ
 mark-text unmarked = []
 mark-text Y = 0x59 ∷ []
 mark-text N = 0x4E ∷ []
-
--- the mark of a line, and its end
-abbrev pub ending : Bool → List ℕ
-ending passes = field (mark-text (mark-of passes)) ++ line-end

@@ -3,7 +3,7 @@ use Prim.Native.Nat.{ℕ}
 use mathlib.Core.List.{List, [], _∷_, _++_}
 use Rattle.csv.specs.rfc4180.Rfc4180.{COMMA}
 use Rattle.block.specs.Decimal.{decimal}
-use Rattle.block.specs.Block.{field, line-end}
+use Rattle.block.specs.Fields.{field, line-end}
 
 -- "A refused book prints `,,BOOK,number,row,,`."
 unfoldable pub book-text : ℕ → ℕ → List ℕ

@@ -6,7 +6,8 @@ use mathlib.Core.Path.{sym, subst}
 use mathlib.Core.List.{List, [], _∷_}
 use types.Run.{OneOf}
 use denote.Enum.Declared.{tagOf}
-use Rattle.fields.specs.Numbers.{EntryAt, IsNumber}
+use Rattle.fields.specs.Numbers.{IsNumber}
+use Rattle.fields.specs.Entries.{EntryAt}
 use Rattle.fields.specs.declared.Entered.{Entered}
 use Rattle.kinds.specs.Form.{Means}
 use Rattle.kinds.specs.declared.Column.{Column}

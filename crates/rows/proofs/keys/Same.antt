@@ -4,7 +4,8 @@ use mathlib.Core.Path.{_≡_, ap}
 use mathlib.Core.Bool.{Bool, _&&_}
 use lib.ListN.{getD}
 use lib.Dec.{eqb}
-use Rattle.arithmetic.specs.decides.Decides.{Decides, decides-same, decides-both, decides-equal}
+use Rattle.arithmetic.specs.decides.Decides.{Decides}
+use Rattle.arithmetic.proofs.Deciding.{decides-same, decides-both, decides-equal}
 use Rattle.rows.specs.declared.keys.Key.{Key}
 
 both-equal : (x y z w : ℕ) → Decides (eqb x y && eqb z w) ((x ≡ y) × (z ≡ w))

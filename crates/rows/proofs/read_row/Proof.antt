@@ -4,9 +4,10 @@ use mathlib.Core.Path.{refl, subst}
 use mathlib.Core.Bool.{Bool}
 use lib.Dec.{lit<}
 use borrow.Author.Needs.{needs}
-use Rattle.arithmetic.specs.decides.Decides.{decided, refuted}
+use Rattle.arithmetic.proofs.Deciding.{decided, refuted}
 use Rattle.kinds.specs.letters.Form.{KindAt}
-use Rattle.rows.specs.Answer.{first-ten, NumbersGiven}
+use Rattle.rows.specs.Answer.{first-ten}
+use Rattle.rows.specs.steps.Numbers.{NumbersGiven}
 use Rattle.rows.proofs.Forms.{ten-cells, member-is, job-is, kind-is}
 use Rattle.rows.proofs.Reading.{cell-name, cell-good, cell-kind, cell-no-kind, numbers-good, seen-row, seen-none, passed}
 use Rattle.rows.proofs.read_row.Statement.{statement}

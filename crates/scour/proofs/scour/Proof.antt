@@ -1,12 +1,12 @@
 -- `scour::scour` meets its contract: the ranges are what `scour::scour_of` asks of the row's columns.
 use mathlib.Core.Path.{subst}
 use borrow.Author.Needs.{needs}
-use Rattle.arithmetic.specs.decides.Decides.{decided, refuted}
+use Rattle.arithmetic.proofs.Deciding.{decided, refuted}
 use Rattle.kinds.specs.ranges.Range.{Ranged}
 use Rattle.kinds.specs.declared.Kind.the-variants.{S}
 use Rattle.scour.specs.declared.Waterway.{Waterway}
-use Rattle.scour.specs.Scour.{ScourRule, scour-told}
-use Rattle.scour.specs.ScourRow.{out-of-range, in-range}
+use Rattle.scour.specs.Scour.{ScourRule}
+use Rattle.scour.specs.ScourRow.{scour-told, out-of-range, in-range}
 use Rattle.scour.proofs.scour.Statement.{statement}
 use Rattle.scour.proofs.scour.Tie as tie
 

@@ -4,7 +4,7 @@ use native.Mathlib.Omega.{arith}
 use mathlib.Core.Path.{subst⁻¹}
 use mathlib.Core.Logic.{⊎-elim}
 use borrow.Author.Needs.{needs}
-use Rattle.arithmetic.specs.decides.Decides.{decided, refuted}
+use Rattle.arithmetic.proofs.Deciding.{decided, refuted}
 use Rattle.scour.specs.Scour.{Constricted, LaceyDepth, regime, constricted, large-catchment, too-intense, needed}
 use Rattle.scour.proofs.discharge.Bounds.{discharge-most}
 use Rattle.scour.proofs.scour_of.Statement.{statement}

@@ -6,7 +6,8 @@ use mathlib.Core.Logic.{_⊎_}
 use mathlib.Core.Bool.{Bool, true, false, _||_, Bool·beq}
 use Prim.Native.Nat.{ℕ, _<_}
 use lib.Dec.{eqb}
-use Rattle.arithmetic.specs.decides.Decides.{Decides, decides-either, decides-equal}
+use Rattle.arithmetic.specs.decides.Decides.{Decides}
+use Rattle.arithmetic.proofs.Deciding.{decides-either, decides-equal}
 use Rattle.sets.specs.declared.Class.the-variants.{Permanent}
 use Rattle.sets.specs.declared.Combination.{Combination}
 use Rattle.sets.specs.declared.Load.{Load}

@@ -2,7 +2,8 @@
 -- them, natural numbers only, each whole number by what is above and below zero.
 use Prim.Native.Nat.{ℕ, zero, suc, _+_, _*_, _-_, _^_, _≤_}
 use Rattle.arithmetic.specs.declared.signed.Parts.{Parts}
-use Rattle.arithmetic.specs.signed.Whole.{worth, above, below, parts-of, times}
+use Rattle.arithmetic.specs.signed.Whole.{worth, above, below}
+use Rattle.arithmetic.specs.signed.Parts.{parts-of, times}
 use Rattle.sets.specs.declared.Class.{Class}
 use Rattle.sets.specs.declared.Class.the-variants.{Permanent, Free, Wind, Earthquake}
 use Rattle.sets.specs.declared.Load.{Load}

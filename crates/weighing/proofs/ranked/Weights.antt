@@ -9,7 +9,8 @@ use native.Mathlib.Decide.{decLe}
 use lib.Dec.{eqb, ltb}
 use lib.Count.{ones, ones-le}
 use Rattle.arithmetic.proofs.Cases.{by-cases}
-use Rattle.arithmetic.specs.decides.Decides.{Decides, decides-same, decides-both, decides-either, decides-below, decides-equal}
+use Rattle.arithmetic.specs.decides.Decides.{Decides}
+use Rattle.arithmetic.proofs.Deciding.{decides-same, decides-both, decides-either, decides-below, decides-equal}
 use Rattle.checks.specs.declared.Figure.{Figure}
 use Rattle.checks.specs.Order.{Side}
 use Rattle.checks.specs.steps.Ranks.{Ranks}

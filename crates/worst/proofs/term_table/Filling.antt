@@ -13,7 +13,8 @@ use Rattle.arithmetic.proofs.Cases.{impossible, by-cases}
 use Rattle.sets.specs.declared.Combination.{Combination}
 use Rattle.sets.specs.declared.Loads.{Loads}
 use Rattle.sums.specs.declared.Sums.{Sums}
-use Rattle.sets.specs.Sets.{row, Bounded}
+use Rattle.sets.specs.Sets.{row}
+use Rattle.sets.specs.Bounded.{Bounded}
 use Rattle.sums.specs.steps.Sums.{no-sums, add, Room}
 use Rattle.sums.proofs.Adding.{room-none, room-add, room-more, room-row, low-place}
 use Rattle.worst.specs.declared.choices.Stance.{Stance}

@@ -10,7 +10,7 @@ use lib.Dec.{lit<, lit≤}
 use lib.Pow.{shl-exact, pow-pos, split, high}
 use Rattle.sets.specs.declared.Loads.{Loads}
 use Rattle.sums.specs.declared.Sums.{Sums}
-use Rattle.sets.specs.Sets.{Bounded}
+use Rattle.sets.specs.Bounded.{Bounded}
 use Rattle.sets.specs.steps.Deciding.{Arises}
 use Rattle.sums.specs.steps.Sums.{Room}
 use Rattle.sums.proofs.Adding.{room-more, room-all}

@@ -3,7 +3,7 @@ use borrow.Author.Needs.{needs}
 use borrow.Author.Tests.{lt-ltb, le-ltb}
 use mathlib.Core.Path.{sym, ap, ap₂, _∙_}
 use mathlib.Core.Bool.{Bool, cond}
-use Rattle.answer.specs.river.Rows.{both}
+use Rattle.answer.specs.river.steps.Rows.{both}
 use Rattle.answer.specs.declared.river.RiverRead.the-variants.{Refused}
 use Rattle.answer.proofs.river.both.Statement.{statement}
 use Rattle.answer.proofs.river.both.Tie as tie

@@ -10,7 +10,7 @@ use Rattle.clearance.specs.declared.ClearanceAnswer.the-variants.{Given}
 use Rattle.clearance.proofs.Clearances.{at-least-decides}
 use Rattle.lines.specs.declared.RiverLine.the-variants.{Shown}
 use Rattle.answer.specs.declared.river.RowGives.the-variants.{Line}
-use Rattle.answer.specs.river.Rows.{ClearGiven}
+use Rattle.answer.specs.river.steps.Rows.{ClearGiven}
 use Rattle.answer.proofs.river.clear_of.Statement.{statement}
 use Rattle.answer.proofs.river.clear_of.Tie as tie
 

@@ -1,9 +1,9 @@
 -- What an S row is told says which arm comes: each refusal by its number, and a depth needed as SC, but on rock.
 use borrow.Author.Needs.{needs}
 use mathlib.Core.Path.{refl, ap}
-use Rattle.arithmetic.specs.decides.Decides.{decides-at-most}
+use Rattle.arithmetic.proofs.Deciding.{decides-at-most}
 use Rattle.arithmetic.specs.signed.Whole.{amount}
-use Rattle.scour.specs.Scour.{scour-told}
+use Rattle.scour.specs.ScourRow.{scour-told}
 use Rattle.answer.proofs.river.depth_of.Statement.{statement}
 use Rattle.answer.proofs.river.depth_of.Tie as tie
 

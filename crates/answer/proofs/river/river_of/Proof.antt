@@ -3,15 +3,15 @@ use borrow.Author.Needs.{needs}
 use mathlib.Core.Path.{_≡_, subst, subst⁻¹}
 use mathlib.Core.Bool.{Bool, true}
 use mathlib.Core.Logic.{⊎-elim}
-use Rattle.arithmetic.specs.decides.Decides.{Decides, decided, refuted, decides-flag}
+use Rattle.arithmetic.specs.decides.Decides.{Decides}
+use Rattle.arithmetic.proofs.Deciding.{decided, refuted, decides-flag}
 use Rattle.scour.specs.declared.Waterway.{Waterway}
-use Rattle.scour.specs.Scour.{scour-told}
-use Rattle.clearance.specs.ClearanceTold.{clearance-told}
-use Rattle.clearance.specs.Clear.{ClearanceSays}
+use Rattle.scour.specs.ScourRow.{scour-told}
+use Rattle.clearance.specs.ClearanceRow.{clearance-told, ClearanceSays}
 use Rattle.answer.specs.Columns.{base-of}
 use Rattle.answer.specs.river.River.{OnRock}
 use Rattle.answer.specs.river.steps.Says.{RiverSays}
-use Rattle.answer.specs.river.Rows.{DepthGiven}
+use Rattle.answer.specs.river.steps.Rows.{DepthGiven}
 use Rattle.answer.proofs.river.Telling.{DepthGives, ClearGives, no-depth, no-clear, depth-gives, clear-gives, both-give}
 use Rattle.answer.proofs.river.river_of.Statement.{statement}
 use Rattle.answer.proofs.river.river_of.Tie as tie

@@ -4,7 +4,7 @@ use Rattle.kinds.specs.declared.Kind.the-variants.{S, C}
 use Rattle.jobs.specs.declared.Job.{Job}
 use Rattle.jobs.specs.stages.Rows.{HasScour, HasClearance}
 use Rattle.scour.specs.Scour as scour
-use Rattle.clearance.specs.ClearanceTold as clearance
+use Rattle.clearance.specs.Clear as clearance
 use Rattle.lines.specs.declared.RiverLine.{RiverLine}
 use Rattle.answer.specs.river.River.{ScourGives, ClearanceGives, DepthIs, ClearIs}
 use Rattle.answer.specs.declared.river.RiverRead.{RiverRead}

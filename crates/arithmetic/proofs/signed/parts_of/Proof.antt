@@ -1,5 +1,5 @@
 -- With a minus all of the size is below zero and nothing above it; without one it is the other way round.
-use Rattle.arithmetic.specs.signed.Whole.{parts-of}
+use Rattle.arithmetic.specs.signed.Parts.{parts-of}
 use Rattle.arithmetic.proofs.signed.Laws.{above-minus, above-plain, below-minus, below-plain, same-parts}
 use mathlib.Core.Path.{sym}
 use Rattle.arithmetic.proofs.signed.parts_of.Statement.{statement}

@@ -1,7 +1,7 @@
 -- The products of small parts fit, and make the parts of the product.
 use native.Mathlib.Omega.{arith}
 use mathlib.Core.Path.{refl}
-use Rattle.arithmetic.specs.signed.Whole.{times}
+use Rattle.arithmetic.specs.signed.Parts.{times}
 use Rattle.arithmetic.proofs.signed.Laws.{Products, small-products}
 use Rattle.arithmetic.proofs.signed.product.Statement.{statement}
 use Rattle.arithmetic.proofs.signed.product.Tie as tie

@@ -10,7 +10,7 @@ use Rattle.jobs.specs.Taking.{TakeSays, take-told}
 use Rattle.jobs.specs.declared.Job.{Job}
 use Rattle.jobs.specs.declared.Took.{Took}
 use Rattle.jobs.specs.declared.Took.the-variants.{Refused, Joined, Started}
-use Rattle.book.specs.step.Step.{Goes}
+use Rattle.book.specs.steps.Step.{Goes}
 use Rattle.book.proofs.step.step_at.Statement.{statement}
 use Rattle.book.proofs.step.step_at.Tie as tie
 

@@ -1,6 +1,6 @@
 -- A load row is missing exactly where the last job's count of them is 0. One past the last row fits, that row being at most 65,537.
 use mathlib.Core.Path.{refl}
-use Rattle.book.specs.walk.Ended.{missing, whole}
+use Rattle.book.specs.steps.Ended.{missing, whole}
 use borrow.Author.Needs.{needs}
 use Rattle.book.proofs.walk.ended.Statement.{statement}
 use Rattle.book.proofs.walk.ended.Tie as tie

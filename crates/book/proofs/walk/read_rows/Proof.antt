@@ -10,7 +10,7 @@ use lib.ListN.{length, set, replicate}
 use borrow.Author.Needs.{needs}
 use Rattle.rows.specs.declared.keys.Key.{Key}
 use Rattle.jobs.specs.declared.Job.{Job}
-use Rattle.book.specs.step.Step.{Goes}
+use Rattle.book.specs.steps.Step.{Goes}
 use Rattle.jobs.specs.declared.Took.{Took}
 use Rattle.jobs.specs.declared.Took.the-variants.{Refused, Joined, Started}
 use Rattle.book.proofs.Walking.{Walk, walk-start, walk-on, walk-refused, walk-barred, begun-new, walk-some, After, walk-joined, walk-started, walk-more, walk-end, refused-is}

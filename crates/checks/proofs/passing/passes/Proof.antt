@@ -1,7 +1,7 @@
 -- "None" passes any limit and "off" none, whatever the check; a number is held against the limit from the check's side.
 use borrow.Author.Needs.{needs}
 use mathlib.Core.Path.{subst⁻¹}
-use Rattle.arithmetic.specs.decides.Decides.{decides-at-most}
+use Rattle.arithmetic.proofs.Deciding.{decides-at-most}
 use Rattle.checks.proofs.Sides.{low-side, high-side}
 use Rattle.checks.specs.passing.Passing.{PassesNumber, Passes}
 use Rattle.checks.proofs.passing.passes.Statement.{statement}

@@ -6,7 +6,7 @@ use mathlib.Core.Logic.{⊎-elim}
 use mathlib.Core.Bool.{true, false, _&&_}
 use lib.Dec.{leb}
 use Rattle.arithmetic.proofs.Tests.{decides-within}
-use Rattle.arithmetic.specs.decides.Decides.{decided, refuted}
+use Rattle.arithmetic.proofs.Deciding.{decided, refuted}
 use Rattle.csv.specs.cells.Cells.{Stands}
 use borrow.Author.Needs.{needs}
 use Rattle.csv.proofs.cells.cell.Statement.{statement}

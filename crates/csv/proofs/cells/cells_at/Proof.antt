@@ -9,7 +9,7 @@ use types.Run.{OneOf}
 use denote.Enum.Declared.{tagOf}
 use borrow.Author.Needs.{needs}
 use lib.ListN.{length}
-use Rattle.csv.specs.field.Answer.{FieldAt}
+use Rattle.csv.specs.steps.FieldAt.{FieldAt}
 use Rattle.csv.specs.declared.field.Ended.{Ended}
 use Rattle.csv.specs.declared.field.Ended.the-variants.{Comma, Row, End, Bad}
 use Rattle.csv.proofs.field.Ended.{the-type}

@@ -8,9 +8,10 @@ use mathlib.Core.Bool.{_&&_}
 use native.Mathlib.Omega.{arith}
 use lib.ListN.{length, drop}
 use Rattle.csv.specs.rfc4180.Rfc4180.{COMMA, CR, DQUOTE, LF}
-use Rattle.csv.specs.quoted.Closing.{FirstByte, ClosedAt}
-use Rattle.csv.specs.field.Answer.{FieldTo}
-use Rattle.arithmetic.specs.decides.Decides.{Decides, decided, refuted, decides-both}
+use Rattle.csv.specs.steps.Closing.{FirstByte, ClosedAt}
+use Rattle.csv.specs.steps.FieldAt.{FieldTo}
+use Rattle.arithmetic.specs.decides.Decides.{Decides}
+use Rattle.arithmetic.proofs.Deciding.{decided, refuted, decides-both}
 use Rattle.csv.proofs.rfc4180.Parts.{first-byte-lt}
 use Rattle.csv.proofs.field.Scan.{byte-first, two-bytes-first, no-stop}
 use Rattle.csv.proofs.field.Ends.{EndsAt, not-followed, plain-ends, quoted-ends, unclosed}

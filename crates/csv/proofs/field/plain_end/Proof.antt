@@ -5,8 +5,8 @@ use Rattle.csv.proofs.field.Scan.{plain-more}
 use borrow.Author.Needs.{needs}
 use lib.ListN.{length}
 use Rattle.csv.specs.rfc4180.Rfc4180.{Plain, none, Textdata}
-use Rattle.csv.specs.rfc4180.Part.{part}
-use Rattle.arithmetic.specs.decides.Decides.{decided, refuted}
+use Rattle.csv.specs.Part.{part}
+use Rattle.arithmetic.proofs.Deciding.{decided, refuted}
 use Rattle.csv.proofs.rfc4180.Parts.{part-none, first-byte-is, past-first-byte}
 use Rattle.csv.proofs.field.plain_end.Statement.{statement}
 use Rattle.csv.proofs.field.plain_end.Tie as tie

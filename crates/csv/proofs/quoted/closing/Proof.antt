@@ -6,7 +6,7 @@ use borrow.Author.Needs.{needs}
 use lib.ListN.{length, getD}
 use native.Mathlib.Omega.{arith}
 use Rattle.csv.specs.rfc4180.Rfc4180.{Inside, DQUOTE}
-use Rattle.arithmetic.specs.decides.Decides.{decided, refuted}
+use Rattle.arithmetic.proofs.Deciding.{decided, refuted}
 use Rattle.csv.proofs.rfc4180.Parts.{first-byte-is, first-byte-lt, past-first-byte}
 use Rattle.csv.proofs.quoted.Bytes.{inside-decides}
 use Rattle.csv.proofs.quoted.Scan.{Escape, escape-none, escape-more, escape-quotes, escape-closes, never-closes}

@@ -7,7 +7,7 @@ use mathlib.Core.Logic.{inl, inr, ⊎-elim}
 use native.Mathlib.Omega.{arith}
 use borrow.Author.Needs.{needs}
 use lib.ListN.{length, getD}
-use Rattle.arithmetic.specs.decides.Decides.{decided, refuted}
+use Rattle.arithmetic.proofs.Deciding.{decided, refuted}
 use Rattle.fields.proofs.digits.Numerals.{numeral-some, lengths, Digit, DigitsRead, nothing, room, digits-all, digits-stop, digit, digits-more}
 use Rattle.fields.proofs.digits.digits_of.Statement.{statement}
 use Rattle.fields.proofs.digits.digits_of.Tie as tie

@@ -1,7 +1,8 @@
 -- The lines are handed on untouched. Six answers joined say whether all of them say Y, and the verdict is about the answer that it stands in.
 use mathlib.Core.Path.{refl}
 use mathlib.Core.Bool.{Bool, _&&_}
-use Rattle.arithmetic.specs.decides.Decides.{Decides, decided, refuted}
+use Rattle.arithmetic.specs.decides.Decides.{Decides}
+use Rattle.arithmetic.proofs.Deciding.{decided, refuted}
 use Rattle.lines.specs.declared.Answer.{Answer}
 use Rattle.lines.specs.declared.Verdict.{Verdict}
 use Rattle.lines.specs.declared.Verdict.the-variants.{Accepted, NotAccepted}

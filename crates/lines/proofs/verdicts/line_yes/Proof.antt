@@ -1,6 +1,7 @@
 -- A line says Y exactly if its mark is set; a check without a line says nothing, and so not N.
 use mathlib.Core.Path.{sym, subst}
-use Rattle.arithmetic.specs.decides.Decides.{Decides, decides-flag}
+use Rattle.arithmetic.specs.decides.Decides.{Decides}
+use Rattle.arithmetic.proofs.Deciding.{decides-flag}
 use Rattle.lines.specs.declared.Line.{Line}
 use Rattle.lines.specs.verdicts.Verdict.{LineYes}
 use borrow.Author.Needs.{needs}

@@ -1,6 +1,7 @@
 -- Where SC or CL is missing nothing says N; where it stands its own mark answers.
 use mathlib.Core.Path.{sym, subst}
-use Rattle.arithmetic.specs.decides.Decides.{Decides, decides-flag}
+use Rattle.arithmetic.specs.decides.Decides.{Decides}
+use Rattle.arithmetic.proofs.Deciding.{decides-flag}
 use Rattle.lines.specs.declared.RiverLine.{RiverLine}
 use Rattle.lines.specs.verdicts.Verdict.{RiverYes}
 use borrow.Author.Needs.{needs}

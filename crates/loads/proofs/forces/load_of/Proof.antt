@@ -3,9 +3,10 @@ use borrow.Author.Needs.{needs}
 use mathlib.Core.Path.{_≡_, sym, _∙_, subst}
 use borrow.Author.Tests.{not-true, not-false}
 use lib.Dec.{lit≤}
-use Rattle.arithmetic.specs.decides.Decides.{decided, refuted}
+use Rattle.arithmetic.proofs.Deciding.{decided, refuted}
 use Rattle.earth.specs.declared.EarthAnswer.{EarthAnswer}
-use Rattle.earth.specs.Earth.{earth-told, push, Pressed}
+use Rattle.earth.specs.Earth.{push, Pressed}
+use Rattle.earth.specs.EarthTold.{earth-told}
 use Rattle.earth.specs.table2.Table2.{table2-fill}
 use Rattle.earth.proofs.Bounds.{pressed-modest}
 use Rattle.earth.proofs.table2.Marks.{table2-small}
@@ -16,7 +17,7 @@ use Rattle.kinds.specs.ranges.Range.{Ranged}
 use Rattle.kinds.proofs.classes.Sources.{absent-earth, own-earth}
 use Rattle.sets.specs.declared.Load.{Load}
 use Rattle.loads.specs.forces.Exerts.{Forces}
-use Rattle.loads.specs.forces.Exerted.{LoadOf}
+use Rattle.loads.specs.steps.Exerted.{LoadOf}
 use Rattle.loads.proofs.forces.Exerting.{own-columns, around-size, Kept, told-out, told-blank, told-push, told-load}
 use Rattle.loads.proofs.forces.load_of.Statement.{statement}
 use Rattle.loads.proofs.forces.load_of.Tie as tie

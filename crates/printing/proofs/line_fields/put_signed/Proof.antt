@@ -7,7 +7,7 @@ use mathlib.Core.Bool.{Bool, cond}
 use mathlib.Core.List.{List}
 use native.Mathlib.Omega.{arith}
 use Rattle.lines.specs.Lines.{number, minus, signed-value}
-use Rattle.block.specs.Block.{field}
+use Rattle.block.specs.Fields.{field}
 use Rattle.printing.specs.line_fields.Text.{value-text}
 use borrow.Author.Needs.{needs}
 use Rattle.printing.proofs.line_fields.put_signed.Statement.{statement}

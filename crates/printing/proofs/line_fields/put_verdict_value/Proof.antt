@@ -5,7 +5,7 @@ use mathlib.Core.List.{List}
 use native.Mathlib.Omega.{arith}
 use Rattle.lines.specs.declared.Verdict.{Verdict}
 use Rattle.lines.specs.Lines.{verdict-value}
-use Rattle.block.specs.Block.{field}
+use Rattle.block.specs.Fields.{field}
 use Rattle.printing.specs.line_fields.Text.{value-text}
 use Rattle.block.proofs.Numbers.{decimal-length}
 use Rattle.block.proofs.Pages.{then, then-put, spelled, put-as}

@@ -6,7 +6,7 @@ use mathlib.Core.Path.{_≡_, refl}
 use lib.ListN.{getD}
 use borrow.Author.Needs.{needs}
 use borrow.Author.Count.{below-more}
-use Rattle.arithmetic.specs.decides.Decides.{decided, refuted}
+use Rattle.arithmetic.proofs.Deciding.{decided, refuted}
 use Rattle.rows.specs.keys.Among.{void-key}
 use Rattle.rows.specs.keys.Beginning.{surplus, reused, unused}
 use Rattle.rows.proofs.keys.may_begin.Statement.{statement}

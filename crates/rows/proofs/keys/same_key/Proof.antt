@@ -7,7 +7,7 @@ use lib.ListN.{length}
 use lib.Seq.{ext-getD}
 use borrow.Author.Needs.{needs}
 use borrow.Author.Count.{below-more}
-use Rattle.arithmetic.specs.decides.Decides.{decided, refuted}
+use Rattle.arithmetic.proofs.Deciding.{decided, refuted}
 use Rattle.rows.proofs.keys.Same.{SameLetters, same-letters, same-letters-decides, same-letters-of, key-decides}
 use Rattle.rows.proofs.keys.same_key.Statement.{statement}
 use Rattle.rows.proofs.keys.same_key.Tie as tie

@@ -2,7 +2,7 @@
 use Prim.Native.Nat.{_*_, _^_, _≤_}
 use native.Mathlib.Nat.{mul-le-mul}
 use native.Mathlib.Omega.{arith}
-use Rattle.arithmetic.specs.decides.Decides.{decides-at-most}
+use Rattle.arithmetic.proofs.Deciding.{decides-at-most}
 use Rattle.arithmetic.proofs.rounding.Powers.{square}
 use borrow.Author.Needs.{needs}
 use Rattle.scour.proofs.lacey.meets_regime.Statement.{statement}

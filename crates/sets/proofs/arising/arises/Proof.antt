@@ -3,7 +3,7 @@ use borrow.Author.Needs.{needs}
 use borrow.Author.Count.{below-more}
 use Prim.Native.Nat.{ℕ, _-_, _≤_, _<_}
 use native.Mathlib.Omega.{arith}
-use Rattle.arithmetic.specs.decides.Decides.{decided, refuted}
+use Rattle.arithmetic.proofs.Deciding.{decided, refuted}
 use Rattle.sets.specs.steps.Deciding.{RaisedBy, Arises}
 use Rattle.sets.specs.Sets.{row}
 use Rattle.sets.proofs.arising.arises.Statement.{statement}

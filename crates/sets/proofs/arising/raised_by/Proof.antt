@@ -7,7 +7,8 @@ use mathlib.Core.Path.{_≡_, subst⁻¹}
 use mathlib.Core.List.{[], _∷_}
 use mathlib.Core.Bool.{Bool, true, false}
 use Rattle.arithmetic.proofs.Cases.{impossible}
-use Rattle.arithmetic.specs.decides.Decides.{Decides, decides-equal}
+use Rattle.arithmetic.specs.decides.Decides.{Decides}
+use Rattle.arithmetic.proofs.Deciding.{decides-equal}
 use Rattle.sets.specs.declared.Class.{Class}
 use Rattle.sets.specs.declared.Class.the-variants.{Permanent, Free, Wind, Earthquake}
 use Rattle.sets.specs.declared.Combination.{Combination}

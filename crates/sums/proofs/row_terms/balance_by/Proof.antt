@@ -3,7 +3,7 @@ use borrow.Author.Needs.{needs}
 use native.Mathlib.Omega.{arith}
 use mathlib.Core.Path.{_∙_}
 use Prim.Native.Nat.{_+_, _*_, _≤_}
-use Rattle.arithmetic.specs.signed.Whole.{times, Small}
+use Rattle.arithmetic.specs.signed.Parts.{times, Small}
 use Rattle.arithmetic.proofs.signed.Laws.{same-parts, times-low}
 use Rattle.sums.specs.steps.Sums.{arm-by, balance-by}
 use Rattle.sums.proofs.row_terms.balance_by.Statement.{statement}

@@ -8,7 +8,8 @@ use Prim.Native.Nat.{ℕ, _+_, _*_, _≤_}
 use types.Run.{OneOf}
 use denote.Enum.Declared.{tagOf}
 use Rattle.arithmetic.specs.declared.signed.Parts.{Parts}
-use Rattle.arithmetic.specs.signed.Whole.{worth, above, below, parts-of, times, Small}
+use Rattle.arithmetic.specs.signed.Whole.{worth, above, below}
+use Rattle.arithmetic.specs.signed.Parts.{parts-of, times, Small}
 use Rattle.arithmetic.proofs.signed.Laws.{same-parts, times-low}
 use Rattle.sets.specs.declared.Class.{Class}
 use Rattle.sets.specs.declared.Class.the-variants.{Permanent, Free, Wind, Earthquake}

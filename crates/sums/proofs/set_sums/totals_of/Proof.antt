@@ -4,7 +4,7 @@ use mathlib.Core.Path.{_≡_, _∙_, sym, ap}
 use lib.IntN.{pos, _-ℤ_}
 use Rattle.arithmetic.specs.signed.Whole.{amount}
 use Rattle.sums.specs.declared.Totals.{Totals}
-use Rattle.sums.specs.Totals.{totals-of}
+use Rattle.sums.specs.TotalsOf.{totals-of}
 use Rattle.sums.proofs.Adding.{n-is, h-is, m-is, plus-is, minus-is}
 use Rattle.sums.proofs.set_sums.totals_of.Statement.{statement}
 use Rattle.sums.proofs.set_sums.totals_of.Tie as tie

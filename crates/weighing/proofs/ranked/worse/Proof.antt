@@ -4,7 +4,8 @@ use mathlib.Core.Logic.{⊎-elim}
 use mathlib.Core.Bool.{Bool, _||_}
 use Prim.Native.Nat.{_<_}
 use lib.Dec.{eqb, ltb}
-use Rattle.arithmetic.specs.decides.Decides.{Decides, decided, refuted, decides-same, decides-either, decides-below, decides-equal}
+use Rattle.arithmetic.specs.decides.Decides.{Decides}
+use Rattle.arithmetic.proofs.Deciding.{decided, refuted, decides-same, decides-either, decides-below, decides-equal}
 use Rattle.weighing.specs.steps.Ranked.{tie-order, weight-of}
 use Rattle.weighing.proofs.ranked.Weights.{Leads, leads-weighs, follows-weighs, worse-of-new, worse-of-old}
 use Rattle.weighing.proofs.ranked.worse.Statement.{statement}

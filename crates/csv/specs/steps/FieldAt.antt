@@ -1,13 +1,13 @@
--- Where a field ends, and what follows it, in terms of RFC 4180 as `Rfc4180` states it: what the functions of `field` answer.
+-- What `plain_end` and `field_end` answer: where a field ends, and what follows it, in terms of RFC 4180 as `Rfc4180` states it.
 use Prim.Native.Nat.{ℕ, _+_, _≤_}
 use mathlib.Core.Path.{_≡_}
 use mathlib.Core.List.{List, [], _∷_, _++_}
 use lib.ListN.{length, drop}
-use Rattle.csv.specs.rfc4180.Part.{part}
+use Rattle.csv.specs.Part.{part}
 use Rattle.csv.specs.rfc4180.Rfc4180.{COMMA, CR, LF, Textdata, Plain, Field}
 use Rattle.csv.specs.declared.field.Ended.{Ended}
 use Rattle.csv.specs.declared.field.Ended.the-variants.{Comma, Row, End, Bad}
-use Rattle.csv.specs.quoted.Closing.{FirstByte}
+use Rattle.csv.specs.steps.Closing.{FirstByte}
 
 -- the longest plain stretch at a place ends at e
 pub record PlainTo (s : List ℕ) (at e : ℕ) : Type 0 where

@@ -1,4 +1,4 @@
--- What the functions for one river row and for both answer, whatever job the rows stand in.
+-- What `depth_of`, `clear_of` and `both` answer, whatever job the rows stand in.
 use Prim.Native.Nat.{ℕ, _≤_}
 use mathlib.Core.Path.{_≡_}
 use mathlib.Core.Bool.{Bool, true, false, cond}

@@ -1,4 +1,4 @@
--- Document 01, refusals of a book: what one row does, behind the rows before it.
+-- What `step_at` answers: what one row does, behind the rows before it (document 01, Refusals of a book).
 use Prim.Native.Nat.{ℕ}
 use mathlib.Core.Path.{_≡_}
 use mathlib.Core.Bool.{Bool, true, false}

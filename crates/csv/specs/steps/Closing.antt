@@ -1,9 +1,9 @@
--- Where what stands between quotes closes, in terms of RFC 4180 as `Rfc4180` states it.
+-- What `closing` answers: where what stands between quotes closes, in terms of RFC 4180 as `Rfc4180` states it.
 use Prim.Native.Nat.{ℕ, _+_, _≤_, _<_}
 use mathlib.Core.Path.{_≡_}
 use mathlib.Core.List.{List, _∷_, _++_}
 use lib.ListN.{length, drop}
-use Rattle.csv.specs.rfc4180.Part.{part}
+use Rattle.csv.specs.Part.{part}
 use Rattle.csv.specs.rfc4180.Rfc4180.{DQUOTE, Escaped}
 use Rattle.csv.specs.declared.quoted.ClosingQuote.{ClosingQuote}
 use Rattle.csv.specs.declared.quoted.ClosingQuote.the-variants.{At, Unclosed}

@@ -1,4 +1,4 @@
--- Document 01, Refusals of a job: what one load row is told, 11, 15 or what it exerts.
+-- What `load_of` answers: what one load row is told, 11, 15 or what it exerts (document 01, Refusals of a job).
 use Prim.Native.Nat.{ℕ}
 use Rattle.kinds.specs.declared.Row.{Row}
 use Rattle.kinds.specs.ranges.Range.{Ranged}

@@ -1,4 +1,4 @@
--- What the loop over a job's load rows answers: what 11, 15 and 16 ask of the rows, and the loads of the rows.
+-- What `asked_of` answers: what 11, 15 and 16 ask of the rows, and the loads of the rows.
 use mathlib.Core.Path.{_≡_}
 use mathlib.Core.Bool.{true}
 use mathlib.Core.List.{List}

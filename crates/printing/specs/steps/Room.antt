@@ -1,4 +1,4 @@
--- How many bytes lines take at most. VERDICT, which is not counted here, takes 42.
+-- What each function of printing puts at most, in bytes. VERDICT, which is not counted here, takes 42.
 use Prim.Native.Nat.{ℕ, _+_}
 use lib.ListN.{length}
 use Rattle.lines.specs.declared.Line.{Line}

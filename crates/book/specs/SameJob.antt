@@ -1,0 +1,19 @@
+-- Two jobs that are the same by key, kinds and numbers, though every note differs.
+use mathlib.Core.Path.{_≡_}
+use mathlib.Core.List.{List, [], _∷_, _++_}
+use Rattle.rows.specs.Form.{BookRow}
+use Rattle.rows.specs.declared.keys.Keyed.{Keyed}
+use Rattle.book.specs.JobBook.{WrittenJob, Jobs, none, _and_, job-rows}
+
+-- rows by their keys, kinds and numbers, without their notes
+abbrev pub keyed-rows : List BookRow → List Keyed
+keyed-rows [] = []
+keyed-rows (r ∷ rs) = r .keyed ∷ keyed-rows rs
+
+abbrev pub SameJob : WrittenJob → WrittenJob → Type 0
+SameJob a b = keyed-rows (job-rows a) ≡ keyed-rows (job-rows b)
+
+-- the jobs of a book, in its order
+abbrev pub listed : Jobs → List WrittenJob
+listed none = []
+listed (js and j) = listed js ++ j ∷ []

@@ -1,0 +1,9 @@
+-- What `look_up` gives: a coefficient with which the code's numbers fit a word.
+use Prim.Native.Nat.{_≤_}
+use Rattle.earth.specs.declared.table2.Coefficient.{Coefficient}
+use Rattle.earth.specs.declared.table2.Coefficient.the-variants.{Blank, Value}
+
+-- the code's numbers fit for any coefficient up to 40,000
+abbrev pub LowCoefficient : Coefficient → Type 0
+LowCoefficient Blank = Unit {0}
+LowCoefficient (Value K) = K ≤ 40000

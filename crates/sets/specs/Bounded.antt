@@ -1,0 +1,16 @@
+-- How large a load may be for every sum to fit a word; what 01's rows exert is within it.
+use Prim.Native.Nat.{ℕ, _≤_, _<_}
+use Rattle.sets.specs.declared.Load.{Load}
+use Rattle.sets.specs.declared.Loads.{Loads}
+use Rattle.sets.specs.Sets.{row}
+
+-- How large a load may be for every sum to fit a word; what 01's rows exert is within it. |V| in kN, |x| in mm, |H| in kN, |H y| in kN mm.
+pub record BoundedLoad (load : Load) : Type 0 where
+  pub v : load .v .size ≤ 50000
+  pub x : load .x .size ≤ 32000
+  pub h : load .h .size ≤ 300000
+  pub twist : load .twist .size ≤ 3000000000
+
+pub record Bounded (loads : Loads) : Type 0 where
+  pub count : loads .count ≤ 16
+  pub each : (i : ℕ) → i < loads .count → BoundedLoad (row loads i)
