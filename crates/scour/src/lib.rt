@@ -10,9 +10,7 @@ use kinds::Kind;
 use kinds::Numbers;
 ghost use mathlib.Core.Path.{_≡_};
 ghost use Prim.Native.Nat.{_≤_};
-ghost use Rattle.scour.specs.Scour as scour;
-ghost use Rattle.scour.specs.ScourRow as scourrow;
-ghost use Rattle.scour.specs.Scour.{waterway-of};
+ghost use Rattle.scour.specs.Scour.{waterway-of, ScourRule};
 ghost use Rattle.scour.specs.ScourRow.{scour-told, ScourSays};
 
 // The columns of an S row: discharge Q in l/s, catchment in km², silt factor in thousandths, width of the waterway W in mm, reach, and
@@ -51,7 +49,7 @@ pub fn waterway_of(row: Numbers) -> Waterway
 // What the columns of an S row give, where they are in range.
 fn scour_of(row: Waterway) -> ScourAnswer
     requires { ⌜ (row .discharge ≤ 50000000) × (100 ≤ row .silt) × (row .silt ≤ 3000) × (1000 ≤ row .width) × (row .width ≤ 1300000) × (1 ≤ row .reach) × (row .reach ≤ 5) ⌝ }
-    ensures { λ r. ⌜ scour.ScourRule row (scourrow.scour-told r) ⌝ }
+    ensures { λ r. ⌜ ScourRule row (scour-told r) ⌝ }
 {
     if 25000 < row.catchment {
         return ScourAnswer::LargeCatchment;
