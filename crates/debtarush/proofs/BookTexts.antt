@@ -1,8 +1,9 @@
 -- A book has one text, and leaves one state of the buffer that it is printed into.
-use Prim.Native.Nat.{ℕ}
+use Prim.Native.Nat.{ℕ, _≤_}
+use native.Mathlib.Omega.{arith}
 use mathlib.Core.Path.{_≡_, refl, sym, ap, subst, _∙_}
 use mathlib.Core.List.{List, [], _++_}
-use lib.ListN.{length, drop}
+use lib.ListN.{length, drop, length-append}
 use Rattle.earth.specs.declared.table2.Coefficient.{Coefficient}
 use Rattle.book.specs.JobBook.{Jobs, none, _and_}
 use Rattle.book.specs.Says as book
@@ -36,3 +37,7 @@ module _ {fill : ℕ → ℕ → Coefficient} {b : List ℕ} where
   printed-one {before} p q =
       let e = book-text-one (p .is) (q .is) in
       (e, p .whole ∙ ap (λ (t : List ℕ). t ++ drop (length t) before) e ∙ sym (q .whole), p .long ∙ ap length e ∙ sym (q .long))
+
+-- the text of a book does not pass the buffer's end
+pub printed-within : {fill : ℕ → ℕ → Coefficient} {b before after : List ℕ} {len : ℕ} → BookPrinted fill b before after len → len ≤ length after
+printed-within {before = before} p = omega (arith, p .long, ap length (p .whole), length-append (p .text) (drop (length (p .text)) before))

@@ -22,7 +22,7 @@ use Rattle.debtarush.specs.LinesIn.{LinesIn}
 use Rattle.debtarush.specs.steps.Behind.{Behind}
 use Rattle.debtarush.specs.BookText.{OneMore, JobsText, refused, jobs, BookPrinted}
 use Rattle.debtarush.proofs.Delivering.{lines-held}
-use Rattle.debtarush.proofs.Joining.{Starts, starts-within, starts-none, starts-first, starts-more}
+use Rattle.debtarush.proofs.Joining.{Starts, starts-same, starts-none, starts-first, starts-more}
 use Rattle.debtarush.proofs.Locating.{Held}
 
 -- the lines of the first so many of the jobs that are held
@@ -36,10 +36,11 @@ pub record SoFar (fill : ℕ → ℕ → Coefficient) (held : List Job) (i : ℕ
   pub lines : FirstText fill held i text
   pub starts : Starts text before after end
   pub short : end ≤ 2048 * i
+  pub fits : end ≤ length before
 
 pub so-far-none : {fill : ℕ → ℕ → Coefficient} (held : List Job) (before : List ℕ) → SoFar fill held 0 before before 0
 unfolding FirstText
-so-far-none held before = record { text = []; lines = refl; starts = starts-none before; short = omega arith }
+so-far-none held before = record { text = []; lines = refl; starts = starts-none before; short = omega arith; fits = omega arith }
 
 -- a job that is there is the same, whatever would be read where there is none
 same-there : (held : List Job) (i : ℕ) (d e : Job) → i < length held → getD held i d ≡ getD held i e
@@ -64,9 +65,9 @@ all-jobs fill (js and j) behind text p =
 
 module _ {fill : ℕ → ℕ → Coefficient} where
   pub so-far-more : {held : List Job} {i : ℕ} {before middle after : List ℕ} {at end : ℕ} {block : Block} (d : Job) → i < length held
-      → SoFar fill held i before middle at → LinesIn fill (getD held i d) block → Behind at (text-held block) middle after end → SoFar fill held (i + 1) before after end
+      → SoFar fill held i before middle at → at + 2048 ≤ length middle → LinesIn fill (getD held i d) block → Behind at (text-held block) middle after end → SoFar fill held (i + 1) before after end
   unfolding FirstText
-  so-far-more {held} {i} {before} {middle} {after} {at} {end} {block} d h s l b =
+  so-far-more {held} {i} {before} {middle} {after} {at} {end} {block} d h s room l b =
       let b′ = subst (λ (t : List ℕ). Behind at t middle after end) (lines-held l) b in
       let own = subst (λ (j : Job). TextOf fill j (l .bytes)) (same-there held i d no-job h) (l .lines) in
       record {
@@ -74,6 +75,7 @@ module _ {fill : ℕ → ℕ → Coefficient} where
         lines = rw add-one (record { before = s .text; own = l .bytes; earlier = s .lines; lines = own; are = refl });
         starts = starts-more (s .starts) b′;
         short = omega (arith, b′ .ends, s .short, l .fits);
+        fits = omega (arith, b′ .ends, s .fits, l .fits, starts-same (s .starts) (s .fits));
       }
 
   pub printed-jobs : {s before after : List ℕ} {n i end : ℕ} {held : List Job} → Held s n held → i ≤ n → n ≤ i → SoFar fill held i before after end
@@ -85,13 +87,13 @@ module _ {fill : ℕ → ℕ → Coefficient} where
         text = p .text;
         is = jobs (h .book) (all-jobs fill (h .written) _ (p .text) (subst (λ (l : List Job). FirstText fill l (count (h .written)) (p .text)) (h .are) first));
         long = p .starts .long;
-        fits = starts-within (p .starts);
+        fits = omega (arith, p .fits, p .starts .long);
         whole = p .starts .whole;
       }
 
   -- the one line of a refused book, behind nothing
   pub printed-refusal : {s before after : List ℕ} {m n row end : ℕ} {block : Block} → book.BookSays s (book.refused n row) → m ≡ n → block ≡ block-of (book-text m row)
-      → length (book-text m row) ≤ 2048 → Behind 0 (text-held block) before after end → BookPrinted fill s before after end
-  printed-refusal {before = before} {after} {m} {row = row} {end} says e held short b =
+      → length (book-text m row) ≤ 2048 → Behind 0 (text-held block) before after end → 131072 ≤ length before → BookPrinted fill s before after end
+  printed-refusal {before = before} {after} {m} {row = row} {end} says e held short b room =
       let p = starts-first (subst (λ (t : List ℕ). Behind 0 t before after end) (ap text-held held ∙ block-held (book-text m row) short) b) in
-      record { text = book-text m row; is = refused says (ap (λ (k : ℕ). book-text k row) e); long = p .long; fits = starts-within p; whole = p .whole }
+      record { text = book-text m row; is = refused says (ap (λ (k : ℕ). book-text k row) e); long = p .long; fits = omega arith; whole = p .whole }

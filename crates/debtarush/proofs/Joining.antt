@@ -54,9 +54,9 @@ pub record Starts (text before after : List ℕ) (end : ℕ) : Type 0 where
   pub long : end ≡ length text
   pub whole : after ≡ text ++ drop (length text) before
 
--- it has room there
-pub starts-within : {text before after : List ℕ} {end : ℕ} → Starts text before after end → end ≤ length after
-starts-within {text} {before} s = omega (arith, s .long, ap length (s .whole), length-append text (drop (length text) before))
+-- a buffer that has room for it is as long as it was
+pub starts-same : {text before after : List ℕ} {end : ℕ} → Starts text before after end → end ≤ length before → length after ≡ length before
+starts-same {text} {before} s fits = omega (arith, s .long, ap length (s .whole), length-append text (drop (length text) before), length-drop (length text) before)
 
 pub starts-none : (before : List ℕ) → Starts [] before before 0
 starts-none before = record { long = refl; whole = refl }

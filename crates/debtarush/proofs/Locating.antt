@@ -2,12 +2,13 @@
 use Prim.Native.Nat.{ℕ, suc, _-_, _≤_, _<_}
 use native.Mathlib.Omega.{arith}
 use mathlib.Core.Path.{_≡_, sym, ap, subst, _∙_}
+use mathlib.Core.Logic.{_⊎_, inl, inr, ⊎-elim}
 use mathlib.Core.List.{List, _∷_, _++_}
 use lib.ListN.{length, getD, take, drop, replicate, length-append, take-append-drop, List·getD-append}
 use lib.Seq.{drop-cons, length-take-le}
 use Rattle.jobs.specs.declared.Job.{Job}
 use Rattle.jobs.specs.Blank.{no-job}
-use Rattle.book.specs.JobBook.{Jobs, JobBook}
+use Rattle.book.specs.JobBook.{Jobs, count, JobBook}
 use Rattle.book.specs.counted.Places.{places}
 use Rattle.book.specs.Values.{values}
 use Rattle.book.specs.Says as book
@@ -27,9 +28,11 @@ module _ {b : List ℕ} {place : ℕ} where
   pub job-one : {js ks : Jobs} {j k : Job} → JobBook b js → JobBook b ks → Nth (values js) place j → Nth (values ks) place k → j ≡ k
   job-one {k = k} x y p q = nth-one p (subst (λ (l : Jobs). Nth (values l) place k) (book-one y x) q)
 
-  -- and it is there or not
-  pub job-there : {js ks : Jobs} {j : Job} → JobBook b js → JobBook b ks → Nth (values js) place j → ((k : Job) → Nth (values ks) place k → ⊥) → ⊥
-  job-there {j = j} x y p n = n j (subst (λ (l : Jobs). Nth (values l) place j) (book-one x y) p)
+  -- and there is none at 0, nor past the last job
+  pub job-there : {js ks : Jobs} {j : Job} → JobBook b js → JobBook b ks → Nth (values js) place j → (place ≡ 0) ⊎ (count ks < place) → ⊥
+  job-there {js} {j = j} x y p none =
+      let number = p .number in
+      ⊎-elim (λ z. omega arith) (λ k. omega (arith, ap length (p .are), length-append (p .before) (j ∷ p .behind), values-many js, ap count (book-one x y))) none
 
 -- a book that is given has its jobs in the first places
 pub record Held (s : List ℕ) (n : ℕ) (jobs : List Job) : Type 0 where
@@ -76,11 +79,5 @@ module _ {s : List ℕ} {n : ℕ} {jobs : List Job} (h : Held s n jobs) (place :
         number = omega (arith, length-take-le i vs (omega arith));
       }
 
-  pub no-job-at : n < place → (job : Job) → Nth (values (h .written)) place job → ⊥
-  no-job-at k job r =
-      let m = h .many in
-      let a = r .number in
-      omega (arith, ap length (r .are), length-append (r .before) (job ∷ r .behind))
-
-  pub no-job-zero : place ≡ 0 → (job : Job) → Nth (values (h .written)) place job → ⊥
-  no-job-zero z job r = let a = r .number in omega arith
+  pub no-job-at : (place ≡ 0) ⊎ (n < place) → (place ≡ 0) ⊎ (count (h .written) < place)
+  no-job-at none = ⊎-elim inl (λ k. inr (omega (arith, h .many, values-many (h .written)))) none

@@ -30,10 +30,10 @@ pub data BookText (fill : ℕ → ℕ → Coefficient) (b text : List ℕ) : Typ
   refused : {n row : ℕ} → book.BookSays b (book.refused n row) → text ≡ book-text n row → BookText fill b text
   jobs : {js : Jobs} → JobBook b js → JobsText fill js text → BookText fill b text
 
--- that text in a buffer that held `before` and holds `after` then: its `len` bytes from the start, for which there is room, and the rest untouched
+-- that text in a buffer that held `before`, which has room for it, and holds `after` then: its `len` bytes from the start, and the rest untouched
 pub record BookPrinted (fill : ℕ → ℕ → Coefficient) (b before after : List ℕ) (len : ℕ) : Type 0 where
   pub text : List ℕ
   pub is : BookText fill b text
   pub long : len ≡ length text
-  pub fits : len ≤ length after
+  pub fits : length text ≤ length before
   pub whole : after ≡ text ++ drop (length text) before

@@ -1,10 +1,11 @@
 -- Document 01, Refusals of a book and The printed answer: a call for one job's lines, named by its place in the book, from 1.
 use Prim.Native.Nat.{ℕ, _≤_, _<_}
 use mathlib.Core.Path.{_≡_}
+use mathlib.Core.Logic.{_⊎_}
 use mathlib.Core.List.{List, _++_}
 use lib.ListN.{length, drop}
 use Rattle.jobs.specs.declared.Job.{Job}
-use Rattle.book.specs.JobBook.{Jobs, JobBook}
+use Rattle.book.specs.JobBook.{Jobs, count, JobBook}
 use Rattle.book.specs.Values.{values}
 use Rattle.book.specs.Says as book
 use Rattle.earth.specs.declared.table2.Coefficient.{Coefficient}
@@ -16,7 +17,7 @@ use Rattle.debtarush.specs.CallTold.{CallTold, written, refused}
 -- "Nothing is written by a call refused with 1 to 7 or 10. Otherwise exactly the lines' bytes are written from the start and the rest is untouched"
 pub data Called (fill : ℕ → ℕ → Coefficient) (b : List ℕ) (place : ℕ) (before after : List ℕ) (t : CallTold) : Type 0 where
   no-book : {n row : ℕ} → book.BookSays b (book.refused n row) → after ≡ before → t ≡ refused n row → Called fill b place before after t
-  no-place : {js : Jobs} → JobBook b js → ((job : Job) → Nth (values js) place job → ⊥) → after ≡ before → t ≡ refused 10 0 → Called fill b place before after t
+  no-place : {js : Jobs} → JobBook b js → (place ≡ 0) ⊎ (count js < place) → after ≡ before → t ≡ refused 10 0 → Called fill b place before after t
   too-short : {js : Jobs} {job : Job} {bytes : List ℕ} → JobBook b js → Nth (values js) place job → TextOf fill job bytes → length before < length bytes → after ≡ before
       → t ≡ refused 7 0 → Called fill b place before after t
   lines : {js : Jobs} {job : Job} {bytes : List ℕ} → JobBook b js → Nth (values js) place job → TextOf fill job bytes → length bytes ≤ length before

@@ -74,6 +74,7 @@ fn append(out: &mut [u8], at: usize, block: Block) -> usize
 // is read once.
 pub fn book_lines(book: &[u8], out: &mut [u8; 131072]) -> usize
     ensures { λ r. ⌜ BookPrinted table2-fill (now (book .entry)) (now (out .entry)) (now (out .exit)) r ⌝ }
+    ensures within { λ r. ⌜ r ≤ length (now (out .exit)) ⌝ }
 {
     let read = book::read_book(book);
     let count = read.count;

@@ -12,6 +12,7 @@ use Rattle.csv.specs.Nth.{Nth}
 use Rattle.book.proofs.Answers.{refused-none, book-one}
 use Rattle.csv.proofs.notes.Answers.{nth-one}
 use Rattle.earth.specs.declared.table2.Coefficient.{Coefficient}
+use Rattle.debtarush.proofs.Locating.{job-there}
 use Rattle.debtarush.specs.Lines.{TextOf}
 use Rattle.debtarush.specs.CallTold.{CallTold, written, refused}
 use Rattle.debtarush.specs.Called.{Called, no-book, no-place, too-short, lines}
@@ -26,7 +27,7 @@ module _ {fill : ℕ → ℕ → Coefficient} {b : List ℕ} {place : ℕ} {js :
 
   pub call-on-job : {before after : List ℕ} {t : CallTold} → Called fill b place before after t → CallOnJob fill job before after t
   call-on-job (no-book s a e) = absurd (refused-none s js book)
-  call-on-job (no-place p n a e) = absurd (n job (subst (λ (l : Jobs). Nth (values l) place job) (book-one book p) at))
+  call-on-job (no-place p n a e) = absurd (job-there book p at n)
   call-on-job (too-short p r s l a e) = short (own-text p r s) l e
   call-on-job (lines p r s l a e) = full (own-text p r s) l a e
 

@@ -6,7 +6,7 @@ use mathlib.Core.Logic.{_⊎_}
 use mathlib.Core.List.{List, _++_}
 use lib.ListN.{length, drop}
 use Rattle.jobs.specs.declared.Job.{Job}
-use Rattle.book.specs.JobBook.{Jobs, JobBook}
+use Rattle.book.specs.JobBook.{Jobs, count, JobBook}
 use Rattle.book.specs.Values.{values}
 use Rattle.book.specs.Says as book
 use Rattle.earth.specs.declared.table2.Coefficient.{Coefficient}
@@ -25,7 +25,7 @@ pub record CallInOrder (fill : ℕ → ℕ → Coefficient) (b : List ℕ) (plac
   -- first the book's refusal, whatever the place and the buffer
   pub book-first : (n row : ℕ) → book.BookSays b (book.refused n row) → t ≡ refused n row
   -- then 10, whatever the buffer
-  pub then-place : (js : Jobs) → JobBook b js → ((job : Job) → Nth (values js) place job → ⊥) → t ≡ refused 10 0
+  pub then-place : (js : Jobs) → JobBook b js → (place ≡ 0) ⊎ (count js < place) → t ≡ refused 10 0
   -- then 7
   pub then-buffer : (js : Jobs) (job : Job) (text : List ℕ) → JobBook b js → Nth (values js) place job → TextOf fill job text → length before < length text → t ≡ refused 7 0
   -- else exactly the lines' bytes from the start, and the rest untouched

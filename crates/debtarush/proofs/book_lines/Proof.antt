@@ -5,6 +5,7 @@ use native.Mathlib.Omega.{arith}
 use Rattle.earth.specs.table2.Table2.{table2-fill}
 use Rattle.debtarush.proofs.Locating.{Held, held, refusal, within}
 use Rattle.debtarush.proofs.InOrder.{SoFar, so-far-none, so-far-more, printed-jobs, printed-refusal}
+use Rattle.debtarush.proofs.BookTexts.{printed-within}
 use borrow.Author.Needs.{needs}
 use Rattle.debtarush.proofs.book_lines.Statement.{statement}
 use Rattle.debtarush.proofs.book_lines.Tie as tie
@@ -71,17 +72,20 @@ loop-less c = search needs
 loop-again : tie.Need-loop-again Inv-loop μ-loop
 loop-again c =
     let turn = c .before .before .before .before in
-    (omega arith, so-far-more _ (within (jobs (turn .before .before)) (omega arith)) (turn .before .loop .inv .1) (c .before .lines-of .ensures) (c .append2 .ensures))
+    (omega arith, so-far-more _ (within (jobs (turn .before .before)) (omega arith)) (turn .before .loop .inv .1) (omega (arith, there turn, turn .before .loop .inv .1 .short)) (c .before .lines-of .ensures) (c .append2 .ensures))
 
 returns : tie.Need-returns Inv-loop μ-loop
 returns c =
     let line = c .before .before in
     let count = line .before .before .before in
-    printed-refusal (refusal (count .before .before .read-book .ensures) (count .count .given .1)) (line .before .number-of .ensures)
-    (line .book-line .ensures .0) (line .book-line .ensures .1) (c .append .ensures)
+    let p = printed-refusal (refusal (count .before .before .read-book .ensures) (count .count .given .1)) (line .before .number-of .ensures) (line .book-line .ensures .0)
+    (line .book-line .ensures .1) (c .append .ensures) (omega arith) in
+    (p, printed-within p)
 
 returns-2 : tie.Need-returns-2 Inv-loop μ-loop
-returns-2 c = printed-jobs (jobs (c .before .before)) (c .before .loop .inv .0) (omega arith) (c .before .loop .inv .1)
+returns-2 c =
+    let p = printed-jobs (jobs (c .before .before)) (c .before .loop .inv .0) (omega arith) (c .before .loop .inv .1) in
+    (p, printed-within p)
 
 pub book-lines-spec : {M : Type 1} → statement M
 book-lines-spec =

@@ -3,7 +3,7 @@
 use Prim.Native.Nat.{ℕ, _≤_, _<_}
 use native.Mathlib.Omega.{arith}
 use mathlib.Core.Path.{_≡_, refl, sym, ap}
-use mathlib.Core.Logic.{_⊎_, inl, inr, ⊎-elim}
+use mathlib.Core.Logic.{_⊎_, inl, inr}
 use mathlib.Core.Bool.{_||_}
 use lib.Dec.{ltb, eqb}
 use Rattle.arithmetic.specs.decides.Decides.{Decides}
@@ -12,7 +12,7 @@ use Rattle.buffer.specs.declared.Copied.{Copied}
 use Rattle.buffer.specs.Copying as buffer
 use Rattle.debtarush.specs.Called.{no-book, no-place}
 use Rattle.debtarush.proofs.Delivering.{as-told, call-delivered}
-use Rattle.debtarush.proofs.Locating.{Held, held, refusal, job-at, no-job-at, no-job-zero}
+use Rattle.debtarush.proofs.Locating.{Held, held, refusal, job-at, no-job-at}
 use borrow.Author.Needs.{needs}
 use Rattle.debtarush.proofs.job_lines.Statement.{statement}
 use Rattle.debtarush.proofs.job_lines.Tie as tie
@@ -58,7 +58,7 @@ returns : tie.Need-returns
 returns c =
     let h = jobs (c .before) in
     let none = decided _ (c .if1 .taken) (outside (place (c .before)) (many (c .before))) in
-    no-place (h .book) (⊎-elim (no-job-zero h _) (no-job-at h _) none) refl refl
+    no-place (h .book) (no-job-at h _ none) refl refl
 
 sub-at : tie.Need-sub-at
 sub-at c = let p = there c in omega arith
