@@ -1,4 +1,4 @@
--- Two jobs that are the same by key, kinds and numbers, though every note differs.
+-- Jobs that are the same by key, kinds and numbers, whatever their notes: document 01, the job book, "The note .. is never interpreted".
 use mathlib.Core.Path.{_≡_}
 use mathlib.Core.List.{List, [], _∷_, _++_}
 use Rattle.rows.specs.Form.{BookRow}
@@ -10,6 +10,7 @@ abbrev pub keyed-rows : List BookRow → List Keyed
 keyed-rows [] = []
 keyed-rows (r ∷ rs) = r .keyed ∷ keyed-rows rs
 
+-- two jobs with one key, kinds and numbers
 abbrev pub SameJob : WrittenJob → WrittenJob → Type 0
 SameJob a b = keyed-rows (job-rows a) ≡ keyed-rows (job-rows b)
 

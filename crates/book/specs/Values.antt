@@ -6,12 +6,13 @@ use Rattle.kinds.specs.Table.{blank-numbers}
 use Rattle.kinds.specs.declared.Numbers.{Numbers}
 use Rattle.kinds.specs.declared.Row.{Row}
 use Rattle.rows.specs.Form.{BookRow}
-use Rattle.rows.specs.keys.Keyed.{no-row}
+use Rattle.kinds.specs.declared.Kind.the-variants.{B}
 use Rattle.jobs.specs.declared.Job.{Job}
 use Rattle.jobs.specs.declared.stages.Stage.{Stage}
 use Rattle.jobs.specs.declared.stages.Stage.the-variants.{Dry, Scoured, Crossed}
 use Rattle.book.specs.JobBook.{River, dry, scoured, crossed, WrittenJob, job, Jobs, none, _and_}
 
+-- which river rows a job has, and their numbers
 abbrev pub stage-of : River → Stage
 stage-of dry = Dry
 stage-of (scoured s) = Scoured
@@ -40,7 +41,7 @@ job-value (job b v ls) = record {
   scour = scour-of v;
   clearance = clearance-of v;
   count = length ls;
-  loads = load-rows ls ++ replicate (16 - length ls) (no-row .row);
+  loads = load-rows ls ++ replicate (16 - length ls) (record { kind = B; numbers = blank-numbers });
 }
 
 abbrev pub values : Jobs → List Job

@@ -17,11 +17,12 @@ side SL = lowest
 side PR = highest
 side RK = highest
 
--- the first figure is worse than the second
+-- the first number is worse than the second
 unfoldable pub WorseNumber : Side → ℕ → ℕ → Type 0
 WorseNumber lowest a b = a < b
 WorseNumber highest a b = b < a
 
+-- the first figure is worse than the second
 unfoldable pub Worse : Side → Figure → Figure → Type 0
 unfolding WorseNumber
 Worse s Off Off = ⊥

@@ -1,5 +1,5 @@
 -- Document 01, The printed answer: the text of a whole book. "The printing program reads a book .. and prints its jobs in book order."
--- "A refused book prints `,,BOOK,number,row,,`." It is said of the book alone, and nothing here reads.
+-- "A refused book prints `,,BOOK,number,row,,`."
 use Prim.Native.Nat.{ℕ, _≤_}
 use mathlib.Core.Path.{_≡_}
 use mathlib.Core.List.{List, [], _++_}

@@ -1,4 +1,5 @@
--- The four demands, of the program: with Table 2, as it holds it.
+-- The four demands, with document 01's Table 2. They are said of `Called` and `BookPrinted`: that each call ends, with an answer as these have
+-- it, is the promise of `debtarush::job_lines` and `debtarush::book_lines`, which asks nothing.
 use Rattle.earth.specs.table2.Table2.{table2-fill}
 use Rattle.demands.specs.Demand1.{Demand1}
 use Rattle.demands.specs.Demand2.{Demand2}

@@ -3,7 +3,7 @@
 // The answer for a stretch is exact whether or not it is a field of RFC 4180. A name is a value of its own: its bytes with zeros behind
 // them, so that one content gives one name, and two contents two.
 ghost use mathlib.Core.Path.{_≡_};
-ghost use Rattle.fields.specs.names.Names.{no-name};
+ghost use Rattle.fields.specs.names.NameAt.{no-name};
 ghost use Rattle.fields.specs.names.NameAt.{NameAt};
 
 // A member or a job: its bytes, with zeros behind them.

@@ -14,7 +14,7 @@ use Rattle.kinds.specs.declared.Numbers.{Numbers}
 abbrev pub six : Column → Column → Column → Column → Column → Column → Columns
 six a b c d e f = record { n1 = a; n2 = b; n3 = c; n4 = d; n5 = e; n6 = f }
 
--- V kN, down positive; x mm; H kN; y mm; phase
+-- V kN, down positive; x mm, measured from the base centre; H kN, positive toward +x; y mm above the base; phase
 abbrev pub load-columns : Columns
 load-columns = six (Signed 50000 50000) (Signed 30000 30000) (Signed 50000 50000) (Filled 0 60000) (Filled 0 2) Empty
 

@@ -16,7 +16,7 @@ use Rattle.kinds.specs.declared.Kind.{Kind}
 use Rattle.kinds.specs.declared.Numbers.{Numbers}
 use Rattle.kinds.proofs.letters.Letters.{letters-one}
 use Rattle.kinds.proofs.Answers.{means-one}
-use Rattle.rows.specs.Form.{BookRow, Ten, in-order, Six, Form}
+use Rattle.rows.specs.Form.{BookRow, Ten, cells-of, Six, Form}
 use Rattle.rows.specs.Answer.{raw, content, first-ten, RowGiven, SeenAt}
 use Rattle.rows.specs.declared.keys.Keyed.{Keyed}
 use Rattle.rows.specs.declared.RowRead.{RowRead}
@@ -32,7 +32,7 @@ all-from zero k cs h = let l : length cs ≤ k = omega arith in drop-of-length-l
 all-from (suc n) k cs h = drop-cons cs k no-cell (omega arith) ∙ ap (λ (l : List Cell). getD cs k no-cell ∷ l) (all-from n (suc k) cs (omega arith))
 
 -- ten cells are the ten fields in their order
-pub ten-cells : (cs : List Cell) → length cs ≡ 10 → cs ≡ in-order (first-ten cs)
+pub ten-cells : (cs : List Cell) → length cs ≡ 10 → cs ≡ cells-of (first-ten cs)
 unfolding from
 ten-cells cs h = all-from 10 0 cs h
 

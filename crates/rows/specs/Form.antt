@@ -28,9 +28,9 @@ pub record Ten : Type 0 where
   pub n6 : Cell
   pub note : Cell
 
--- in their order
-abbrev pub in-order : Ten → List Cell
-in-order t = t .member ∷ t .job ∷ t .kind ∷ t .n1 ∷ t .n2 ∷ t .n3 ∷ t .n4 ∷ t .n5 ∷ t .n6 ∷ t .note ∷ []
+-- as a row has them, in their order
+abbrev pub cells-of : Ten → List Cell
+cells-of t = t .member ∷ t .job ∷ t .kind ∷ t .n1 ∷ t .n2 ∷ t .n3 ∷ t .n4 ∷ t .n5 ∷ t .n6 ∷ t .note ∷ []
 
 -- n1 to n6, each by its column
 pub record Six (c : Columns) (t : Ten) (n : Numbers) : Type 0 where
@@ -44,7 +44,7 @@ pub record Six (c : Columns) (t : Ten) (n : Numbers) : Type 0 where
 -- the cells of a row, and the row that they mean
 pub record Form (cs : List Cell) (r : BookRow) : Type 0 where
   pub ten : Ten
-  pub are : cs ≡ in-order ten
+  pub are : cs ≡ cells-of ten
   pub member : NameOf (ten .member .content) (r .keyed .key .member)
   pub job : NameOf (ten .job .content) (r .keyed .key .job)
   pub kind : ten .kind .content ≡ letters (r .keyed .row .kind)

@@ -34,6 +34,7 @@ own-phase II = 0
 own-phase III = 0
 own-phase IV = 1
 
+-- a row of this phase acts in the combination: of its own phase, or of both
 unfoldable pub Acts : Combination → ℕ → Type 0
 Acts combination phase = (phase ≡ own-phase combination) ⊎ (phase ≡ 2)
 

@@ -26,13 +26,15 @@ unfolding counted
 sum gives loads set zero = 0
 sum gives loads set (suc n) = sum gives loads set n + counted (bit set n) (gives (row loads n))
 
--- N sums V; M sums 2Vx + 2Hy.
+-- "N sums V"
 unfoldable pub N : Loads → ℕ → ℤ
 N loads set = sumℤ (λ load. worth (load .v)) loads set (loads .count)
 
+-- the sum of H
 unfoldable pub H : Loads → ℕ → ℤ
 H loads set = sumℤ (λ load. worth (load .h)) loads set (loads .count)
 
+-- "M sums 2Vx+2Hy"
 unfoldable pub moment : Load → ℤ
 moment load = pos 2 *ℤ (worth (load .v) *ℤ worth (load .x)) +ℤ pos 2 *ℤ worth (load .twist)
 

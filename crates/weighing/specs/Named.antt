@@ -5,7 +5,7 @@ use lib.Count.{ones}
 use Rattle.checks.specs.declared.Figure.{Figure}
 use Rattle.checks.specs.Order.{Side, Worse}
 
--- Among the sets with P, each of which shows a figure, the line prints v and names s. No order of going through the sets is part of it.
+-- Among the sets with P, each of which shows a figure, the line prints v and names s.
 pub record Named (side : Side) (P : ℕ → Type 0) (Shown : ℕ → Figure → Type 0) (v : Figure) (s : ℕ) : Type 0 where
   -- s is one of the sets, and its figure is v;
   pub permitted : P s

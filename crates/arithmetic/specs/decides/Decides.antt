@@ -1,4 +1,4 @@
--- What a yes-or-no answer says, and the laws by which callers use one.
+-- What a yes-or-no answer says.
 use mathlib.Core.Bool.{Bool, true, false}
 
 -- the answer true says P, and false says that P does not hold

@@ -1,4 +1,4 @@
--- Document 01, Load sets: the figures OP, OM, SL, PR and RK of a set.
+-- Document 01, Load sets: the figure that each check shows of a set, by the sums of the set.
 use Prim.Native.Nat.{ℕ}
 use lib.IntN.{natAbs}
 use Rattle.arithmetic.specs.signed.Whole.{above}

@@ -1,6 +1,6 @@
--- RFC 4180, section 2, as a relation between a text's bytes and its rows. Every line of the ABNF has its own data type here, with a constructor for
--- each alternative. Two choices that the ABNF leaves open are the customer's: a final CRLF closes the last row and starts none, and the empty text
--- is one row with one empty field. A text and its rows are related, or they are not.
+-- RFC 4180, section 2, as a relation between a text's bytes and its rows. Each rule of the ABNF that a text without a header
+-- uses stands here, with a constructor for each alternative. Two choices that the ABNF leaves open are the customer's: a final CRLF closes the
+-- last row and starts none, and the empty text is one row with one empty field.
 use Prim.Native.Nat.{ℕ, _≤_}
 use mathlib.Core.Path.{_≡_}
 use mathlib.Core.List.{List, [], _∷_, _++_}

@@ -1,7 +1,7 @@
 -- Document 01, the job book: "Member and job: 1 to 12 of A-Z, 0-9, hyphen".
 use Prim.Native.Nat.{ℕ, _-_, _≤_, _<_}
 use mathlib.Core.Path.{_≡_}
-use mathlib.Core.List.{List, [], _++_}
+use mathlib.Core.List.{List, _++_}
 use lib.ListN.{length, getD, replicate}
 use Rattle.fields.specs.declared.names.Name.{Name}
 
@@ -25,6 +25,3 @@ name c = record { len = length c; bytes = c ++ replicate (12 - length c) 0 }
 pub record NameOf (c : List ℕ) (n : Name) : Type 0 where
   pub is : IsName c
   pub held : n ≡ name c
-
-abbrev pub no-name : Name
-no-name = name []

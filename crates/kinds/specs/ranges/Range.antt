@@ -35,6 +35,7 @@ InRange Empty e = Unit {0}
 InRange (Filled low high) e = Between low high e
 InRange (Signed below above) e = Around below above e
 
+-- every entry is in the range of its column
 pub record InColumns (c : Columns) (n : Numbers) : Type 0 where
   pub n1 : InRange (c .n1) (n .n1)
   pub n2 : InRange (c .n2) (n .n2)
