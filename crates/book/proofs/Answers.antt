@@ -138,26 +138,28 @@ begun-by : {css : List (List Cell)} {rs : List BookRow} {js : Jobs} → Begins c
 begun-by {rs = rs} {js = js} b = record { typed = rs; jobs = js; begins = b }
 
 -- a bad row, and rows that go on beyond it, with which a job book begins
-not-beyond : {why : ℕ} {rows css : List (List Cell)} {n : ℕ} (f : FirstBad why rows n) → Beyond (f .before) (f .row) css → Begun css → ⊥
+not-beyond : {why : ℕ} {rows css : List (List Cell)} {n : ℕ} (f : FirstBad why rows n) → Beyond (f .at .before) (f .row) css → Begun css → ⊥
 not-beyond f w b =
-    let v = subst Begun (w .are ∙ sym (append-snoc (f .before) (f .row) (w .mid))) b in
-    stops (f .begins) (f .row) (f .bad) (shorter (f .before ++ f .row ∷ []) (w .mid) v)
+    let v = subst Begun (w .are ∙ sym (append-snoc (f .at .before) (f .row) (w .mid))) b in
+    stops (f .begins) (f .row) (f .bad) (shorter (f .at .before ++ f .row ∷ []) (w .mid) v)
 
 none-begun : {why : ℕ} {rows : List (List Cell)} {n : ℕ} (f : FirstBad why rows n) → Begun rows → ⊥
-none-begun f b = not-beyond f (record { mid = f .behind; are = f .split }) b
+none-begun f b = not-beyond f (record { mid = f .at .behind; are = f .at .are }) b
 
 first-one : {why na : ℕ} {rows : List (List Cell)} {n m : ℕ} → FirstBad why rows n → FirstBad na rows m → (why ≡ na) × (n ≡ m)
 first-one {na = na} f g =
-    let both : f .before ++ f .row ∷ f .behind ≡ g .before ++ g .row ∷ g .behind = sym (f .split) ∙ g .split in
-    by-cases (decLt (length (f .before)) (length (g .before)))
-    (λ a. absurd (not-beyond f (beyond (f .before) (g .before) (f .behind) (g .behind) (f .row) (g .row) both a) (begun-by (g .begins))))
+    let p = f .at in
+    let q = g .at in
+    let both : p .before ++ f .row ∷ p .behind ≡ q .before ++ g .row ∷ q .behind = sym (p .are) ∙ q .are in
+    by-cases (decLt (length (p .before)) (length (q .before)))
+    (λ a. absurd (not-beyond f (beyond (p .before) (q .before) (p .behind) (q .behind) (f .row) (g .row) both a) (begun-by (g .begins))))
     (λ a.
-    by-cases (decLt (length (g .before)) (length (f .before)))
-    (λ b. absurd (not-beyond g (beyond (g .before) (f .before) (g .behind) (f .behind) (g .row) (f .row) (sym both) b) (begun-by (f .begins))))
+    by-cases (decLt (length (q .before)) (length (p .before)))
+    (λ b. absurd (not-beyond g (beyond (q .before) (p .before) (q .behind) (p .behind) (g .row) (f .row) (sym both) b) (begun-by (f .begins))))
     (λ b.
-    let w = level (f .before) (g .before) (f .behind) (g .behind) (f .row) (g .row) both (omega arith) in
-    let x = f .number in
-    let y = g .number in
+    let w = level (p .before) (q .before) (p .behind) (q .behind) (f .row) (g .row) both (omega arith) in
+    let x = p .number in
+    let y = q .number in
     let u = forms-one (f .begins .forms) (subst (λ (c : List (List Cell)). Forms c (g .typed)) (sym (w .0)) (g .begins .forms)) in
     let k = subst (λ (t : List BookRow). Bad t (f .row) na) (sym u) (subst (λ (c : List Cell). Bad (g .typed) c na) (sym (w .1)) (g .bad)) in
     (bad-one (f .begins) (f .row) (f .bad) k, omega (arith, ap length (w .0)))))

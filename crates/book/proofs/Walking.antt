@@ -115,7 +115,7 @@ module _ {s : List ℕ} {last : Job} {jobs : List Job} {keys : List Key} {n row 
   first-bad x =
       let w = i .reached in
       bad-row (i .size) (w .reading)
-      (record { before = i .passed; row = cs; behind = w .behind; split = w .are; number = w .number; typed = i .typed; jobs = i .written; begins = i .begins; bad = x }) refl
+      (record { row = cs; at = record { before = i .passed; behind = w .behind; are = w .are; number = w .number }; typed = i .typed; jobs = i .written; begins = i .begins; bad = x }) refl
 
   walk-formless : r .good ≡ false → BookSays s (refused 3 row)
   walk-formless g = first-bad (formless (subst (λ (x : Bool). RowGiven x cs (r .row)) g (seen .means) .0))

@@ -3,6 +3,7 @@ use Prim.Native.Nat.{ℕ, _+_, _≤_, _<_}
 use mathlib.Core.Path.{_≡_}
 use mathlib.Core.List.{List, [], _∷_, _++_}
 use lib.ListN.{length}
+use Rattle.csv.specs.Nth.{Nth}
 use Rattle.csv.specs.rfc4180.Rfc4180.{Cell, File, Readable}
 use Rattle.rows.specs.Form.{BookRow, Form}
 use Rattle.jobs.specs.declared.Job.{Job}
@@ -47,14 +48,11 @@ pub data Bad (rs : List BookRow) (cs : List Cell) : ℕ → Type 0 where
 
 -- row n is the first bad one: a job book may begin with the rows before it, and not with it too
 pub record FirstBad (why : ℕ) (rows : List (List Cell)) (n : ℕ) : Type 0 where
-  pub before : List (List Cell)
   pub row : List Cell
-  pub behind : List (List Cell)
-  pub split : rows ≡ before ++ row ∷ behind
-  pub number : n ≡ length before + 1
+  pub at : Nth rows n row
   pub typed : List BookRow
   pub jobs : Jobs
-  pub begins : Begins before typed jobs
+  pub begins : Begins (at .before) typed jobs
   pub bad : Bad typed row why
 
 -- all rows begin a job book, and the last job lacks a load row
