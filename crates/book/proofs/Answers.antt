@@ -18,7 +18,7 @@ use Rattle.book.specs.JobBook.{Jobs, count, Different, rows-of, Forms, n
 use Rattle.book.specs.Beginning.{Loaded, Placed, Begins}
 use Rattle.book.specs.counted.Places.{places}
 use Rattle.book.specs.Values.{values}
-use Rattle.book.specs.Says.{BookTold, given, refused, formless, misplaced, surplus, reused, Unplaced, Surplus, Reused, Bad, FirstBad, Unfinished, BookSays, too-long, not-csv, bad-row, unfinished, book}
+use Rattle.book.specs.Says.{BookTold, given, refused, formless, misplaced, surplus, reused, Bad, FirstBad, Unfinished, BookSays, too-long, not-csv, bad-row, unfinished, book}
 use Rattle.book.specs.Reading.{book-told, jobs-told, BookIs, CountIs}
 use Rattle.rows.specs.refusals.Numbers.{refusal-number}
 use Rattle.rows.proofs.refusals.Numbers.{number-one}
@@ -70,56 +70,46 @@ shorter : (os bs : List (List Cell)) → Begun (os ++ bs) → Begun os
 shorter os [] b = rw append-nil at b
 shorter os (x ∷ bs) b = less os x (shorter (os ++ x ∷ []) bs (rw append-assoc b))
 
--- no job book begins with the rows up to a bad one
-module _ {css : List (List Cell)} {ts : List BookRow} {js : Jobs} (b : Begins css ts js) (cs : List Cell) where
-  stops : {why : ℕ} → Bad ts cs why → Begun (css ++ cs ∷ []) → ⊥
-  stops h u =
+module _ (ts : List BookRow) {cs : List Cell} where
+  -- a row has one form, so it has one place, and its jobs are the same
+  moved : {r q : BookRow} {ks : Jobs} → Form cs r → Form cs q → Placed (ts ++ q ∷ []) ks → Placed (ts ++ r ∷ []) ks
+  moved {ks = ks} f g p = subst (λ (x : BookRow). Placed (ts ++ x ∷ []) ks) (form-one g f) p
+
+  jobs-one : {r q : BookRow} {js ks : Jobs} → Form cs r → Form cs q → Placed (ts ++ r ∷ []) js → Placed (ts ++ q ∷ []) ks → js ≡ ks
+  jobs-one f g p q = placed-one p (moved f g q)
+
+  -- no job book begins with rows of which the last is bad
+  not-with : {why : ℕ} {r : BookRow} {ks : Jobs} → Bad ts cs why → Form cs r → Placed (ts ++ r ∷ []) ks → count ks ≤ 64 → Different ks → ⊥
+  not-with {r = r} (formless h) g p n d = h r g
+  not-with {ks = ks} (misplaced f h) g p n d = h ks (moved f g p)
+  not-with (surplus f q m) g p n d = let e = jobs-one f g q p in omega (arith, ap count e)
+  not-with (reused f q m h) g p n d = h (subst Different (sym (jobs-one f g q p)) d)
+
+  stops : {css : List (List Cell)} {js : Jobs} {why : ℕ} → Begins css ts js → Bad ts cs why → Begun (css ++ cs ∷ []) → ⊥
+  stops {css} b h u =
       let w = cut css cs (u .begins .forms) in
       let e = forms-one (b .forms) (w .forms) in
       let p = subst (λ (l : List BookRow). Placed (l ++ w .last ∷ []) (u .jobs)) (sym e) (subst (λ (l : List BookRow). Placed l (u .jobs)) (w .are) (u .begins .placed)) in
-      by h (w .last) (w .form) (u .jobs) p (u .begins .few) (u .begins .different)
-    where
-      moved : (r q : BookRow) (ks : Jobs) → Form cs r → Form cs q → Placed (ts ++ q ∷ []) ks → Placed (ts ++ r ∷ []) ks
-      moved r q ks f g p = subst (λ (x : BookRow). Placed (ts ++ x ∷ []) ks) (form-one g f) p
+      not-with h (w .form) p (u .begins .few) (u .begins .different)
 
-      by : {why : ℕ} → Bad ts cs why → (r : BookRow) → Form cs r → (ks : Jobs) → Placed (ts ++ r ∷ []) ks → count ks ≤ 64 → Different ks → ⊥
-      by (formless h) r f ks p n d = h r f
-      by (misplaced h) r f ks p n d = h .nowhere ks (moved (h .row) r ks (h .form) f p)
-      by (surplus h) r f ks p n d =
-          let e = placed-one (h .placed) (moved (h .row) r ks (h .form) f p) in
-          let m = h .many in
-          omega (arith, ap count e)
-      by (reused h) r f ks p n d =
-          let e = placed-one (h .placed) (moved (h .row) r ks (h .form) f p) in
-          h .same (subst Different (sym e) d)
-
-  nowhere : Unplaced ts cs → (r : BookRow) → Form cs r → (ks : Jobs) → Placed (ts ++ r ∷ []) ks → ⊥
-  nowhere h r f ks p = h .nowhere ks (subst (λ (x : BookRow). Placed (ts ++ x ∷ []) ks) (form-one f (h .form)) p)
-
-  apart : Surplus ts cs → Reused ts cs → ⊥
-  apart h k =
-      let e = placed-one (h .placed) (subst (λ (x : BookRow). Placed (ts ++ x ∷ []) (k .jobs)) (form-one (k .form) (h .form)) (k .placed)) in
-      let m = h .many in
-      let n = k .few in
-      omega (arith, ap count e)
-
+  -- a bad row is bad in one way
   bad-one : {why na : ℕ} → Bad ts cs why → Bad ts cs na → why ≡ na
   bad-one (formless h) (formless k) = refl
-  bad-one (formless h) (misplaced k) = absurd (h (k .row) (k .form))
-  bad-one (formless h) (surplus k) = absurd (h (k .row) (k .form))
-  bad-one (formless h) (reused k) = absurd (h (k .row) (k .form))
-  bad-one (misplaced h) (formless k) = absurd (k (h .row) (h .form))
-  bad-one (misplaced h) (misplaced k) = refl
-  bad-one (misplaced h) (surplus k) = absurd (nowhere h (k .row) (k .form) (k .jobs) (k .placed))
-  bad-one (misplaced h) (reused k) = absurd (nowhere h (k .row) (k .form) (k .jobs) (k .placed))
-  bad-one (surplus h) (formless k) = absurd (k (h .row) (h .form))
-  bad-one (surplus h) (misplaced k) = absurd (nowhere k (h .row) (h .form) (h .jobs) (h .placed))
-  bad-one (surplus h) (surplus k) = refl
-  bad-one (surplus h) (reused k) = absurd (apart h k)
-  bad-one (reused h) (formless k) = absurd (k (h .row) (h .form))
-  bad-one (reused h) (misplaced k) = absurd (nowhere k (h .row) (h .form) (h .jobs) (h .placed))
-  bad-one (reused h) (surplus k) = absurd (apart k h)
-  bad-one (reused h) (reused k) = refl
+  bad-one (formless h) (misplaced {r} g k) = absurd (h r g)
+  bad-one (formless h) (surplus {r} g q n) = absurd (h r g)
+  bad-one (formless h) (reused {r} g q n k) = absurd (h r g)
+  bad-one (misplaced {r} f h) (formless k) = absurd (k r f)
+  bad-one (misplaced f h) (misplaced g k) = refl
+  bad-one (misplaced f h) (surplus {js = ks} g q n) = absurd (h ks (moved f g q))
+  bad-one (misplaced f h) (reused {js = ks} g q n k) = absurd (h ks (moved f g q))
+  bad-one (surplus {r} f p m) (formless k) = absurd (k r f)
+  bad-one (surplus {js = js} f p m) (misplaced g k) = absurd (k js (moved g f p))
+  bad-one (surplus f p m) (surplus g q n) = refl
+  bad-one (surplus f p m) (reused g q n k) = absurd (omega (arith, ap count (jobs-one f g p q)))
+  bad-one (reused {r} f p m h) (formless k) = absurd (k r f)
+  bad-one (reused {js = js} f p m h) (misplaced g k) = absurd (k js (moved g f p))
+  bad-one (reused f p m h) (surplus g q n) = absurd (omega (arith, ap count (jobs-one f g p q)))
+  bad-one (reused f p m h) (reused g q n k) = refl
 
 -- two places in one list: the longer beginning has the shorter one's next element
 record Beyond {A : Type 0} (os : List A) (x : A) (cs : List A) : Type 0 where
@@ -141,7 +131,7 @@ begun-by {rs = rs} {js = js} b = record { typed = rs; jobs = js; begins = b }
 not-beyond : {why : ℕ} {rows css : List (List Cell)} {n : ℕ} (f : FirstBad why rows n) → Beyond (f .at .before) (f .row) css → Begun css → ⊥
 not-beyond f w b =
     let v = subst Begun (w .are ∙ sym (append-snoc (f .at .before) (f .row) (w .mid))) b in
-    stops (f .begins) (f .row) (f .bad) (shorter (f .at .before ++ f .row ∷ []) (w .mid) v)
+    stops (f .typed) (f .begins) (f .bad) (shorter (f .at .before ++ f .row ∷ []) (w .mid) v)
 
 none-begun : {why : ℕ} {rows : List (List Cell)} {n : ℕ} (f : FirstBad why rows n) → Begun rows → ⊥
 none-begun f b = not-beyond f (record { mid = f .at .behind; are = f .at .are }) b
@@ -162,7 +152,7 @@ first-one {na = na} f g =
     let y = q .number in
     let u = forms-one (f .begins .forms) (subst (λ (c : List (List Cell)). Forms c (g .typed)) (sym (w .0)) (g .begins .forms)) in
     let k = subst (λ (t : List BookRow). Bad t (f .row) na) (sym u) (subst (λ (c : List Cell). Bad (g .typed) c na) (sym (w .1)) (g .bad)) in
-    (bad-one (f .begins) (f .row) (f .bad) k, omega (arith, ap length (w .0)))))
+    (bad-one (f .typed) (f .bad) k, omega (arith, ap length (w .0)))))
 
 -- what the rows of a text say, by what a job book may begin with
 data RowsSay (rows : List (List Cell)) (t : BookTold) : Type 0 where

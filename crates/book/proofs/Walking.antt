@@ -133,13 +133,7 @@ module _ {s : List ℕ} {last : Job} {jobs : List Job} {keys : List Key} {n row 
 
     walk-misplaced : (InPlace last (r .row) → ⊥) → BookSays s (refused 4 row)
     walk-misplaced w =
-        first-bad
-        (misplaced
-        (record {
-          row = this;
-          form = means;
-          nowhere = λ ks q. w (subst (λ (j : Job). InPlace j (r .row)) (sym (i .stands .job)) (step-place (grows (i .begins .placed) q)));
-        }))
+        first-bad (misplaced means (λ ks q. w (subst (λ (j : Job). InPlace j (r .row)) (sym (i .stands .job)) (step-place (grows (i .begins .placed) q)))))
 
     -- the jobs with this row more
     grows-by : {next : Job} → InPlace last (r .row) → next ≡ grown last (r .row) → Grown (i .written) this next
@@ -196,13 +190,13 @@ module _ {s : List ℕ} {last : Job} {jobs : List Job} {keys : List Key} {n row 
       walk-surplus : 64 ≤ n → BookSays s (refused 5 row)
       walk-surplus m =
           let o = i .stands .many in
-          first-bad (surplus (record { row = this; form = means; jobs = started; placed = extend (i .begins .placed) start; many = omega arith }))
+          first-bad (surplus means (extend (i .begins .placed) start) (omega arith))
 
       walk-reused : n < 64 → Among keys n (next .key) → BookSays s (refused 6 row)
       walk-reused m a =
           let o = i .stands .many in
           let u = among-used (i .written) n keys o (i .stands .keys) this (subst (Among keys n) key-is a) in
-          first-bad (reused (record { row = this; form = means; jobs = started; placed = extend (i .begins .placed) start; few = omega arith; same = λ d. used-twice u d }))
+          first-bad (reused means (extend (i .begins .placed) start) (omega arith) (λ d. used-twice u d))
 
       -- a job that may not begin
       pub walk-barred : {b : Beginning} (why : Refusal) → beginning.BeginningIs keys n (next .key) b → b ≡ Barred why → BookSays s (refused (refusal-number why) row)

@@ -16,35 +16,16 @@ pub data BookTold : Type 0 where
   given : ℕ → List Job → BookTold
   refused : ℕ → ℕ → BookTold
 
--- the row has a form, and wherever the jobs are cut there is no place for it
-pub record Unplaced (rs : List BookRow) (cs : List Cell) : Type 0 where
-  pub row : BookRow
-  pub form : Form cs row
-  pub nowhere : (js : Jobs) → Placed (rs ++ row ∷ []) js → ⊥
-
--- the row has a form and a place, and begins a 65th job
-pub record Surplus (rs : List BookRow) (cs : List Cell) : Type 0 where
-  pub row : BookRow
-  pub form : Form cs row
-  pub jobs : Jobs
-  pub placed : Placed (rs ++ row ∷ []) jobs
-  pub many : 64 < count jobs
-
--- the row has a form and a place, and begins a job whose key was used before
-pub record Reused (rs : List BookRow) (cs : List Cell) : Type 0 where
-  pub row : BookRow
-  pub form : Form cs row
-  pub jobs : Jobs
-  pub placed : Placed (rs ++ row ∷ []) jobs
-  pub few : count jobs ≤ 64
-  pub same : Different jobs → ⊥
-
 -- how the row behind rows that a job book may begin with is bad, and the number for it
 pub data Bad (rs : List BookRow) (cs : List Cell) : ℕ → Type 0 where
+  -- not ten fields, or a field of wrong form or unknown kind
   formless : ((r : BookRow) → Form cs r → ⊥) → Bad rs cs 3
-  misplaced : Unplaced rs cs → Bad rs cs 4
-  surplus : Surplus rs cs → Bad rs cs 5
-  reused : Reused rs cs → Bad rs cs 6
+  -- a row out of place: wherever the jobs are cut there is no place for it
+  misplaced : {r : BookRow} → Form cs r → ((js : Jobs) → Placed (rs ++ r ∷ []) js → ⊥) → Bad rs cs 4
+  -- a 65th job
+  surplus : {r : BookRow} {js : Jobs} → Form cs r → Placed (rs ++ r ∷ []) js → 64 < count js → Bad rs cs 5
+  -- a key used before
+  reused : {r : BookRow} {js : Jobs} → Form cs r → Placed (rs ++ r ∷ []) js → count js ≤ 64 → (Different js → ⊥) → Bad rs cs 6
 
 -- row n is the first bad one: a job book may begin with the rows before it, and not with it too
 pub record FirstBad (why : ℕ) (rows : List (List Cell)) (n : ℕ) : Type 0 where

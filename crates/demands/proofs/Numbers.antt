@@ -9,10 +9,10 @@ use Rattle.rows.specs.Form.{BookRow}
 use Rattle.book.specs.Says.{formless, misplaced, surplus, reused, Bad, BookSays, too-long, not-csv, bad-row, unfinished, book, refused}
 
 row-numbers : {rs : List BookRow} {cs : List Cell} {why : ℕ} → Bad rs cs why → (1 ≤ why) × (why ≤ 6)
-row-numbers (formless b) = (omega arith, omega arith)
-row-numbers (misplaced b) = (omega arith, omega arith)
-row-numbers (surplus b) = (omega arith, omega arith)
-row-numbers (reused b) = (omega arith, omega arith)
+row-numbers (formless n) = (omega arith, omega arith)
+row-numbers (misplaced f n) = (omega arith, omega arith)
+row-numbers (surplus f p n) = (omega arith, omega arith)
+row-numbers (reused f p n d) = (omega arith, omega arith)
 
 pub book-numbers : {s : List ℕ} {n row : ℕ} → BookSays s (refused n row) → (1 ≤ n) × (n ≤ 6)
 book-numbers {n = n} (too-long l e) = let z : n ≡ 1 = cc in (omega arith, omega arith)
