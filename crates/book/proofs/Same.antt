@@ -10,7 +10,7 @@ use Rattle.rows.specs.Form.{BookRow}
 use Rattle.rows.specs.keys.Keyed.{no-row}
 use Rattle.rows.specs.declared.keys.Keyed.{Keyed}
 use Rattle.csv.proofs.Lists.{heads, tails}
-use Rattle.book.specs.JobBook.{IsA, River, WrittenJob, LoadRows, no-load, load, Rivers, is-dry, is-scoured, is-crossed, GoodJob, good, river-rows}
+use Rattle.book.specs.JobBook.{IsA, River, WrittenJob, LoadRows, no-load-row, load, Rivers, is-dry, is-scoured, is-crossed, GoodJob, good, river-rows}
 use Rattle.book.specs.Values.{stage-of, scour-of, clearance-of, load-rows, job-value}
 use Rattle.book.specs.SameJob.{keyed-rows, SameJob}
 
@@ -24,7 +24,7 @@ loads-same (l ∷ ls) (m ∷ ms) e =
 
 -- no load row stands where a river row does
 head-loads : {b : BookRow} {ls : List BookRow} (r : BookRow) (rs : List BookRow) → LoadRows b ls → keyed-rows ls ≡ keyed-rows (r ∷ rs) → IsA Load r
-head-loads r rs no-load e = impossible cc
+head-loads r rs no-load-row e = impossible cc
 head-loads r rs (load {r = l} k s ls) e =
     sym (ap (λ (x : Keyed). role (x .row .kind)) (heads e)) ∙ k
 

@@ -7,7 +7,7 @@ use lib.ListN.{length, length-append}
 use Rattle.arithmetic.proofs.Cases.{impossible}
 use Rattle.rows.specs.Form.{BookRow}
 use Rattle.kinds.specs.declared.Role.the-variants.{Base, Scour, Clearance, Load}
-use Rattle.book.specs.JobBook.{IsA, SameKey, River, dry, scoured, crossed, job, river-rows, LoadRows, no-load, load, is-dry, is-scoured, is-crossed, good, Jobs, none, _and_, count, rows-of, Whole, no-whole, one-whole, Different, new-key}
+use Rattle.book.specs.JobBook.{IsA, SameKey, River, dry, scoured, crossed, job, river-rows, LoadRows, no-load-row, load, is-dry, is-scoured, is-crossed, good, Jobs, none, _and_, count, rows-of, Whole, no-whole, one-whole, Different, new-key}
 use Rattle.book.specs.Beginning.{Shaped, no-job, one-more, Loaded, Placed}
 use Rattle.csv.proofs.Lists.{not-empty, lasts}
 use Rattle.book.proofs.Ends.{EmptyOrLast, empty, ended, ends}
@@ -29,11 +29,11 @@ pub data GrowsBy : Jobs → BookRow → Jobs → Type 0 where
   bears : {js : Jobs} {b r : BookRow} {v : River} {ls : List BookRow} → IsA Load r → SameKey b r → length ls < 16 → GrowsBy (js and job b v ls) r (js and job b v (ls ++ r ∷ []))
 
 loads-more : {b r : BookRow} {ls : List BookRow} → LoadRows b ls → IsA Load r → SameKey b r → LoadRows b (ls ++ r ∷ [])
-loads-more no-load k e = load k e no-load
+loads-more no-load-row k e = load k e no-load-row
 loads-more (load h i ls) k e = load h i (loads-more ls k e)
 
 loads-front : {b r : BookRow} (ls : List BookRow) → LoadRows b (ls ++ r ∷ []) → LoadRows b ls × IsA Load r × SameKey b r
-loads-front [] (load h i ls) = (no-load, h, i)
+loads-front [] (load h i ls) = (no-load-row, h, i)
 loads-front (x ∷ xs) (load h i ls) =
     let w = loads-front xs ls in
     (load h i (w .0), w .1, w .2)
@@ -46,7 +46,7 @@ extended : {ts l k : List BookRow} (r : BookRow) → ts ≡ l → l ++ r ∷ [] 
 extended r e f = ap (λ (t : List BookRow). t ++ r ∷ []) e ∙ f
 
 pub extend : {ts : List BookRow} {js ks : Jobs} {r : BookRow} → Placed ts js → GrowsBy js r ks → Placed (ts ++ r ∷ []) ks
-extend {r = r} p (starts {js} l k) = record { are = extended r (p .are) refl; shaped = one-more (shaped-whole (p .shaped) l) (good k is-dry no-load (omega arith)) }
+extend {r = r} p (starts {js} l k) = record { are = extended r (p .are) refl; shaped = one-more (shaped-whole (p .shaped) l) (good k is-dry no-load-row (omega arith)) }
 extend {r = r} p (scours {js} {b} k e) = record { are = extended r (p .are) (append-assoc (rows-of js) (b ∷ []) (r ∷ [])); shaped = scoured-on (p .shaped) k e }
   where
     scoured-on : {js : Jobs} {b r : BookRow} → Shaped (js and job b dry []) → IsA Scour r → SameKey b r → Shaped (js and job b (scoured r) [])

@@ -44,7 +44,7 @@ job-rows (job b v ls) = b ∷ (river-rows v ++ ls)
 
 -- load rows, all with the key of the B row
 pub data LoadRows (b : BookRow) : List BookRow → Type 0 where
-  no-load : LoadRows b []
+  no-load-row : LoadRows b []
   load : {r : BookRow} {rs : List BookRow} → IsA Load r → SameKey b r → LoadRows b rs → LoadRows b (r ∷ rs)
 
 -- an S row and a C row where there are any, with the key of the B row
@@ -53,7 +53,7 @@ pub data Rivers (b : BookRow) : River → Type 0 where
   is-scoured : {s : BookRow} → IsA Scour s → SameKey b s → Rivers b (scoured s)
   is-crossed : {s c : BookRow} → IsA Scour s → SameKey b s → IsA Clearance c → SameKey b c → Rivers b (crossed s c)
 
--- a B row, its river rows, and at most 16 load rows, all with one key
+-- a B row, its river rows, and at most 16 load rows, all with one key. That there is at least one load row is asked for by `Whole`, not here
 pub data GoodJob : WrittenJob → Type 0 where
   good : {b : BookRow} {v : River} {ls : List BookRow} → IsA Base b → Rivers b v → LoadRows b ls → length ls ≤ 16 → GoodJob (job b v ls)
 
