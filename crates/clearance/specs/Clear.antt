@@ -1,4 +1,4 @@
--- Document 01, what a C row is told, with the Q of its job's S row: underside - flood - afflux and the clearance needed (CL), or a refusal of its job.
+-- Document 01, what the columns of a C row give, with the Q of its job's S row: underside - flood - afflux and the clearance needed (CL), or a refusal of its job.
 use mathlib.Core.Path.{_≡_}
 use mathlib.Core.Bool.{false}
 use Prim.Native.Nat.{ℕ, _≤_, _<_}

@@ -6,7 +6,8 @@ use native.Mathlib.Omega.{arith}
 use lib.Dec.{lit≤}
 use Rattle.kinds.specs.declared.Numbers.{Numbers}
 use Rattle.earth.specs.steps.LowCoefficient.{LowCoefficient}
-use Rattle.earth.specs.Earth.{push, Pushed, has-coefficient, Pressed, in-range}
+use Rattle.earth.specs.Earth.{push, Pushed, has-coefficient}
+use Rattle.earth.specs.EarthRow.{Pressed, in-range}
 use Rattle.earth.specs.declared.table2.Coefficient.{Coefficient}
 use Rattle.earth.specs.declared.Backfill.{Backfill}
 

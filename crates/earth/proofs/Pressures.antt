@@ -6,15 +6,15 @@ use lib.Dec.{eqb}
 use Rattle.arithmetic.proofs.Cases.{impossible}
 use Rattle.arithmetic.proofs.rounding.Laws.{least-one}
 use Rattle.kinds.specs.declared.Numbers.{Numbers}
-use Rattle.earth.specs.Earth.{EarthTold, refused, push, Pushed, blank, has-coefficient, Pressed, out-of-range, in-range}
-use Rattle.earth.specs.EarthTold.{earth-told}
+use Rattle.earth.specs.Earth.{EarthTold, refused, push, Pushed, blank, has-coefficient}
+use Rattle.earth.specs.EarthRow.{Pressed, out-of-range, in-range, earth-told}
 use Rattle.earth.specs.declared.table2.Coefficient.{Coefficient}
 use Rattle.earth.specs.thrust.Thrust.{Thrust}
 use Rattle.earth.specs.declared.Backfill.{Backfill}
 use Rattle.earth.specs.declared.EarthAnswer.{EarthAnswer}
 use Rattle.earth.specs.declared.EarthAnswer.the-variants.{OutOfRange, NoCoefficient, Push}
 
-pushed-one : {fill : ℕ → ℕ → Coefficient} {row : Backfill} {t u : EarthTold} → Pushed fill row t → Pushed fill row u → t ≡ u
+pub pushed-one : {fill : ℕ → ℕ → Coefficient} {row : Backfill} {t u : EarthTold} → Pushed fill row t → Pushed fill row u → t ≡ u
 pushed-one (blank e) (blank f) = refl
 pushed-one (blank e) (has-coefficient f i z) = impossible cc
 pushed-one (has-coefficient e h y) (blank f) = impossible cc
@@ -24,7 +24,7 @@ pushed-one {row = row} (has-coefficient {K} e h y) (has-coefficient {K = L} {H =
     let arm = least-one y z in
     cc
 
-pub pressed-one : {fill : ℕ → ℕ → Coefficient} {row : Numbers} {t u : EarthTold} → Pressed fill row t → Pressed fill row u → t ≡ u
+pressed-one : {fill : ℕ → ℕ → Coefficient} {row : Numbers} {t u : EarthTold} → Pressed fill row t → Pressed fill row u → t ≡ u
 pressed-one (out-of-range h) (out-of-range k) = refl
 pressed-one (out-of-range h) (in-range r s) = absurd (h r)
 pressed-one (in-range r s) (out-of-range h) = absurd (h r)

@@ -1,9 +1,7 @@
--- Document 01, "Earth pressure" (002, 5.7.2): what an E row is told, the thrust of its fill and the thrust's height, or a refusal of its job.
+-- Document 01, "Earth pressure" (002, 5.7.2): what the columns of an E row give, the thrust of its fill and the thrust's height, or a refusal of its job.
 -- Lengths in mm, H in kN, K in N/m² on each metre. `fill` is what is held for a soil and a slope: today Table 2.
 use mathlib.Core.Path.{_≡_}
 use Prim.Native.Nat.{ℕ}
-use Rattle.kinds.specs.ranges.Range.{Ranged}
-use Rattle.kinds.specs.declared.Kind.the-variants.{E}
 use Rattle.kinds.specs.declared.Numbers.{Numbers}
 use Rattle.earth.specs.declared.table2.Coefficient.{Coefficient}
 use Rattle.earth.specs.declared.table2.Coefficient.the-variants.{Blank, Value}
@@ -23,8 +21,3 @@ pub data EarthTold : Type 0 where
 pub data Pushed (fill : ℕ → ℕ → Coefficient) (row : Backfill) : EarthTold → Type 0 where
   blank : fill (row .soil) (row .slope) ≡ Blank → Pushed fill row (refused 15)
   has-coefficient : {K H y : ℕ} → fill (row .soil) (row .slope) ≡ Value K → Thrust K (row .height) (row .length) H → Arm (row .height) y → Pushed fill row (push H y)
-
--- "11, a number out of range"; else what the row's columns give
-pub data Pressed (fill : ℕ → ℕ → Coefficient) (row : Numbers) : EarthTold → Type 0 where
-  out-of-range : (Ranged E row → ⊥) → Pressed fill row (refused 11)
-  in-range : {t : EarthTold} → Ranged E row → Pushed fill (backfill-of row) t → Pressed fill row t

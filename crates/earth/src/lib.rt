@@ -10,8 +10,8 @@ use kinds::Numbers;
 use table2::Coefficient;
 ghost use mathlib.Core.Path.{_≡_};
 ghost use Rattle.earth.specs.table2.Table2.{table2-fill};
-ghost use Rattle.earth.specs.Earth.{backfill-of, Pressed};
-ghost use Rattle.earth.specs.EarthTold.{earth-told};
+ghost use Rattle.earth.specs.Earth.{backfill-of};
+ghost use Rattle.earth.specs.EarthRow.{Pressed, earth-told};
 
 // The columns of an E row: soil and slope, each from 1 to 5, height and length in mm. Its phase is the load's.
 pub struct Backfill {

@@ -4,7 +4,7 @@ use native.Mathlib.Omega.{arith}
 use native.Mathlib.Numerals.{add-one}
 use mathlib.Core.Path.{_≡_, refl, _∙_, ap, ap₂}
 use mathlib.Core.Bool.{Bool, true, false}
-use mathlib.Core.List.{List}
+use mathlib.Core.List.{List, [], _∷_}
 use Prim.Native.Nat.{ℕ, _+_, _≤_, _<_}
 use lib.ListN.{length, take, set, length-set}
 use Rattle.arithmetic.specs.decides.Decides.{Decides}
@@ -17,12 +17,11 @@ use Rattle.earth.specs.declared.table2.Coefficient.{Coefficient}
 use Rattle.sets.specs.declared.Class.{Class}
 use Rattle.sets.specs.declared.Class.the-variants.{Permanent, Free, Wind, Earthquake}
 use Rattle.sets.specs.declared.Load.{Load}
-use Rattle.loads.specs.forces.Blank.{BlankThere}
 use Rattle.loads.specs.steps.Exerted.{LoadOf}
 use Rattle.loads.specs.declared.forces.RowLoad.the-variants.{OutOfRange, NoCoefficient, Exerted}
 use Rattle.loads.proofs.FirstRows.{load-row, FirstEvery, first-every, every-first, first-optionals, optionals-first}
-use Rattle.loads.specs.steps.Asking.{AskedIs}
-use Rattle.loads.proofs.forces.Exerting.{blank-ranged}
+use Rattle.loads.specs.LoadRows.{Every, AllRanged, NoneBlank}
+use Rattle.loads.specs.steps.Asking.{FilledThere, AskedIs}
 use Rattle.loads.proofs.Laying.{LaidFirst, laid-more, laid-all}
 
 -- what holds of the rows up to n, with one row more of which it holds, or does not
@@ -43,7 +42,7 @@ optional-low Earthquake = omega arith
 pub record RowsAsked (fill : ℕ → ℕ → Coefficient) (rows : List Row) (n : ℕ) (in-range unblank : Bool) (count : ℕ) (loads : List Load) : Type 0 where
   pub size : length loads ≡ 16
   pub ranged : Decides in-range (FirstEvery (λ row. Ranged (row .kind) (row .numbers)) rows n)
-  pub filled : Decides unblank (FirstEvery (λ row. BlankThere fill row → ⊥) rows n)
+  pub filled : Decides unblank (FirstEvery (FilledThere fill) rows n)
   pub optional : in-range ≡ true → unblank ≡ true → count ≡ first-optionals rows n
   pub laid : in-range ≡ true → unblank ≡ true → LaidFirst fill rows n loads
 
@@ -60,7 +59,7 @@ module _ (fill : ℕ → ℕ → Coefficient) (rows : List Row) where
         record {
           size = p .size;
           ranged = not-more (λ i. Ranged ((load-row rows i) .kind) ((load-row rows i) .numbers)) n t;
-          filled = decides-more (λ i. BlankThere fill (load-row rows i) → ⊥) n filled (p .filled) (λ b. t (blank-ranged fill (load-row rows n) b));
+          filled = decides-more (λ i. FilledThere fill (load-row rows i)) n filled (p .filled) (λ r. absurd (t r));
           optional = λ e _. impossible cc;
           laid = λ e _. impossible cc;
         }
@@ -71,7 +70,7 @@ module _ (fill : ℕ → ℕ → Coefficient) (rows : List Row) where
         record {
           size = p .size;
           ranged = decides-more (λ i. Ranged ((load-row rows i) .kind) ((load-row rows i) .numbers)) n ranged (p .ranged) (t .0);
-          filled = not-more (λ i. BlankThere fill (load-row rows i) → ⊥) n (λ h. h (t .1));
+          filled = not-more (λ i. FilledThere fill (load-row rows i)) n (λ h. h (t .0) (t .1));
           optional = λ _ e. impossible cc;
           laid = λ _ e. impossible cc;
         }
@@ -82,7 +81,7 @@ module _ (fill : ℕ → ℕ → Coefficient) (rows : List Row) where
         record {
           size = length-set loads n load ∙ p .size;
           ranged = decides-more (λ i. Ranged ((load-row rows i) .kind) ((load-row rows i) .numbers)) n ranged (p .ranged) (t .0);
-          filled = decides-more (λ i. BlankThere fill (load-row rows i) → ⊥) n filled (p .filled) (t .1);
+          filled = decides-more (λ i. FilledThere fill (load-row rows i)) n filled (p .filled) (λ _. t .1);
           optional = λ e f. ap₂ (λ (x y : ℕ). x + y) (p .optional e f) (ap optional (t .2 .class)) ∙ next;
           laid = λ e f. laid-more fill rows n loads h (p .laid e f) (t .2);
         }
@@ -96,10 +95,24 @@ module _ (fill : ℕ → ℕ → Coefficient) (rows : List Row) where
   asked-all n few whole {ranged} {filled} p =
       let h : n ≤ length rows = omega arith in
       let R : Row → Type 0 = λ row. Ranged (row .kind) (row .numbers) in
-      let F : Row → Type 0 = λ row. BlankThere fill row → ⊥ in
       record {
         ranged = decides-same ranged (first-every R rows n h) (every-first R rows n h) (p .ranged);
-        filled = decides-same filled (first-every F rows n h) (every-first F rows n h) (p .filled);
+        filled = decides-same filled (first-every (FilledThere fill) rows n h) (every-first (FilledThere fill) rows n h) (p .filled);
         optional = λ e f. p .optional e f ∙ optionals-first rows n h;
         loads = λ e f. laid-all fill rows n _ few whole (p .laid e f);
       }
+
+-- where all rows are in range, each is filled exactly if Table 2 is blank at none
+module _ (fill : ℕ → ℕ → Coefficient) where
+  none-blank : (rows : List Row) → AllRanged rows → Every (FilledThere fill) rows → NoneBlank fill rows
+  unfolding Every
+  none-blank [] r f = tt
+  none-blank (x ∷ rows) r f = (f .0 (r .0), none-blank rows (r .1) (f .1))
+
+  all-filled : (rows : List Row) → NoneBlank fill rows → Every (FilledThere fill) rows
+  unfolding Every
+  all-filled [] b = tt
+  all-filled (x ∷ rows) b = ((λ _. b .0), all-filled rows (b .1))
+
+  pub filled-ranged : (rows : List Row) (filled : Bool) → AllRanged rows → Decides filled (Every (FilledThere fill) rows) → Decides filled (NoneBlank fill rows)
+  filled-ranged rows filled r = decides-same filled (none-blank rows r) (all-filled rows)

@@ -7,7 +7,7 @@ use lib.ListN.{length}
 use Rattle.kinds.specs.declared.Row.{Row}
 use Rattle.earth.specs.declared.table2.Coefficient.{Coefficient}
 use Rattle.earth.specs.Earth as earth
-use Rattle.earth.proofs.Pressures.{pressed-one}
+use Rattle.earth.proofs.Pressures.{pushed-one}
 use Rattle.sets.specs.declared.Load.{Load}
 use Rattle.sets.specs.declared.Loads.{Loads}
 use Rattle.kinds.specs.declared.classes.Source.{Source}
@@ -34,7 +34,7 @@ exerts-one fill r a b p q = go (source (r .kind)) (p .forces) (q .forces)
     go : (s : Source) → Forces fill s (r .numbers) a → Forces fill s (r .numbers) b → a ≡ b
     go Absent f g = same-load class phase (f .v ∙ sym (g .v)) (f .x ∙ sym (g .x)) (f .h ∙ sym (g .h)) (f .twist ∙ sym (g .twist))
     go Earth f g =
-        let e = same-push (pressed-one (f .pressed) (g .pressed)) in
+        let e = same-push (pushed-one (f .pressed) (g .pressed)) in
         let k = subst₂ (λ (H y : ℕ). EarthLoad H y a) (e .0) (e .1) (f .exerts) in
         same-load class phase (k .v ∙ sym (g .exerts .v)) (k .x ∙ sym (g .exerts .x)) (k .h ∙ sym (g .exerts .h)) (k .twist ∙ sym (g .exerts .twist))
     go Own f g = same-load class phase (f .v ∙ sym (g .v)) (f .x ∙ sym (g .x)) (f .h ∙ sym (g .h)) (f .twist ∙ sym (g .twist))

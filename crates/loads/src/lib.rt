@@ -29,8 +29,8 @@ pub struct LoadsRead {
     pub loads: Loads,
 }
 
-// What 11, 15 and 16 ask of rows: whether every number is in its range, whether Table 2 is filled for each that asks it, and how many
-// rows are optional; and the loads of the rows. The last two count where the first two say yes.
+// What 11, 15 and 16 ask of rows: whether every number is in its range, whether Table 2 is filled for each in range that asks it, and
+// how many rows are optional; and the loads of the rows. The last two count where the first two say yes.
 struct Asked {
     ranged: bool,
     filled: bool,

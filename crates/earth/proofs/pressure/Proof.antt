@@ -9,7 +9,8 @@ use Rattle.kinds.specs.ranges.Range.{Ranged}
 use Rattle.kinds.specs.declared.Kind.the-variants.{E}
 use Rattle.earth.specs.table2.Table2.{table2-fill}
 use Rattle.earth.specs.steps.LowCoefficient.{LowCoefficient}
-use Rattle.earth.specs.Earth.{EarthTold, Pushed, blank, has-coefficient, Pressed, out-of-range, in-range}
+use Rattle.earth.specs.Earth.{EarthTold, Pushed, blank, has-coefficient}
+use Rattle.earth.specs.EarthRow.{Pressed, out-of-range, in-range}
 use Rattle.earth.specs.declared.Backfill.{Backfill}
 use Rattle.earth.proofs.table2.Marks.{table2-small}
 use Rattle.earth.proofs.pressure.Statement.{statement}

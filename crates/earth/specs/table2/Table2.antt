@@ -15,6 +15,6 @@ table2 =
     ∷ (Value 18828 ∷ Value 20306 ∷ Value 21189 ∷ Blank ∷ Blank ∷ [])
     ∷ []
 
--- what Table 2 holds for a soil and a slope, each from 1 to 5
+-- what Table 2 holds for a soil and a slope, each from 1 to 5; outside these it decides nothing, since 11 is told first
 abbrev pub table2-fill : ℕ → ℕ → Coefficient
 table2-fill soil slope = getD (getD table2 (soil - 1) []) (slope - 1) Blank

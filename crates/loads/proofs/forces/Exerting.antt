@@ -15,10 +15,10 @@ use Rattle.kinds.specs.Table.{load-columns, phase}
 use Rattle.kinds.specs.ranges.Range.{Around, InColumns, Ranged, value}
 use Rattle.earth.specs.declared.table2.Coefficient.{Coefficient}
 use Rattle.earth.specs.steps.LowCoefficient.{LowCoefficient}
-use Rattle.earth.specs.Earth.{EarthTold, refused, Pushed, blank, Pressed, out-of-range, in-range}
-use Rattle.earth.specs.Earth as earth
+use Rattle.earth.specs.Earth.{EarthTold, refused, push, backfill-of, Pushed, blank, has-coefficient}
+use Rattle.earth.specs.EarthRow.{Pressed, out-of-range, in-range}
 use Rattle.earth.specs.declared.Backfill.{Backfill}
-use Rattle.earth.proofs.Pressures.{pressed-one}
+use Rattle.earth.proofs.Pressures.{pushed-one}
 use Rattle.earth.proofs.Bounds.{pressed-modest}
 use Rattle.arithmetic.specs.declared.signed.Amount.{Amount}
 use Rattle.arithmetic.specs.signed.Whole.{amount}
@@ -81,15 +81,15 @@ around-size a e h = go (e .minus) refl
 -- ---- what a load row is told: by the push of its fill, or by its own numbers
 pushed-not : {fill : ℕ → ℕ → Coefficient} {row : Backfill} {t : EarthTold} → Pushed fill row t → t ≡ refused 11 → ⊥
 pushed-not (blank b) e = unlike 15 11 refl cc
-pushed-not (earth.has-coefficient k h y) e = impossible cc
+pushed-not (has-coefficient k h y) e = impossible cc
 
 out-of-range-not : {fill : ℕ → ℕ → Coefficient} {row : Numbers} {t : EarthTold} → Pressed fill row t → t ≡ refused 11 → Ranged E row → ⊥
 out-of-range-not (out-of-range h) e r = h r
 out-of-range-not (in-range q s) e r = pushed-not s e
 
-in-range-else : {fill : ℕ → ℕ → Coefficient} {row : Numbers} {t : EarthTold} → Pressed fill row t → (t ≡ refused 11 → ⊥) → Ranged E row
+in-range-else : {fill : ℕ → ℕ → Coefficient} {row : Numbers} {t : EarthTold} → Pressed fill row t → (t ≡ refused 11 → ⊥) → Ranged E row × Pushed fill (backfill-of row) t
 in-range-else (out-of-range h) n = absurd (n refl)
-in-range-else (in-range r s) n = r
+in-range-else (in-range r s) n = (r, s)
 
 module _ (fill : ℕ → ℕ → Coefficient) (row : Row) where
   unfoldable pub Kept : Load → Type 0
@@ -99,32 +99,31 @@ module _ (fill : ℕ → ℕ → Coefficient) (row : Row) where
     own-range : Ranged E (row .numbers) → Ranged (row .kind) (row .numbers)
     own-range = subst⁻¹ (λ (k : Kind). Ranged k (row .numbers)) (earth-kind (row .kind) is-earth)
 
+    earth-range : Ranged (row .kind) (row .numbers) → Ranged E (row .numbers)
+    earth-range = subst (λ (k : Kind). Ranged k (row .numbers)) (earth-kind (row .kind) is-earth)
+
     pub told-out : Pressed fill (row .numbers) (refused 11) → LoadOf fill row RowLoad.OutOfRange
     unfolding LoadOf
-    told-out p = λ r. out-of-range-not p refl (subst (λ (k : Kind). Ranged k (row .numbers)) (earth-kind (row .kind) is-earth) r)
+    told-out p = λ r. out-of-range-not p refl (earth-range r)
 
     pub told-blank : Pressed fill (row .numbers) (refused 15) → LoadOf fill row RowLoad.NoCoefficient
     unfolding LoadOf BlankThere
-    told-blank p = (own-range (in-range-else p (λ e. unlike 15 11 refl cc)), (is-earth, p))
+    told-blank p = let q = in-range-else p (λ e. unlike 15 11 refl cc) in (own-range (q .0), (is-earth, q .1))
 
-    pub told-push : {H y : ℕ} (load : Load) → Pressed fill (row .numbers) (earth.push H y) → Kept load → EarthLoad H y load → LoadOf fill row (RowLoad.Exerted load)
+    pub told-push : {H y : ℕ} (load : Load) → Pressed fill (row .numbers) (push H y) → Kept load → EarthLoad H y load → LoadOf fill row (RowLoad.Exerted load)
     unfolding LoadOf BlankThere Kept Forces
-    told-push load p k f = (
-      own-range (in-range-else p (λ e. impossible cc)),
-      (λ b. let e = pressed-one p (b .1) in impossible cc),
-      record { class = k .0; phase = k .1; forces = subst⁻¹ (λ (s : Source). Forces fill s (row .numbers) load) is-earth (record { H = _; y = _; pressed = p; exerts = f }) },
-    )
+    told-push load p k f =
+        let q = in-range-else p (λ e. impossible cc) in (
+          own-range (q .0),
+          (λ b. let e = pushed-one (q .1) (b .1) in impossible cc),
+          record { class = k .0; phase = k .1; forces = subst⁻¹ (λ (s : Source). Forces fill s (row .numbers) load) is-earth (record { H = _; y = _; pressed = q .1; exerts = f }) },
+        )
 
   module _ {s : Source} (is : source (row .kind) ≡ s) (not-earth : s ≡ Earth → ⊥) (r : Ranged (row .kind) (row .numbers)) where
     pub told-load : (load : Load) → Kept load → Forces fill s (row .numbers) load → LoadOf fill row (RowLoad.Exerted load)
     unfolding LoadOf BlankThere Kept
     told-load load k f =
         (r, (λ b. not-earth (sym is ∙ b .0)), record { class = k .0; phase = k .1; forces = subst⁻¹ (λ (x : Source). Forces fill x (row .numbers) load) is f })
-
--- a row whose fill is asked at a blank place is in range
-pub blank-ranged : (fill : ℕ → ℕ → Coefficient) (row : Row) → BlankThere fill row → Ranged (row .kind) (row .numbers)
-unfolding BlankThere
-blank-ranged fill row b = own-range fill row (b .0) (in-range-else (b .1) (λ e. unlike 15 11 refl cc))
 
 -- ---- how large a load is
 earth-bounded : {H y : ℕ} {load : Load} → H ≤ 300000 → H * y ≤ 3000000000 → EarthLoad H y load → BoundedLoad load
@@ -155,7 +154,7 @@ exerts-bounded fill small row load r e = go (source (row .kind)) refl (e .forces
   where
     go : (s : Source) → source (row .kind) ≡ s → Forces fill s (row .numbers) load → BoundedLoad load
     go Absent d f = earth-bounded (lit≤ tt) (lit≤ tt) f
-    go Earth d f = let m = pressed-modest small (f .pressed) in earth-bounded (m .thrust) (m .moment) (f .exerts)
+    go Earth d f = let m = pressed-modest small (in-range (earth-range fill row d r) (f .pressed)) in earth-bounded (m .thrust) (m .moment) (f .exerts)
     go Own d f = own-bounded (own-columns (row .kind) (row .numbers) d r) f
 
 -- loads are the same if their parts are

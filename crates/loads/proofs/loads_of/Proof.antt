@@ -6,6 +6,7 @@ use mathlib.Core.List.{List}
 use Prim.Native.Nat.{ℕ, _≤_, _<_}
 use lib.ListN.{length, take}
 use borrow.Author.Tests.{not-true, not-false}
+use Rattle.arithmetic.specs.decides.Decides.{Decides}
 use Rattle.arithmetic.proofs.Deciding.{decided, refuted}
 use Rattle.earth.specs.table2.Table2.{table2-fill}
 use Rattle.kinds.specs.declared.Row.{Row}
@@ -13,6 +14,7 @@ use Rattle.loads.specs.LoadRows.{AllRanged, NoneBlank, optionals}
 use Rattle.loads.specs.Answer.{LoadsTold, loads-told, loads-told-by, LoadsSays, out-of-range, blank, too-many, loaded, Beside}
 use Rattle.loads.specs.declared.Asked.{Asked}
 use Rattle.loads.proofs.Answering.{first-rows}
+use Rattle.loads.proofs.Asking.{filled-ranged}
 use Rattle.loads.proofs.loads_of.Statement.{statement}
 use Rattle.loads.proofs.loads_of.Tie as tie
 
@@ -36,8 +38,11 @@ module _ (a : tie.After-asked-of) where
   ranged : not (asked .ranged) ≡ false → AllRanged rows
   ranged e = decided (asked .ranged) (not-false (asked .ranged) e) (a .asked-of .ensures .ranged)
 
-  filled : not (asked .filled) ≡ false → NoneBlank table2-fill rows
-  filled e = decided (asked .filled) (not-false (asked .filled) e) (a .asked-of .ensures .filled)
+  filled-told : not (asked .ranged) ≡ false → Decides (asked .filled) (NoneBlank table2-fill rows)
+  filled-told e = filled-ranged table2-fill rows (asked .filled) (ranged e) (a .asked-of .ensures .filled)
+
+  filled : not (asked .ranged) ≡ false → not (asked .filled) ≡ false → NoneBlank table2-fill rows
+  filled e f = decided (asked .filled) (not-false (asked .filled) f) (filled-told e)
 
   -- where nothing is refused so far, the rows are counted and their loads are there
   counted : not (asked .ranged) ≡ false → not (asked .filled) ≡ false → asked .optional ≡ optionals rows
@@ -66,7 +71,7 @@ returns-2 c =
     let past-11 = c .before .before in
     let a = past-11 .before .before .before in
     record {
-      says = says a (blank (ranged a (past-11 .if1 .left)) (refuted (asked a .filled) (not-true (asked a .filled) (c .if2 .taken)) (a .asked-of .ensures .filled)));
+      says = says a (blank (ranged a (past-11 .if1 .left)) (refuted (asked a .filled) (not-true (asked a .filled) (c .if2 .taken)) (filled-told a (past-11 .if1 .left))));
       beside = past-11 .before .before .no-loads .ensures;
     }
 
@@ -77,7 +82,7 @@ returns-3 c =
     let past-11 = past-15 .before .before in
     let a = past-11 .before .before .before in
     record {
-      says = says a (too-many (ranged a (past-11 .if1 .left)) (filled a (past-15 .if2 .left)) (subst (λ (m : ℕ). 12 < m) (counted a (past-11 .if1 .left) (past-15 .if2 .left)) (c .if3 .taken)));
+      says = says a (too-many (ranged a (past-11 .if1 .left)) (filled a (past-11 .if1 .left) (past-15 .if2 .left)) (subst (λ (m : ℕ). 12 < m) (counted a (past-11 .if1 .left) (past-15 .if2 .left)) (c .if3 .taken)));
       beside = past-11 .before .before .no-loads .ensures;
     }
 
@@ -88,7 +93,7 @@ returns-4 c =
     let past-11 = past-15 .before .before in
     let a = past-11 .before .before .before in
     record {
-      says = says a (loaded (ranged a (past-11 .if1 .left)) (filled a (past-15 .if2 .left)) (subst (λ (m : ℕ). m ≤ 12) (counted a (past-11 .if1 .left) (past-15 .if2 .left)) (c .before .if3 .left)) (a .asked-of .ensures .loads (not-false _ (past-11 .if1 .left)) (not-false _ (past-15 .if2 .left))));
+      says = says a (loaded (ranged a (past-11 .if1 .left)) (filled a (past-11 .if1 .left) (past-15 .if2 .left)) (subst (λ (m : ℕ). m ≤ 12) (counted a (past-11 .if1 .left) (past-15 .if2 .left)) (c .before .if3 .left)) (a .asked-of .ensures .loads (not-false _ (past-11 .if1 .left)) (not-false _ (past-15 .if2 .left))));
       beside = tt;
     }
 

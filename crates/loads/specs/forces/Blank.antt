@@ -3,10 +3,10 @@ use mathlib.Core.Path.{_≡_}
 use Prim.Native.Nat.{ℕ}
 use Rattle.kinds.specs.declared.Row.{Row}
 use Rattle.earth.specs.declared.table2.Coefficient.{Coefficient}
-use Rattle.earth.specs.Earth.{refused, Pressed}
+use Rattle.earth.specs.Earth.{refused, backfill-of, Pushed}
 use Rattle.kinds.specs.declared.classes.Source.the-variants.{Earth}
 use Rattle.kinds.specs.classes.Classes.{source}
 
 -- "15, Table 2 is blank there", of an E row
 unfoldable pub BlankThere : (ℕ → ℕ → Coefficient) → Row → Type 0
-BlankThere fill r = (source (r .kind) ≡ Earth) × Pressed fill (r .numbers) (refused 15)
+BlankThere fill r = (source (r .kind) ≡ Earth) × Pushed fill (backfill-of (r .numbers)) (refused 15)

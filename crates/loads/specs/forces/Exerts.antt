@@ -7,14 +7,14 @@ use Rattle.kinds.specs.declared.Row.{Row}
 use Rattle.kinds.specs.Table.{phase}
 use Rattle.kinds.specs.ranges.Range.{value}
 use Rattle.earth.specs.declared.table2.Coefficient.{Coefficient}
-use Rattle.earth.specs.Earth.{push, Pressed}
+use Rattle.earth.specs.Earth.{push, backfill-of, Pushed}
 use Rattle.arithmetic.specs.signed.Whole.{amount}
 use Rattle.sets.specs.declared.Load.{Load}
 use Rattle.kinds.specs.declared.classes.Source.{Source}
 use Rattle.kinds.specs.declared.classes.Source.the-variants.{Absent, Earth, Own}
 use Rattle.kinds.specs.classes.Classes.{class-of, source}
 
--- a load as written: V, x, H, y
+-- a load as written: V, x, H, and H times y, the twist
 pub record OwnForces (numbers : Numbers) (load : Load) : Type 0 where
   pub v : load .v ≡ amount (value (numbers .n1))
   pub x : load .x ≡ amount (value (numbers .n2))
@@ -32,18 +32,20 @@ pub record EarthLoad (H y : ℕ) (load : Load) : Type 0 where
 pub record EarthForces (fill : ℕ → ℕ → Coefficient) (numbers : Numbers) (load : Load) : Type 0 where
   pub H : ℕ
   pub y : ℕ
-  pub pressed : Pressed fill numbers (push H y)
+  pub pressed : Pushed fill (backfill-of numbers) (push H y)
   pub exerts : EarthLoad H y load
 
 -- a row that is no load row exerts nothing; no job has one among its load rows
 abbrev pub NoForces : Load → Type 0
 NoForces load = EarthLoad 0 0 load
 
+-- the forces of a row, by where they come from
 unfoldable pub Forces : (ℕ → ℕ → Coefficient) → Source → Numbers → Load → Type 0
 Forces fill Absent numbers load = NoForces load
 Forces fill Earth numbers load = EarthForces fill numbers load
 Forces fill Own numbers load = OwnForces numbers load
 
+-- the load of a row: its class, its phase and its forces
 pub record Exerts (fill : ℕ → ℕ → Coefficient) (row : Row) (load : Load) : Type 0 where
   pub class : load .class ≡ class-of (row .kind)
   pub phase : load .phase ≡ phase (row .kind) (row .numbers)

@@ -5,8 +5,7 @@ use borrow.Author.Tests.{not-true, not-false}
 use lib.Dec.{lit≤}
 use Rattle.arithmetic.proofs.Deciding.{decided, refuted}
 use Rattle.earth.specs.declared.EarthAnswer.{EarthAnswer}
-use Rattle.earth.specs.Earth.{push, Pressed}
-use Rattle.earth.specs.EarthTold.{earth-told}
+use Rattle.earth.specs.EarthRow.{Pressed, earth-told}
 use Rattle.earth.specs.table2.Table2.{table2-fill}
 use Rattle.earth.proofs.Bounds.{pressed-modest}
 use Rattle.earth.proofs.table2.Marks.{table2-small}
