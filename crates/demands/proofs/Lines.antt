@@ -23,7 +23,7 @@ use Rattle.lines.specs.declared.Verdict.the-variants.{Accepted, NotAccepted, Re
 use Rattle.lines.specs.declared.RiverLine.{RiverLine}
 use Rattle.lines.specs.declared.RiverLine.the-variants as river
 use Rattle.lines.specs.declared.Answer.{Answer}
-use Rattle.lines.specs.Lines.{LineName, PrintedLine, VERDICT, check, SC, CL, verdict-line, check-line, combination-lines, river-line, later-lines, unless-refused, lines-of}
+use Rattle.lines.specs.Lines.{LineName, PrintedLine, VERDICT, check, SC, CL, verdict-line, shown-line, check-line, combination-lines, river-line, later-lines, unless-refused, lines-of}
 use Rattle.answer.specs.Rules.{load-rows-of, Unrefused}
 use Rattle.lines.specs.verdicts.Verdict.{VerdictIs}
 use Rattle.answer.specs.Columns.{base-of}
@@ -42,7 +42,7 @@ module _ (fill : ℕ → ℕ → Coefficient) (job : Job) where
 
   module _ (loads : Loads) (are : AreLoads fill (load-rows-of job) loads) where
     check-named : (c : Combination) (k : Check) (l : Line) → worst.LineSays c k (base-of (job .base)) loads l → all.All IsNamed (check-line c k l)
-    unfolding IsNamed check-line worst.LineSays
+    unfolding IsNamed shown-line check-line worst.LineSays
     check-named c k Missing p = all.none
     check-named c k (Shown figure limit set passes) p =
         all.more
@@ -105,7 +105,7 @@ IsOf combination of l = l .name ≡ check combination of
 module _ (fill : ℕ → ℕ → Coefficient) (job : Job) (loads : Loads) (are : AreLoads fill (load-rows-of job) loads) where
   module _ (c : Combination) (set limit : ℕ) (permitted : Permitted c loads set) where
     check-shown : (k : Check) (l : Line) → worst.LineSays c k (base-of (job .base)) loads l → Limit c k (base-of (job .base)) limit → all.Some (IsOf c k) (check-line c k l)
-    unfolding IsOf check-line worst.LineSays
+    unfolding IsOf shown-line check-line worst.LineSays
     check-shown k Missing p h = absurd (p limit h set permitted)
     check-shown k (Shown figure limit s passes) p h = all.here refl
 

@@ -14,7 +14,7 @@ use Rattle.checks.specs.declared.Figure.{Figure}
 use Rattle.checks.specs.limits.Limits.{Limit}
 use Rattle.worst.specs.Lines.{Printed}
 use Rattle.loads.specs.LoadRows.{AreLoads}
-use Rattle.lines.specs.Lines.{PrintedLine, check, holds, value-of, mark-of}
+use Rattle.lines.specs.Lines.{PrintedLine, check, shown-line}
 use Rattle.answer.specs.Rules.{load-rows-of}
 use Rattle.answer.specs.Columns.{base-of}
 
@@ -27,7 +27,7 @@ pub record NamesSet (fill : ℕ → ℕ → Coefficient) (job : Job) (combinatio
   pub set : ℕ
   pub passes : Bool
   pub printed : Printed combination of (base-of (job .base)) loads figure limit set passes
-  pub is : line ≡ record { name = check combination of; value = value-of figure; limit = holds limit; set = holds set; mark = mark-of passes }
+  pub is : line ≡ shown-line combination of figure limit set passes
 
 -- the combination has the check, by its limit, and permits a set of the job's loads
 pub record Checked (fill : ℕ → ℕ → Coefficient) (job : Job) (combination : Combination) (of : Check) : Type 0 where

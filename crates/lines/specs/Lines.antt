@@ -75,11 +75,15 @@ verdict-value (Refused n) = number n
 unfoldable pub verdict-line : Verdict → PrintedLine
 verdict-line verdict = record { name = VERDICT; value = verdict-value verdict; limit = empty; set = empty; mark = unmarked }
 
+-- value, limit, set, Y or N of a check in a combination
+unfoldable pub shown-line : Combination → Check → Figure → (limit set : ℕ) → Bool → PrintedLine
+shown-line combination of figure limit set passes =
+    record { name = check combination of; value = value-of figure; limit = holds limit; set = holds set; mark = mark-of passes }
+
 -- the line of a check in a combination, where it applies
 unfoldable pub check-line : Combination → Check → Line → List PrintedLine
 check-line combination of line.Missing = []
-check-line combination of (line.Shown figure limit set passes) =
-    record { name = check combination of; value = value-of figure; limit = holds limit; set = holds set; mark = mark-of passes } ∷ []
+check-line combination of (line.Shown figure limit set passes) = shown-line combination of figure limit set passes ∷ []
 
 -- "for each checked combination .. OP, OM, SL, PR, RK as they apply"
 unfoldable pub combination-lines : Combination → Lines → List PrintedLine

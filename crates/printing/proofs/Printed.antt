@@ -17,7 +17,7 @@ use Rattle.lines.specs.declared.Line.{Line}
 use Rattle.lines.specs.declared.Line.the-variants as line
 use Rattle.lines.specs.declared.RiverLine.{RiverLine}
 use Rattle.lines.specs.declared.RiverLine.the-variants as river
-use Rattle.lines.specs.Lines.{LineName, PrintedLine, value-of, signed-value, check-line, river-line, verdict-line, later-lines, unless-refused, lines-of}
+use Rattle.lines.specs.Lines.{LineName, PrintedLine, value-of, signed-value, shown-line, check-line, river-line, verdict-line, later-lines, unless-refused, lines-of}
 use Rattle.lines.specs.Alone.{Alone}
 use Rattle.block.specs.declared.Block.{Block}
 use Rattle.block.specs.Decimal.{decimal}
@@ -90,7 +90,7 @@ module _ (key : Key) (b₀ b₁ b₂ b₃ b₄ b₅ : Block) where
       → Put b₅ (field (decimal set)) (1 + length (decimal set)) b₆ × (length (decimal set) ≤ 20)
       → Put b₆ (ending passes) 4 b₇
       → Put b₀ (texts key (check-line of by l)) (line-room l) b₇
-  unfolding check-line line-room line-text name-text number-text
+  unfolding shown-line check-line line-room line-text name-text number-text
   check-printed b₆ b₇ of by l figure limit set passes e p₁ p₂ p₃ p₄ p₅ p₆ p₇ =
       rw e
       (put-as b₀ b₇ _ _ _ _ (texts-one key _) (omega (arith, p₅ .1))
