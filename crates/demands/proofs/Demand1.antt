@@ -15,7 +15,7 @@ use Rattle.lines.specs.declared.Verdict.the-variants.{Refused}
 use Rattle.lines.specs.Lines.{verdict-line, unless-refused, lines-of}
 use Rattle.answer.specs.Rules.{Refuses}
 use Rattle.answer.specs.Answer as answer
-use Rattle.printing.specs.Text.{line-text, texts, text}
+use Rattle.printing.specs.Text.{line-text, texts}
 use Rattle.debtarush.specs.Lines.{TextOf}
 use Rattle.debtarush.specs.CallTold.{CallTold, written, refused}
 use Rattle.debtarush.specs.Called.{Called, no-book, no-place, too-short, lines}
@@ -28,8 +28,8 @@ use Rattle.demands.proofs.Wrote.{call-on-job, wrote}
 
 -- the one line of a refused job
 refused-text : {fill : ℕ → ℕ → Coefficient} {job : Job} {n : ℕ} → Refuses fill job n → TextOf fill job (line-text (job .key) (verdict-line (Refused n)))
-unfolding text texts lines-of unless-refused
-refused-text {n = n} r = record { answer = answer.refusal n; is = answer.refused r refl; are = sym (append-nil _) }
+unfolding texts lines-of unless-refused
+refused-text {n = n} r = record { lines = lines-of (answer.refusal n); is = record { answer = answer.refusal n; is = answer.refused r refl; are = refl }; are = sym (append-nil _) }
 
 module _ (fill : ℕ → ℕ → Coefficient) {b : List ℕ} {place : ℕ} {before after : List ℕ} {t : CallTold} where
   numbers : Called fill b place before after t → (n row : ℕ) → t ≡ refused n row → ((1 ≤ n) × (n ≤ 7)) ⊎ (n ≡ 10)

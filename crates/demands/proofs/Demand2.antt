@@ -13,12 +13,13 @@ use Rattle.lines.specs.declared.Verdict.{Verdict}
 use Rattle.lines.specs.declared.Verdict.the-variants.{Accepted, NotAccepted, Refused}
 use Rattle.lines.specs.Lines.{PrintedLine, check, accepted, not-accepted, number, verdict-value, verdict-line, unless-refused, later-lines, lines-of}
 use Rattle.answer.specs.Rules.{Unrefused}
-use Rattle.printing.specs.Text.{line-text, texts, text}
+use Rattle.printing.specs.Text.{line-text, texts}
 use Rattle.printing.proofs.Injective.{line-injective, texts-injective}
 use Rattle.printing.specs.Keys.{IsKey}
+use Rattle.debtarush.specs.Lines.{LinesOf}
 use Rattle.demands.specs.CheckLine.{NamesSet, Checked, HasLine}
 use Rattle.demands.specs.Sound.{Sound}
-use Rattle.demands.specs.Bytes.{CallWrote, StartsWith, Tells, LinesOf}
+use Rattle.demands.specs.Bytes.{CallWrote, StartsWith, Tells}
 use Rattle.demands.specs.Demand2.{Demand2}
 use Rattle.demands.proofs.Keys.{job-key}
 use Rattle.demands.proofs.Sound.{sound-accepted, accepted-sound}
@@ -39,62 +40,59 @@ module _ (fill : ℕ → ℕ → Coefficient) {job : Job} {bytes : List ℕ} (c 
   own : WroteJob fill job (c .before) (c .after) (c .len)
   own = wrote (call-on-job (c .is-book) (c .at) (c .call))
 
-  bytes-are : bytes ≡ texts (job .key) (lines-of (own .text .answer))
-  unfolding own text
+  bytes-are : bytes ≡ texts (job .key) (own .text .lines)
+  unfolding own
   bytes-are = c .wrote ∙ own .first ∙ own .text .are
 
   told : (lines : List PrintedLine) × Tells bytes (job .key) lines × LinesOf fill job lines
   unfolding own
-  told = (
-    lines-of (own .text .answer),
-    record { is-key = is-key; are = bytes-are },
-    record { answer = own .text .answer; is = own .text .is; are = refl },
-  )
+  told = (own .text .lines, record { is-key = is-key; are = bytes-are }, own .text .is)
 
-  lines-same : (key : Key) (lines : List PrintedLine) → Tells bytes key lines → lines ≡ lines-of (own .text .answer)
+  lines-same : (key : Key) (lines : List PrintedLine) → Tells bytes key lines → lines ≡ own .text .lines
   lines-same key lines t = texts-injective (t .is-key) is-key lines _ (sym (t .are) ∙ bytes-are)
 
-  laid : texts (job .key) (lines-of (own .text .answer)) ≡ line-text (job .key) (verdict-line (own .text .answer .verdict)) ++ texts (job .key) (unless-refused (own .text .answer .verdict) (later-lines (own .text .answer)))
-  unfolding texts lines-of
-  laid = refl
+  lines-own : (key : Key) (lines : List PrintedLine) → Tells bytes key lines → LinesOf fill job lines
+  unfolding own
+  lines-own key lines t = subst (LinesOf fill job) (sym (lines-same key lines t)) (own .text .is)
+
+  laid : bytes ≡ line-text (job .key) (verdict-line (own .text .is .answer .verdict)) ++ texts (job .key) (unless-refused (own .text .is .answer .verdict) (later-lines (own .text .is .answer)))
+  unfolding own texts lines-of
+  laid = bytes-are ∙ ap (texts (job .key)) (own .text .is .are)
 
   key-same : (key : Key) (lines : List PrintedLine) → Tells bytes key lines → key ≡ job .key
-  unfolding texts lines-of
+  unfolding own texts lines-of
   key-same key lines t =
-      let e = lines-same key lines t in
-      line-injective (t .is-key) is-key _ _ _ _ (ap (texts key) (sym e) ∙ sym (t .are) ∙ bytes-are) .0
+      let e = lines-same key lines t ∙ own .text .is .are in
+      line-injective (t .is-key) is-key _ _ _ _ (ap (texts key) (sym e) ∙ sym (t .are) ∙ laid) .0
 
   nothing-else : (key : Key) (lines : List PrintedLine) → Tells bytes key lines → (key ≡ job .key) × LinesOf fill job lines
-  unfolding own
-  nothing-else key lines t = (key-same key lines t, record { answer = own .text .answer; is = own .text .is; are = lines-same key lines t })
+  nothing-else key lines t = (key-same key lines t, lines-own key lines t)
 
   accepted-bytes : StartsWith (line-text (job .key) (verdict-line Accepted)) bytes → Sound fill job
   unfolding own
   accepted-bytes p =
-      let e = line-injective is-key is-key _ _ (p .rest) _ (sym (p .are) ∙ bytes-are ∙ laid) .1 in
-      accepted-sound fill job (own .text .answer) (own .text .is) (verdict-same (own .text .answer .verdict) e)
+      let e = line-injective is-key is-key _ _ (p .rest) _ (sym (p .are) ∙ laid) .1 in
+      accepted-sound fill job (own .text .is .answer) (own .text .is .is) (verdict-same (own .text .is .answer .verdict) e)
 
   accepts : Sound fill job → StartsWith (line-text (job .key) (verdict-line Accepted)) bytes
   unfolding own
   accepts s =
-      let v = sound-accepted fill job (own .text .answer) (own .text .is) s in
-      record {
-        rest = texts (job .key) (unless-refused (own .text .answer .verdict) (later-lines (own .text .answer)));
-        are = subst (λ (x : Verdict). bytes ≡ line-text (job .key) (verdict-line x) ++ texts (job .key) (unless-refused (own .text .answer .verdict) (later-lines (own .text .answer)))) v (bytes-are ∙ laid);
-      }
+      let v = sound-accepted fill job (own .text .is .answer) (own .text .is .is) s in
+      let rest = texts (job .key) (unless-refused (own .text .is .answer .verdict) (later-lines (own .text .is .answer))) in
+      record { rest = rest; are = subst (λ (x : Verdict). bytes ≡ line-text (job .key) (verdict-line x) ++ rest) v laid }
 
   named : (key : Key) (lines : List PrintedLine) → Tells bytes key lines → (n : ℕ) (line : PrintedLine) → Nth lines n line
       → (combination : Combination) (of : Check) → line .name ≡ check combination of → NamesSet fill job combination of line
-  unfolding own
-  named key lines t n line r combination of e = line-named fill job (own .text .is) (subst (λ (l : List PrintedLine). Nth l n line) (lines-same key lines t) r) e
+  named key lines t n line r combination of e =
+      let own-lines = lines-own key lines t in
+      line-named fill job (own-lines .is) (subst (λ (l : List PrintedLine). Nth l n line) (own-lines .are) r) e
 
   shown : (key : Key) (lines : List PrintedLine) → Tells bytes key lines → Unrefused fill job
       → (combination : Combination) (of : Check) → Checked fill job combination of → HasLine lines combination of
-  unfolding own
   shown key lines t u combination of h =
-      subst (λ (l : List PrintedLine). HasLine l combination of) (sym (lines-same key lines t))
-      (let w = line-shown fill job (h .loads) (h .are) (own .text .answer) combination of (h .set) (own .text .is) u (h .limit) (h .limited) (h .permitted) in
-      record { place = w .0; line = w .1; at = w .2; is = w .3 })
+      let own-lines = lines-own key lines t in
+      let w = line-shown fill job (h .loads) (h .are) (own-lines .answer) combination of (h .set) (own-lines .is) u (h .limit) (h .limited) (h .permitted) in
+      subst (λ (l : List PrintedLine). HasLine l combination of) (sym (own-lines .are)) (record { place = w .0; line = w .1; at = w .2; is = w .3 })
 
 pub demand2 : (fill : ℕ → ℕ → Coefficient) → Demand2 fill
 demand2 fill job bytes c =

@@ -1,4 +1,4 @@
--- What the demands say of bytes: that a call wrote them for a job, and which lines they are.
+-- What the demands say of bytes: that a call wrote them for a job, and what lines of a key they are.
 use Prim.Native.Nat.{ℕ}
 use mathlib.Core.Path.{_≡_}
 use mathlib.Core.List.{List, _++_}
@@ -11,9 +11,7 @@ use Rattle.csv.specs.Nth.{Nth}
 use Rattle.debtarush.specs.CallTold.{written}
 use Rattle.debtarush.specs.Called.{Called}
 use Rattle.earth.specs.declared.table2.Coefficient.{Coefficient}
-use Rattle.lines.specs.declared.Answer.{Answer}
-use Rattle.lines.specs.Lines.{PrintedLine, lines-of}
-use Rattle.answer.specs.Answer.{AnswerIs}
+use Rattle.lines.specs.Lines.{PrintedLine}
 use Rattle.printing.specs.Keys.{IsKey}
 use Rattle.printing.specs.Text.{texts}
 
@@ -38,9 +36,3 @@ pub record StartsWith (front bytes : List ℕ) : Type 0 where
 pub record Tells (bytes : List ℕ) (key : Key) (lines : List PrintedLine) : Type 0 where
   pub is-key : IsKey key
   pub are : bytes ≡ texts key lines
-
--- the lines are those of the job's answer
-pub record LinesOf (fill : ℕ → ℕ → Coefficient) (job : Job) (lines : List PrintedLine) : Type 0 where
-  pub answer : Answer
-  pub is : AnswerIs fill job answer
-  pub are : lines ≡ lines-of answer

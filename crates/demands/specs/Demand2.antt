@@ -12,9 +12,10 @@ use Rattle.lines.specs.declared.Verdict.the-variants.{Accepted}
 use Rattle.lines.specs.Lines.{PrintedLine, check, verdict-line}
 use Rattle.answer.specs.Rules.{Unrefused}
 use Rattle.printing.specs.Text.{line-text}
+use Rattle.debtarush.specs.Lines.{LinesOf}
 use Rattle.demands.specs.CheckLine.{NamesSet, Checked, HasLine}
 use Rattle.demands.specs.Sound.{Sound}
-use Rattle.demands.specs.Bytes.{CallWrote, StartsWith, Tells, LinesOf}
+use Rattle.demands.specs.Bytes.{CallWrote, StartsWith, Tells}
 
 -- what is demanded of the bytes that a call wrote for a job
 pub record CodeAnswer (fill : ℕ → ℕ → Coefficient) (job : Job) (bytes : List ℕ) : Type 0 where

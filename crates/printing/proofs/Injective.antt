@@ -11,7 +11,8 @@ use Rattle.lines.specs.Lines.{PrintedLine, lines-of}
 use Rattle.printing.specs.line_key.Text.{name-bytes, key-text}
 use Rattle.printing.specs.line_fields.Text.{name-text, value-text, number-text, mark-text}
 use Rattle.printing.specs.Keys.{IsKey}
-use Rattle.printing.specs.Text.{line-text, texts, text}
+use Rattle.printing.specs.Text.{line-text, texts}
+use Rattle.printing.specs.AnswerText.{text}
 use Rattle.printing.proofs.Fields.{Without, until-first, name-without, line-name-without, value-without, cell-without, mark-without, read-back, read-name, name-read, read-value, value-read, read-cell, cell-read, read-mark, mark-read}
 use Rattle.lines.specs.declared.Answer.{Answer}
 

@@ -26,7 +26,8 @@ use Rattle.block.specs.Fields.{field}
 use Rattle.printing.specs.line_key.Text.{key-text}
 use Rattle.printing.specs.line_fields.Text.{HYPHEN, combination-text, check-text, name-text, value-text, number-text}
 use Rattle.printing.specs.steps.Ending.{ending}
-use Rattle.printing.specs.Text.{line-text, texts, text}
+use Rattle.printing.specs.Text.{line-text, texts}
+use Rattle.printing.specs.AnswerText.{text}
 use Rattle.printing.specs.steps.Room.{line-room}
 use Rattle.block.proofs.Pages.{spelled, then-put, put-as, put-nothing}
 use Rattle.lines.specs.declared.Verdict.{Verdict}

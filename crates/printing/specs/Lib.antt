@@ -1,5 +1,6 @@
 pub mod Keys
 pub mod Text
+pub mod AnswerText
 pub mod line_fields
 pub mod line_key
 pub mod refused_book

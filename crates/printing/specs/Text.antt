@@ -2,11 +2,10 @@
 use Prim.Native.Nat.{ℕ}
 use mathlib.Core.List.{List, [], _∷_, _++_}
 use Rattle.rows.specs.declared.keys.Key.{Key}
-use Rattle.lines.specs.Lines.{PrintedLine, lines-of}
+use Rattle.lines.specs.Lines.{PrintedLine}
 use Rattle.block.specs.Fields.{field, line-end}
 use Rattle.printing.specs.line_key.Text.{key-text}
 use Rattle.printing.specs.line_fields.Text.{name-text, value-text, number-text, mark-text}
-use Rattle.lines.specs.declared.Answer.{Answer}
 
 -- "Seven fields: member, job, line, value, limit, set, Y or N."
 unfoldable pub line-text : Key → PrintedLine → List ℕ
@@ -23,7 +22,3 @@ line-text key line =
 unfoldable pub texts : Key → List PrintedLine → List ℕ
 texts key [] = []
 texts key (line ∷ later) = line-text key line ++ texts key later
-
--- the text of a job's answer
-unfoldable pub text : Key → Answer → List ℕ
-text key answer = texts key (lines-of answer)

@@ -27,7 +27,8 @@ ghost use Rattle.block.specs.Block.{Adds, block-of};
 ghost use Rattle.block.specs.Fields.{field};
 ghost use Rattle.printing.specs.line_fields.Text.{HYPHEN, combination-text, check-text, name-text, value-text};
 ghost use Rattle.printing.specs.steps.Ending.{ending};
-ghost use Rattle.printing.specs.Text.{texts, text, line-text};
+ghost use Rattle.printing.specs.Text.{texts, line-text};
+ghost use Rattle.printing.specs.AnswerText.{text};
 ghost use Rattle.printing.specs.steps.Room.{lines-room, answer-room, line-room};
 
 // The value of a check.

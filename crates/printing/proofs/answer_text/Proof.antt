@@ -12,7 +12,7 @@ use Rattle.lines.specs.Numbered.{Numbered}
 use Rattle.block.specs.declared.Block.{Block}
 use Rattle.block.specs.Block.{blank, block-of, Put}
 use Rattle.block.proofs.Pages.{puts-blank}
-use Rattle.printing.specs.Text.{text}
+use Rattle.printing.specs.AnswerText.{text}
 use Rattle.printing.specs.steps.Room.{answer-room}
 use Rattle.printing.proofs.Printed.{no-line, alone-holds, alone-fails, answer-printed}
 use Rattle.printing.proofs.Room.{room-fits}
