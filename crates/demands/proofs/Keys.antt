@@ -14,13 +14,7 @@ use Rattle.book.specs.SameJob.{listed}
 use Rattle.demands.proofs.All as all
 
 form-key : {cs : List Cell} {r : BookRow} → Form cs r → IsKey (r .keyed .key)
-form-key f = record {
-  member = f .ten .member .content;
-  job = f .ten .job .content;
-  member-named = f .member .is;
-  job-named = f .job .is;
-  held = λ i. record { member = f .member .held i; job = f .job .held i };
-}
+form-key f = record { member = f .ten .member .content; job = f .ten .job .content; member-named = f .member; job-named = f .job }
 
 HasKey : BookRow → Type 0
 HasKey r = IsKey (r .keyed .key)

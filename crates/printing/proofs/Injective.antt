@@ -1,11 +1,12 @@
 -- Two texts that are equal are those of the same key and the same lines: their fields are equal one by one, and each says the same.
 use Prim.Native.Nat.{ℕ}
-use mathlib.Core.Path.{_≡_, refl, sym, _∙_}
+use mathlib.Core.Path.{_≡_, refl, sym, ap, _∙_}
 use mathlib.Core.List.{List, [], _∷_, _++_, append-assoc}
 use lib.Seq.{take-append-seam}
 use Rattle.arithmetic.proofs.Cases.{impossible}
 use Rattle.csv.specs.rfc4180.Rfc4180.{COMMA, CR, LF}
-use Rattle.fields.specs.names.Names.{name}
+use Rattle.fields.specs.declared.names.Name.{Name}
+use Rattle.fields.specs.names.Names.{name, NameOf}
 use Rattle.rows.specs.declared.keys.Key.{Key}
 use Rattle.lines.specs.Lines.{PrintedLine, lines-of}
 use Rattle.printing.specs.line_key.Text.{name-bytes, key-text}
@@ -82,26 +83,30 @@ named-bytes : (c : List ℕ) → name-bytes (name c) ≡ c
 unfolding name-bytes
 named-bytes c = take-append-seam c _
 
+-- the same content has the same value
+name-same : {c d : List ℕ} {m n : Name} → NameOf c m → NameOf d n → c ≡ d → m ≡ n
+name-same p q e = p .held ∙ (λ i. name (e i)) ∙ sym (q .held)
+
 member-bytes : {key : Key} (h : IsKey key) → name-bytes (key .member) ≡ h .member
-member-bytes h = rw (h .held) (named-bytes (h .member))
+member-bytes h = ap name-bytes (h .member-named .held) ∙ named-bytes (h .member)
 
 job-bytes : {key : Key} (h : IsKey key) → name-bytes (key .job) ≡ h .job
-job-bytes h = rw (h .held) (named-bytes (h .job))
+job-bytes h = ap name-bytes (h .job-named .held) ∙ named-bytes (h .job)
 
 member-without : {key : Key} → IsKey key → Without COMMA (name-bytes (key .member))
-member-without h = rw (member-bytes h) (name-without (h .member) (h .member-named))
+member-without h = rw (member-bytes h) (name-without (h .member) (h .member-named .is))
 
 job-without : {key : Key} → IsKey key → Without COMMA (name-bytes (key .job))
-job-without h = rw (job-bytes h) (name-without (h .job) (h .job-named))
+job-without h = rw (job-bytes h) (name-without (h .job) (h .job-named .is))
 
 -- A line and what follows it say the key, the line, and what follows; lines say themselves.
 module _ {k k′ : Key} (h : IsKey k) (h′ : IsKey k′) where
   pub line-injective : (l l′ : PrintedLine) (later later′ : List ℕ) → line-text k l ++ later ≡ line-text k′ l′ ++ later′ → (k ≡ k′) × (l ≡ l′)
   line-injective l l′ later later′ e =
       let same = line-same k k′ l l′ later later′ (member-without h) (member-without h′) (job-without h) (job-without h′) e in
-      let member : h .member ≡ h′ .member = sym (member-bytes h) ∙ same .members ∙ member-bytes h′ in
-      let job : h .job ≡ h′ .job = sym (job-bytes h) ∙ same .jobs ∙ job-bytes h′ in
-      (h .held ∙ (λ i. record { member = name (member i); job = name (job i) }) ∙ sym (h′ .held), same .lines)
+      let members = name-same (h .member-named) (h′ .member-named) (sym (member-bytes h) ∙ same .members ∙ member-bytes h′) in
+      let jobs = name-same (h .job-named) (h′ .job-named) (sym (job-bytes h) ∙ same .jobs ∙ job-bytes h′) in
+      (λ i. record { member = members i; job = jobs i }, same .lines)
 
   pub texts-injective : (ls ms : List PrintedLine) → texts k ls ≡ texts k′ ms → ls ≡ ms
   texts-injective = texts-same k k′ (member-without h) (member-without h′) (job-without h) (job-without h′)
