@@ -46,7 +46,7 @@ module _ (fill : ℕ → ℕ → Coefficient) (job : Job) where
     check-named c k Missing p = all.none
     check-named c k (Shown figure limit set passes) p =
         all.more
-        (λ d m e. named-same (cc) (cc) (record { loads = loads; are = are; figure = figure; limit = limit; set = set; passes = passes; printed = p; is = refl }))
+        (λ d m e. named-same (cc) (cc) (record { loads = loads; are = are; figure = figure; limit = limit; set = set; passes = passes; shown = p; is = refl }))
         all.none
 
     lines-named : (c : Combination) (l : Lines) → LinesAre c (base-of (job .base)) loads l → all.All IsNamed (combination-lines c l)

@@ -12,13 +12,13 @@ use Rattle.sets.specs.Sets.{Permitted}
 use Rattle.checks.specs.declared.Check.{Check}
 use Rattle.checks.specs.declared.Figure.{Figure}
 use Rattle.checks.specs.limits.Limits.{Limit}
-use Rattle.worst.specs.Lines.{Printed}
+use Rattle.worst.specs.Lines.{CheckShown}
 use Rattle.loads.specs.LoadRows.{AreLoads}
 use Rattle.lines.specs.Lines.{PrintedLine, check, shown-line}
 use Rattle.answer.specs.Rules.{load-rows-of}
 use Rattle.answer.specs.Columns.{base-of}
 
--- it shows the figure of the permitted set that it names, beside the limit; no permitted set is worse (`Printed`)
+-- it shows the figure of the permitted set that it names, beside the limit; no permitted set is worse (`CheckShown`)
 pub record NamesSet (fill : ℕ → ℕ → Coefficient) (job : Job) (combination : Combination) (of : Check) (line : PrintedLine) : Type 0 where
   pub loads : Loads
   pub are : AreLoads fill (load-rows-of job) loads
@@ -26,7 +26,7 @@ pub record NamesSet (fill : ℕ → ℕ → Coefficient) (job : Job) (combinatio
   pub limit : ℕ
   pub set : ℕ
   pub passes : Bool
-  pub printed : Printed combination of (base-of (job .base)) loads figure limit set passes
+  pub shown : CheckShown combination of (base-of (job .base)) loads figure limit set passes
   pub is : line ≡ shown-line combination of figure limit set passes
 
 -- the combination has the check, by its limit, and permits a set of the job's loads

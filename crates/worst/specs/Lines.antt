@@ -19,7 +19,7 @@ use Rattle.checks.specs.passing.Passing.{Passes}
 use Rattle.weighing.specs.Named.{Named}
 
 -- value, limit, set, Y or N
-pub record Printed (combination : Combination) (check : Check) (base : Base) (loads : Loads) (figure : Figure) (limit set : ℕ) (passes : Bool) : Type 0 where
+pub record CheckShown (combination : Combination) (check : Check) (base : Base) (loads : Loads) (figure : Figure) (limit set : ℕ) (passes : Bool) : Type 0 where
   pub named : Named (side check) (Permitted combination loads) (Shows check base loads) figure set
   pub limited : Limit combination check base limit
   pub marked : Decides passes (Passes (side check) limit figure)
@@ -27,7 +27,7 @@ pub record Printed (combination : Combination) (check : Check) (base : Base) (lo
 -- A combination with no set is not checked, and one that has no limit for a check has no line of it.
 unfoldable pub LineSays : Combination → Check → Base → Loads → Line → Type 0
 LineSays combination check base loads Missing = (limit : ℕ) → Limit combination check base limit → (set : ℕ) → Permitted combination loads set → ⊥
-LineSays combination check base loads (Shown figure limit set passes) = Printed combination check base loads figure limit set passes
+LineSays combination check base loads (Shown figure limit set passes) = CheckShown combination check base loads figure limit set passes
 
 -- the line of each check
 unfoldable pub line : Check → Lines → Line
