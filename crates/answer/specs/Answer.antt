@@ -41,6 +41,7 @@ pub record LinesGiven (fill : ℕ → ℕ → Coefficient) (job : Job) (a : Answ
 abbrev pub refusal : ℕ → Answer
 refusal n = record { verdict = Refused n; one = no-lines; two = no-lines; three = no-lines; four = no-lines; depth = Missing; clear = Missing }
 
+-- "A, N or the refusal": a refused job's answer is its refusal, any other's its lines, with A or N
 pub data AnswerIs (fill : ℕ → ℕ → Coefficient) (job : Job) (a : Answer) : Type 0 where
   refused : {n : ℕ} → Refuses fill job n → a ≡ refusal n → AnswerIs fill job a
   answered : LinesGiven fill job a → AnswerIs fill job a

@@ -44,5 +44,6 @@ pub data When (fill : ℕ → ℕ → Coefficient) (job : Job) : ℕ → Type 0 
 abbrev pub Refuses : (ℕ → ℕ → Coefficient) → Job → ℕ → Type 0
 Refuses fill job n = Least (When fill job) n
 
+-- "the job isn't refused": none of 11 to 16 is given
 abbrev pub Unrefused : (ℕ → ℕ → Coefficient) → Job → Type 0
 Unrefused fill job = (n : ℕ) → When fill job n → ⊥

@@ -1,4 +1,4 @@
--- Document 01, Load sets and The printed answer: the line of a check in a combination.
+-- Document 01, Load sets and The printed answer: what is demanded of a printed line of a check: that it names its set, and that none is left out.
 use Prim.Native.Nat.{ℕ}
 use mathlib.Core.Path.{_≡_}
 use mathlib.Core.Bool.{Bool}

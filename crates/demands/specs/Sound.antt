@@ -31,7 +31,6 @@ pub record SaysYes (Is : RiverLine → Type 0) : Type 0 where
   pub is : Is line
   pub yes : RiverYes line
 
--- "A is given exactly if the job isn't refused and every line after VERDICT says Y", said of the job and of its permitted sets
 pub record Sound (fill : ℕ → ℕ → Coefficient) (job : Job) : Type 0 where
   pub unrefused : Unrefused fill job
   pub loads : Loads

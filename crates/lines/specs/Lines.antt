@@ -119,6 +119,6 @@ unless-refused (Refused n) later = []
 unfoldable pub lines-of : Answer → List PrintedLine
 lines-of answer = verdict-line (answer .verdict) ∷ unless-refused (answer .verdict) (later-lines answer)
 
--- the lines of a combination that has none: "A combination with no set is not checked."
+-- no lines of a combination
 abbrev pub no-lines : Lines
 no-lines = record { op = line.Missing; om = line.Missing; sl = line.Missing; pr = line.Missing; rk = line.Missing }

@@ -42,6 +42,7 @@ pub record DepthShown (job : Job) (depth : Amount) (found : ℕ) (passes : Bool)
   pub limit : found ≡ waterway-of (job .scour) .depth
   pub mark : Decides passes (needed ≤ found)
 
+-- the line SC of a job: "soil, with S", and missing on rock or without S
 abbrev pub DepthIs : Job → RiverLine → Type 0
 DepthIs job line.Missing = Founded job → ⊥
 DepthIs job (line.Shown depth found passes) = DepthShown job depth found passes
@@ -51,6 +52,7 @@ pub record ClearShown (job : Job) (clearance : Amount) (needed : ℕ) (passes : 
   pub gives : ClearanceGives job (given clearance needed)
   pub mark : Decides passes (AtLeast clearance needed)
 
+-- the line CL of a job: "with C", and missing without
 abbrev pub ClearIs : Job → RiverLine → Type 0
 ClearIs job line.Missing = HasClearance (job .stage) → ⊥
 ClearIs job (line.Shown clearance needed passes) = ClearShown job clearance needed passes
