@@ -82,7 +82,7 @@ fn both(depth: RowGives, clear: RowGives) -> RiverRead
     }
 }
 
-// The lines of the river rows that a job has.
+// What the river rows of a job give: the lowest of their refusals, or their lines.
 pub(crate) fn river_of(job: Job, rock: bool) -> RiverRead
     requires { ⌜ rock ≡ base-of (job .base) .rock ⌝ }
     ensures { λ r. ⌜ RiverSays job r ⌝ }

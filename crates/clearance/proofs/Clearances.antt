@@ -17,7 +17,7 @@ use Rattle.clearance.specs.ClearanceRow.{clearance-told, ClearanceSays, 
 use Rattle.clearance.specs.Clear.{ClearanceTold, Cleared, over-obstructed, clear, AtLeast}
 use Rattle.clearance.specs.declared.Opening.{Opening}
 use Rattle.clearance.specs.declared.ClearanceAnswer.{ClearanceAnswer}
-use Rattle.clearance.proofs.ClearanceTold.{clearance-told-one}
+use Rattle.clearance.proofs.ClearanceRow.{clearance-told-one}
 
 module _ {row : Opening} {Q : ℕ} where
   pub cleared-one : {t u : ClearanceTold} → Cleared row Q t → Cleared row Q u → t ≡ u

@@ -9,7 +9,7 @@ use Rattle.block.specs.Block as block
 use Rattle.block.proofs.Pages.{block-held}
 use Rattle.buffer.specs.Copying as buffer
 use Rattle.debtarush.specs.CallTold.{CallTold, written, refused}
-use Rattle.debtarush.specs.LinesIn.{LinesIn}
+use Rattle.debtarush.specs.steps.LinesIn.{LinesIn}
 use Rattle.book.specs.JobBook.{Jobs, JobBook}
 use Rattle.book.specs.Values.{values}
 use Rattle.csv.specs.Nth.{Nth}

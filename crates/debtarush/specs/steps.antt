@@ -1,1 +1,2 @@
 pub mod Behind
+pub mod LinesIn

@@ -14,7 +14,7 @@ ghost use Prim.Native.Nat.{_+_, _≤_};
 ghost use lib.ListN.{length};
 ghost use Rattle.block.specs.Block.{text-held};
 ghost use Rattle.earth.specs.table2.Table2.{table2-fill};
-ghost use Rattle.debtarush.specs.LinesIn.{LinesIn};
+ghost use Rattle.debtarush.specs.steps.LinesIn.{LinesIn};
 ghost use Rattle.debtarush.specs.CallTold.{call-told};
 ghost use Rattle.debtarush.specs.Called.{Called};
 ghost use Rattle.debtarush.specs.steps.Behind.{Behind};
@@ -29,7 +29,7 @@ pub enum Written {
 }
 
 // The bytes of a job's lines: its answer, printed.
-pub fn lines_of(job: Job) -> Block
+fn lines_of(job: Job) -> Block
     ensures { λ r. ⌜ LinesIn table2-fill job r ⌝ }
 {
     let key = job.key;

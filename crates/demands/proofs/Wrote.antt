@@ -9,10 +9,9 @@ use Rattle.jobs.specs.declared.Job.{Job}
 use Rattle.book.specs.JobBook.{Jobs, JobBook}
 use Rattle.book.specs.Values.{values}
 use Rattle.csv.specs.Nth.{Nth}
-use Rattle.book.proofs.Answers.{refused-none, book-one}
-use Rattle.csv.proofs.notes.Answers.{nth-one}
+use Rattle.book.proofs.Answers.{refused-none}
 use Rattle.earth.specs.declared.table2.Coefficient.{Coefficient}
-use Rattle.debtarush.proofs.Locating.{job-there}
+use Rattle.debtarush.proofs.Locating.{job-one, job-there}
 use Rattle.debtarush.specs.Lines.{TextOf}
 use Rattle.debtarush.specs.CallTold.{CallTold, written, refused}
 use Rattle.debtarush.specs.Called.{Called, no-book, no-place, too-short, lines}
@@ -23,7 +22,7 @@ pub data CallOnJob (fill : ℕ → ℕ → Coefficient) (job : Job) (before afte
 
 module _ {fill : ℕ → ℕ → Coefficient} {b : List ℕ} {place : ℕ} {js : Jobs} {job : Job} (book : JobBook b js) (at : Nth (values js) place job) where
   own-text : {ks : Jobs} {k : Job} {bytes : List ℕ} → JobBook b ks → Nth (values ks) place k → TextOf fill k bytes → TextOf fill job bytes
-  own-text {k = k} {bytes} p r t = subst (λ (x : Job). TextOf fill x bytes) (nth-one (subst (λ (l : Jobs). Nth (values l) place k) (book-one p book) r) at) t
+  own-text {k = k} {bytes} p r t = subst (λ (x : Job). TextOf fill x bytes) (job-one p book r at) t
 
   pub call-on-job : {before after : List ℕ} {t : CallTold} → Called fill b place before after t → CallOnJob fill job before after t
   call-on-job (no-book s a e) = absurd (refused-none s js book)

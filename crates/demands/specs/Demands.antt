@@ -11,7 +11,7 @@ pub record Demands : Type 0 where
   pub first : Demand1 table2-fill
   -- each answer is the code's
   pub second : Demand2 table2-fill
-  -- a job book is stated, and a job's lines depend on its own key, kinds and numbers alone
+  -- exactly the job books are read, each has one reading, and a job's lines depend on its own key, kinds and numbers alone
   pub third : Demand3 table2-fill
   -- what is printed of a book is what the calls for its jobs write
   pub fourth : Demand4 table2-fill

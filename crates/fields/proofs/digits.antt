@@ -1,3 +1,2 @@
 -- Laws of digits. Other crates' proofs cite them.
 pub mod Numerals
-pub mod Answers

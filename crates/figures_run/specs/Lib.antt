@@ -1,1 +1,1 @@
-pub mod asked
+pub mod steps

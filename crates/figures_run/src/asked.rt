@@ -3,7 +3,7 @@
 // What is written no contract can say; how many figures agree is said.
 use libc::STDOUT_FILENO;
 ghost use mathlib.Core.Path.{_≡_};
-ghost use Rattle.figures_run.specs.asked.Asked.{agreeing};
+ghost use Rattle.figures_run.specs.steps.Asked.{agreeing};
 
 // Words, and the number that they end with.
 fn write(words: &[u8], number: u64) {

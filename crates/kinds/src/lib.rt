@@ -1,8 +1,7 @@
 // Document 01's table of kinds, as data: the form (refusal 3) and the ranges (refusal 11) of a row's numbers.
 //
-// Which columns are filled and in what range, what a row of the kind is to its job, and where its phase stands, is stated in one table
-// (`specs/Table.antt`); its letters stand with `letters`, its class and the source of its forces with `classes`. A kind that is added joins
-// each of these. The code's copies are shown to be the definitions'.
+// Which columns are filled and in what range, how the kind is written, what a row of it is to its job, and where its phase stands, is stated in
+// one table (`specs/Table.antt`), its class and the source of its forces with `classes`. A kind that is added joins both. The code's copies are shown to be the definitions'.
 pub mod classes;
 pub mod letters;
 pub mod ranges;

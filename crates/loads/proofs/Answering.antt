@@ -22,7 +22,8 @@ use Rattle.loads.proofs.Loaded.{loads-one, loads-few}
 use Rattle.loads.specs.declared.LoadsAnswer.{LoadsAnswer}
 use Rattle.loads.specs.declared.LoadsAnswer.the-variants.{OutOfRange, NoCoefficient, TooManyOptional, Given}
 use Rattle.loads.specs.declared.LoadsRead.{LoadsRead}
-use Rattle.loads.specs.Answer.{LoadsTold, given, loads-told, loads-told-by, LoadsSays, out-of-range, blank, too-many, loaded, row-count, no-loads, Beside, LoadsAnswered}
+use Rattle.loads.specs.Answer.{LoadsTold, given, loads-told, loads-told-by, LoadsSays, out-of-range, blank, too-many, loaded, no-loads, Beside, LoadsAnswered}
+use Rattle.loads.specs.steps.Asking.{row-count}
 
 -- ---- the rows are told one answer
 module _ (fill : ℕ → ℕ → Coefficient) (rows : List Row) where

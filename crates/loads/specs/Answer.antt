@@ -1,8 +1,6 @@
 -- Document 01, Refusals of a job: what the load rows of a job are told, by 11, 15 and 16 in the order of their numbers, or the loads.
 use mathlib.Core.Path.{_≡_}
-use mathlib.Core.Bool.{cond}
 use mathlib.Core.List.{List}
-use lib.Dec.{ltb}
 use Prim.Native.Nat.{ℕ, _≤_, _<_}
 use lib.ListN.{take, replicate}
 use Rattle.kinds.specs.declared.Row.{Row}
@@ -34,10 +32,6 @@ pub data LoadsSays (fill : ℕ → ℕ → Coefficient) (rows : List Row) : Load
   blank : AllRanged rows → (NoneBlank fill rows → ⊥) → LoadsSays fill rows (refused 15)
   too-many : AllRanged rows → NoneBlank fill rows → 12 < optionals rows → LoadsSays fill rows (refused 16)
   loaded : {loads : Loads} → AllRanged rows → NoneBlank fill rows → optionals rows ≤ 12 → AreLoads fill rows loads → LoadsSays fill rows (given loads)
-
--- how many of the rows are looked at: the first `count`, at most 16
-unfoldable pub row-count : ℕ → ℕ
-row-count count = cond (ltb 16 count) 16 count
 
 -- no loads: what stands beside a refusal
 unfoldable pub no-loads : Loads

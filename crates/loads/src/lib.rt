@@ -11,7 +11,8 @@ ghost use mathlib.Core.Path.{_≡_};
 ghost use Prim.Native.Nat.{_≤_};
 ghost use lib.ListN.{take};
 ghost use Rattle.earth.specs.table2.Table2.{table2-fill};
-ghost use Rattle.loads.specs.Answer.{no-loads, row-count, LoadsAnswered};
+ghost use Rattle.loads.specs.Answer.{no-loads, LoadsAnswered};
+ghost use Rattle.loads.specs.steps.Asking.{row-count};
 ghost use Rattle.loads.specs.steps.Asking.{AskedIs};
 
 // What the load rows are told: refusal 11 (a number out of range), 15 (Table 2 blank) or 16 (more than 12 optional rows), in that

@@ -8,14 +8,12 @@ use Rattle.csv.specs.rfc4180.Rfc4180.{COMMA, CR, LF}
 use Rattle.fields.specs.declared.names.Name.{Name}
 use Rattle.fields.specs.names.Names.{name, NameOf}
 use Rattle.rows.specs.declared.keys.Key.{Key}
-use Rattle.lines.specs.Lines.{PrintedLine, lines-of}
+use Rattle.lines.specs.Lines.{PrintedLine}
 use Rattle.printing.specs.line_key.Text.{name-bytes, key-text}
 use Rattle.printing.specs.line_fields.Text.{name-text, value-text, number-text, mark-text}
 use Rattle.printing.specs.Keys.{IsKey}
 use Rattle.printing.specs.Text.{line-text, texts}
-use Rattle.printing.specs.AnswerText.{text}
 use Rattle.printing.proofs.Fields.{Without, until-first, name-without, line-name-without, value-without, cell-without, mark-without, read-back, read-name, name-read, read-value, value-read, read-cell, cell-read, read-mark, mark-read}
-use Rattle.lines.specs.declared.Answer.{Answer}
 
 -- ---- a line, and what follows it
 
@@ -110,9 +108,3 @@ module _ {k k′ : Key} (h : IsKey k) (h′ : IsKey k′) where
 
   pub texts-injective : (ls ms : List PrintedLine) → texts k ls ≡ texts k′ ms → ls ≡ ms
   texts-injective = texts-same k k′ (member-without h) (member-without h′) (job-without h) (job-without h′)
-
--- ---- the text of a job's lines says its key and its lines
-
-pub text-injective : {k k′ : Key} (a a′ : Answer) → IsKey k → IsKey k′ → text k a ≡ text k′ a′ → (k ≡ k′) × (lines-of a ≡ lines-of a′)
-unfolding text texts lines-of
-text-injective a a′ h h′ e = (line-injective h h′ _ _ _ _ e .0, texts-injective h h′ (lines-of a) (lines-of a′) e)

@@ -1,4 +1,4 @@
--- What the functions of `src/lib.rt` answer for the row that starts at a place.
+-- What `read_row` answers for the row that starts at a place.
 use Prim.Native.Nat.{ℕ, _+_, _<_, min}
 use mathlib.Core.Path.{_≡_}
 use mathlib.Core.Bool.{Bool, true, false}

@@ -55,6 +55,3 @@ bit-low s i j h =
 
 pub bit-kept : (s i j : ℕ) → i < j → bit (s + 2 ^ j) i ≡ bit s i
 bit-kept s i j h = bit-low (s + 2 ^ j) i j h ∙ ap (λ (x : ℕ). x / 2 ^ i % 2) (add-mod-right s (2 ^ j)) ∙ sym (bit-low s i j h)
-
-pub one-more : (s i : ℕ) → s < 2 ^ i → s + 2 ^ i < 2 ^ (i + 1)
-one-more s i h = rw (add-one, pow-suc 2 i) (omega arith)

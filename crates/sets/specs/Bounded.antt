@@ -4,7 +4,7 @@ use Rattle.sets.specs.declared.Load.{Load}
 use Rattle.sets.specs.declared.Loads.{Loads}
 use Rattle.sets.specs.Sets.{row}
 
--- How large a load may be for every sum to fit a word; what 01's rows exert is within it. |V| in kN, |x| in mm, |H| in kN, |H y| in kN mm.
+-- |V| in kN, |x| in mm, |H| in kN, |H y| in kN mm
 pub record BoundedLoad (load : Load) : Type 0 where
   pub v : load .v .size ≤ 50000
   pub x : load .x .size ≤ 32000

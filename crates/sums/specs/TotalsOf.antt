@@ -5,7 +5,6 @@ use Rattle.sets.specs.declared.Loads.{Loads}
 use Rattle.sums.specs.declared.Totals.{Totals}
 use Rattle.sums.specs.Totals.{N, H, M, resisting, overturning, minus, plus}
 
--- all of them
 unfoldable pub totals-of : ℕ → Loads → ℕ → Totals
 totals-of width loads set =
     record {

@@ -29,11 +29,12 @@ pub record ClearanceGives (job : Job) (t : ClearanceTold) : Type 0 where
 abbrev pub OnRock : Job → Type 0
 OnRock job = base-of (job .base) .rock ≡ true
 
--- SC: soil, with S; value needed, limit found; it needs value <= limit
+-- SC is due: soil, with S
 pub record Founded (job : Job) : Type 0 where
   pub soil : OnRock job → ⊥
   pub has : HasScour (job .stage)
 
+-- SC: value needed, limit found; it needs value <= limit
 pub record DepthShown (job : Job) (depth : Amount) (found : ℕ) (passes : Bool) : Type 0 where
   pub soil : OnRock job → ⊥
   pub needed : ℕ

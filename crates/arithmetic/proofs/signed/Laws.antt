@@ -56,12 +56,6 @@ below-size a = go (a .minus) (a .size)
     go true (suc n) = omega arith
     go false n = omega arith
 
--- an amount stands for the number that it was made of, so that two numbers with one amount are one number
-pub worth-amount : (z : ℤ) → worth (amount z) ≡ z
-unfolding worth signed amount
-worth-amount (pos n) = refl
-worth-amount (negsuc n) = refl
-
 -- a difference: its parts, its size, its amount
 by-test : (a b : ℕ) (P : ℤ → Type 0) → (a < suc b → P (negsuc (suc b - suc a))) → (suc b ≤ a → P (pos (a - suc b))) → P (pos a -ℤ pos (suc b))
 by-test a b P low high = go (ltb a (suc b)) refl

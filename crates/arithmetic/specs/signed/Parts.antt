@@ -4,7 +4,7 @@ use lib.IntN.{ℤ}
 use Rattle.arithmetic.specs.declared.signed.Parts.{Parts}
 use Rattle.arithmetic.specs.signed.Whole.{above, below}
 
--- both together
+-- what a number is above and below zero
 unfoldable pub parts-of : ℤ → Parts
 parts-of z = record { above = above z; below = below z }
 

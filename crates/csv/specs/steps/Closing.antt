@@ -1,4 +1,4 @@
--- What `closing` answers: where what stands between quotes closes, in terms of RFC 4180 as `Rfc4180` states it.
+-- What `byte_is` and `closing` answer: whether a byte stands at a place, and where what stands between quotes closes, in terms of RFC 4180 as `Rfc4180` states it.
 use Prim.Native.Nat.{ℕ, _+_, _≤_, _<_}
 use mathlib.Core.Path.{_≡_}
 use mathlib.Core.List.{List, _∷_, _++_}

@@ -1,5 +1,4 @@
--- A text behind what a lent buffer holds already: "exactly the lines' bytes are written .. and the rest is untouched" (document 01,
--- Refusals of a book), from a place on.
+-- What `append` answers: a text behind what a lent buffer holds already, "and the rest is untouched" (document 01, Refusals of a book).
 use Prim.Native.Nat.{ℕ, _+_}
 use mathlib.Core.Path.{_≡_}
 use mathlib.Core.List.{List, _++_}

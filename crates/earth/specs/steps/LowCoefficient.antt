@@ -1,4 +1,4 @@
--- What `look_up` gives: a coefficient with which the code's numbers fit a word.
+-- What `thrust_of` asks of a coefficient, and its callers show of a table: at most 40,000, so that the code's numbers fit a word.
 use Prim.Native.Nat.{_≤_}
 use Rattle.earth.specs.declared.table2.Coefficient.{Coefficient}
 use Rattle.earth.specs.declared.table2.Coefficient.the-variants.{Blank, Value}

@@ -3,7 +3,7 @@ use mathlib.Core.Path.{sym, ap}
 use mathlib.Core.Bool.{Bool, cond}
 use borrow.Author.Tests.{lt-ltb, le-ltb}
 use lib.Dec.{lit≤}
-use Rattle.loads.specs.Answer.{row-count}
+use Rattle.loads.specs.steps.Asking.{row-count}
 use Rattle.loads.proofs.row_count.Statement.{statement}
 use Rattle.loads.proofs.row_count.Tie as tie
 

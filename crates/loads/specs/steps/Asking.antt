@@ -1,4 +1,4 @@
--- What `asked_of` answers: what 11, 15 and 16 ask of the rows, and the loads of the rows.
+-- What `row_count` and `asked_of` answer: how many rows are looked at, what 11, 15 and 16 ask of them, and their loads.
 use mathlib.Core.Path.{_≡_}
 use mathlib.Core.Bool.{true}
 use mathlib.Core.List.{List}
@@ -10,6 +10,8 @@ use Rattle.earth.specs.declared.table2.Coefficient.{Coefficient}
 use Rattle.loads.specs.forces.Blank.{BlankThere}
 use Rattle.loads.specs.LoadRows.{Every, AllRanged, optionals, AreLoads}
 use Rattle.loads.specs.declared.Asked.{Asked}
+use mathlib.Core.Bool.{cond}
+use lib.Dec.{ltb}
 
 -- 15 is asked of a row that is in range: Table 2 is not blank there
 abbrev pub FilledThere : (ℕ → ℕ → Coefficient) → Row → Type 0
@@ -21,3 +23,7 @@ pub record AskedIs (fill : ℕ → ℕ → Coefficient) (rows : List Row) (asked
   -- rows that are in range, with no blank place among them, are counted and exert their loads
   pub optional : asked .ranged ≡ true → asked .filled ≡ true → asked .optional ≡ optionals rows
   pub loads : asked .ranged ≡ true → asked .filled ≡ true → AreLoads fill rows (asked .loads)
+
+-- how many of the rows are looked at: the first `count`, at most 16
+unfoldable pub row-count : ℕ → ℕ
+row-count count = cond (ltb 16 count) 16 count

@@ -1,4 +1,4 @@
--- What each function of printing puts at most, in bytes. VERDICT, which is not counted here, takes 42.
+-- What `put_line`, `put_lines` and `put_later` put at most, in bytes. VERDICT, which is not counted here, takes 42.
 use Prim.Native.Nat.{ℕ, _+_}
 use lib.ListN.{length}
 use Rattle.lines.specs.declared.Line.{Line}

@@ -1,4 +1,4 @@
--- What `no_sums`, `add_sums`, `terms_of` and `sums_of` answer: the sums over the rows of a set as the program holds
+-- What `no_sums`, `add_sums`, `balance_by`, `terms_of` and `sums_of` answer: the sums over the rows of a set as the program holds
 -- them, natural numbers only, each whole number by what is above and below zero.
 use Prim.Native.Nat.{ℕ, zero, suc, _+_, _*_, _-_, _^_, _≤_}
 use Rattle.arithmetic.specs.declared.signed.Parts.{Parts}

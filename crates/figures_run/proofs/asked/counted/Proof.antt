@@ -3,7 +3,7 @@ use borrow.Author.Needs.{needs}
 use borrow.Author.Tests.{eq-eqb, ne-eqb}
 use mathlib.Core.Bool.{Bool}
 use mathlib.Core.Path.{ap, sym, _∙_}
-use Rattle.figures_run.specs.asked.Asked.{with-one}
+use Rattle.figures_run.specs.steps.Asked.{with-one}
 use Rattle.figures_run.proofs.asked.counted.Statement.{statement}
 use Rattle.figures_run.proofs.asked.counted.Tie as tie
 

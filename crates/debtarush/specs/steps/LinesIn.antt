@@ -1,4 +1,4 @@
--- Document 01, The printed answer: what `lines_of` answers, the bytes of a job's lines in a block.
+-- What `lines_of` answers: the bytes of a job's lines in a block, whole.
 use Prim.Native.Nat.{ℕ, _≤_}
 use mathlib.Core.Path.{_≡_}
 use mathlib.Core.List.{List}
@@ -9,7 +9,6 @@ use Rattle.block.specs.Block.{block-of}
 use Rattle.block.specs.declared.Block.{Block}
 use Rattle.debtarush.specs.Lines.{TextOf}
 
--- the same in a block, whole
 pub record LinesIn (fill : ℕ → ℕ → Coefficient) (job : Job) (block : Block) : Type 0 where
   pub bytes : List ℕ
   pub lines : TextOf fill job bytes

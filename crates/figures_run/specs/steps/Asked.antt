@@ -1,4 +1,4 @@
--- How many figures agree behind one more figure.
+-- What `counted` and `figure` answer: how many figures agree behind one more.
 use mathlib.Core.Bool.{Bool, true, false}
 use Prim.Native.Nat.{ℕ, _+_, _%_, _^_}
 use lib.Dec.{eqb}

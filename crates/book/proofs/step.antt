@@ -1,2 +1,0 @@
--- A row does one thing.
-pub mod Answers
