@@ -28,6 +28,7 @@ pub record CallWrote (fill : ℕ → ℕ → Coefficient) (job : Job) (bytes : L
   pub call : Called fill book place before after (written len)
   pub wrote : bytes ≡ take len after
 
+-- the bytes begin with these
 pub record StartsWith (front bytes : List ℕ) : Type 0 where
   pub rest : List ℕ
   pub are : bytes ≡ front ++ rest

@@ -76,7 +76,8 @@ pub(crate) fn load_of(row: Row) -> RowLoad
     let numbers = row.numbers;
     let class = kinds::classes::class_of(kind);
     let phase = kinds::phase_of(row);
-    match kinds::classes::source_of(kind) {
+    let source = kinds::classes::source_of(kind);
+    match source {
         Source::Earth => match earth::pressure(numbers) {
             EarthAnswer::OutOfRange => RowLoad::OutOfRange,
             EarthAnswer::NoCoefficient => RowLoad::NoCoefficient,
@@ -87,18 +88,15 @@ pub(crate) fn load_of(row: Row) -> RowLoad
                 arm,
             )),
         },
-        Source::Own => {
+        Source::Own | Source::Absent => {
             if !kinds::ranges::is_ranged(kind, numbers) {
                 return RowLoad::OutOfRange;
+            }
+            // no job has such a row among its load rows
+            if let Source::Absent = source {
+                return RowLoad::Exerted(earth_load(class, phase, 0, 0));
             }
             RowLoad::Exerted(own_load(class, phase, numbers))
-        }
-        // no job has such a row among its load rows
-        Source::Absent => {
-            if !kinds::ranges::is_ranged(kind, numbers) {
-                return RowLoad::OutOfRange;
-            }
-            RowLoad::Exerted(earth_load(class, phase, 0, 0))
         }
     }
 }

@@ -1,6 +1,11 @@
 -- What a row is told goes by where its forces come from: by the push of its fill, which tells 11 and 15 itself, or by its own numbers.
 use borrow.Author.Needs.{needs}
-use mathlib.Core.Path.{_≡_, sym, _∙_, subst}
+use native.Mathlib.Omega.{arith}
+use mathlib.Core.Path.{_≡_, refl, sym, _∙_, subst}
+use mathlib.Core.Logic.{⊎-elim}
+use mathlib.Core.List.{[], _∷_}
+use types.Run.{OneOf}
+use denote.Enum.Declared.{tagOf}
 use borrow.Author.Tests.{not-true, not-false}
 use lib.Dec.{lit≤}
 use Rattle.arithmetic.proofs.Deciding.{decided, refuted}
@@ -10,7 +15,9 @@ use Rattle.earth.specs.table2.Table2.{table2-fill}
 use Rattle.earth.proofs.Bounds.{pressed-modest}
 use Rattle.earth.proofs.table2.Marks.{table2-small}
 use Rattle.kinds.specs.declared.Row.{Row}
-use Rattle.kinds.specs.declared.classes.Source.the-variants.{Earth, Own}
+use Rattle.kinds.specs.declared.classes.Source.{Source}
+use Rattle.kinds.specs.declared.classes.Source.the-variants.{Absent, Earth, Own}
+use Rattle.kinds.proofs.classes.Source as sources
 use Rattle.kinds.specs.classes.Classes.{source}
 use Rattle.kinds.specs.ranges.Range.{Ranged}
 use Rattle.kinds.proofs.classes.Sources.{absent-earth, own-earth}
@@ -67,9 +74,6 @@ module _ (c : tie.After-pressure) where
 earth-load-requires : tie.Need-earth-load-requires
 earth-load-requires c κs = let m = pressed-modest table2-small (told (c .before .before .before) (c .before .thrust .given .1)) in (m .thrust, m .arm)
 
-enum-told-4 : tie.Need-enum-told-4
-enum-told-4 c = search needs
-
 is-ranged-requires : tie.Need-is-ranged-requires
 is-ranged-requires c κs = search needs
 
@@ -77,28 +81,37 @@ returns : tie.Need-returns
 unfolding LoadOf
 returns c = refuted (c .before .is-ranged .result) (not-true _ (c .if1 .taken)) (c .before .is-ranged .ensures)
 
--- past the test of its ranges a row that has its own numbers is in range
-is-own : (c : tie.After-is-ranged) → source (row (c .before .before .before) .kind) ≡ Own
-is-own c = sym (c .before .before .before .source-of .ensures) ∙ c .before .enum-told4 .given .1
-
-in-range : (c : tie.Else1) → let r = row (c .before .before .before .before) in Ranged (r .kind) (r .numbers)
+-- past the test of its ranges a row is in range
+in-range : (c : tie.Else1) → let r = row (c .before .before .before) in Ranged (r .kind) (r .numbers)
 in-range c = decided (c .before .is-ranged .result) (not-false _ (c .if1 .left)) (c .before .is-ranged .ensures)
 
-own-load-requires : tie.Need-own-load-requires
-own-load-requires c κs = let r = own-columns _ _ (is-own (c .before)) (in-range c) in (around-size 50000 _ (r .n3), r .n4 .to, r .n4 .plain)
-
-enum-told-5 : tie.Need-enum-told-5
-enum-told-5 c = search needs
-
-is-ranged-requires-2 : tie.Need-is-ranged-requires-2
-is-ranged-requires-2 c κs = search needs
-
-returns-2 : tie.Need-returns-2
-unfolding LoadOf
-returns-2 c = refuted (c .before .is-ranged2 .result) (not-true _ (c .if2 .taken)) (c .before .is-ranged2 .ensures)
+enum-told-4 : tie.Need-enum-told-4
+enum-told-4 c = search needs
 
 earth-load-requires-2 : tie.Need-earth-load-requires-2
 earth-load-requires-2 c κs = (lit≤ tt, lit≤ tt)
+
+returns-2 : tie.Need-returns-2
+unfolding Forces
+returns-2 c =
+    let test = c .before .before .before in
+    let at = test .before .before .before in
+    told-load table2-fill _ (sym (at .source-of .ensures) ∙ c .before .enum-told4 .given .1) absent-earth (in-range test) _
+    (kept at _ (c .earth-load2 .ensures .0) (c .earth-load2 .ensures .1)) (c .earth-load2 .ensures .2)
+
+-- and where it has a source that is no fill, that is its own numbers
+own-left : (k : Source) → OneOf (2 ∷ 0 ∷ []) (tagOf sources.the-type k) → OneOf (1 ∷ 2 ∷ []) (tagOf sources.the-type k) → k ≡ Own
+own-left Absent p q = ⊎-elim (λ e. absurd (omega arith)) (λ e. absurd (omega arith)) q
+own-left Earth p q = ⊎-elim (λ e. absurd (omega arith)) (λ e. absurd (omega arith)) p
+own-left Own p q = refl
+
+is-own : (c : tie.At-match3-keys2) → source (row (c .before .before .before .before) .kind) ≡ Own
+is-own c =
+    let arm = c .before .before .before in
+    sym (arm .before .source-of .ensures) ∙ own-left (arm .before .source-of .result) (arm .match .keys2) (c .match3 .keys2)
+
+own-load-requires : tie.Need-own-load-requires
+own-load-requires c κs = let r = own-columns _ _ (is-own c) (in-range (c .before)) in (around-size 50000 _ (r .n3), r .n4 .to, r .n4 .plain)
 
 returns-3 : tie.Need-returns-3
 returns-3 c = told-out table2-fill _ (is-earth (c .before .before)) (told (c .before .before) (c .enum-told2 .given .1))
@@ -114,16 +127,8 @@ returns-5 c =
 returns-6 : tie.Need-returns-6
 unfolding Forces
 returns-6 c =
-    let at = c .before .before in
-    told-load table2-fill _ (is-own at) own-earth (in-range (c .before)) _ (kept (at .before .before .before) _ (c .own-load .ensures .0) (c .own-load .ensures .1)) (c .own-load .ensures .2)
-
-returns-7 : tie.Need-returns-7
-unfolding Forces
-returns-7 c =
-    let at = c .before .before in
-    let source = at .before .before .before in
-    told-load table2-fill _ (sym (source .source-of .ensures) ∙ at .before .enum-told5 .given .1) absent-earth (decided (at .is-ranged2 .result) (not-false _ (c .before .if2 .left)) (at .is-ranged2 .ensures)) _
-    (kept source _ (c .earth-load2 .ensures .0) (c .earth-load2 .ensures .1)) (c .earth-load2 .ensures .2)
+    let test = c .before .before in
+    told-load table2-fill _ (is-own (c .before)) own-earth (in-range test) _ (kept (test .before .before .before) _ (c .own-load .ensures .0) (c .own-load .ensures .1)) (c .own-load .ensures .2)
 
 pub load-of-spec : {M : Type 1} → statement M
 load-of-spec =
@@ -138,16 +143,13 @@ load-of-spec =
     enum-told-3
     enum-known-thrust
     earth-load-requires
-    enum-told-4
     is-ranged-requires
     returns
-    own-load-requires
-    enum-told-5
-    is-ranged-requires-2
-    returns-2
+    enum-told-4
     earth-load-requires-2
+    returns-2
+    own-load-requires
     returns-3
     returns-4
     returns-5
-    returns-6
-    returns-7)
+    returns-6)
