@@ -92,7 +92,7 @@ pub(crate) fn load_of(row: Row) -> RowLoad
             if !kinds::ranges::is_ranged(kind, numbers) {
                 return RowLoad::OutOfRange;
             }
-            // no job has such a row among its load rows
+            // a row of no source: no job has one among its load rows
             if let Source::Absent = source {
                 return RowLoad::Exerted(earth_load(class, phase, 0, 0));
             }
