@@ -20,6 +20,11 @@ pub refuted : {P : Type 0} (r : Bool) → r ≡ false → Decides r P → P → 
 refuted true e h p = not-both refl e
 refuted false e h p = h p
 
+-- what is a yes or a no, and is not refuted, holds
+pub unrefuted : {P : Type 0} (r : Bool) → Decides r P → ((P → ⊥) → ⊥) → P
+unrefuted true h n = h
+unrefuted false h n = absurd (n h)
+
 -- a yes-or-no promise has one answer
 pub decides-one : (P : Type 0) (a b : Bool) → Decides a P → Decides b P → a ≡ b
 decides-one P true true p q = refl

@@ -46,7 +46,10 @@ pub fn job_lines(book: &[u8], place: usize, out: &mut [u8]) -> Written
     match count {
         Count::Refused(why, row) => Written::BookRefused(why, row),
         Count::Given(n) => {
-            if (place == 0) | (n < place) {
+            if place == 0 {
+                return Written::NoPlace;
+            }
+            if n < place {
                 return Written::NoPlace;
             }
             let at = place - 1;

@@ -40,13 +40,13 @@ module _ (fill : ℕ → ℕ → Coefficient) (job : Job) where
   named-same : {c d : Combination} {k m : Check} {l : PrintedLine} → c ≡ d → k ≡ m → NamesSet fill job c k l → NamesSet fill job d m l
   named-same {d = d} {k} {l = l} e f p = subst (λ (x : Check). NamesSet fill job d x l) f (subst (λ (x : Combination). NamesSet fill job x k l) e p)
 
-  module _ (loads : Loads) (are : AreLoads fill (load-rows-of job) loads) where
+  module _ (unrefused : Unrefused fill job) (loads : Loads) (are : AreLoads fill (load-rows-of job) loads) where
     check-named : (c : Combination) (k : Check) (l : Line) → worst.LineSays c k (base-of (job .base)) loads l → all.All IsNamed (check-line c k l)
     unfolding IsNamed shown-line check-line worst.LineSays
     check-named c k Missing p = all.none
     check-named c k (Shown figure limit set passes) p =
         all.more
-        (λ d m e. named-same (cc) (cc) (record { loads = loads; are = are; figure = figure; limit = limit; set = set; passes = passes; shown = p; is = refl }))
+        (λ d m e. named-same (cc) (cc) (record { unrefused = unrefused; loads = loads; are = are; figure = figure; limit = limit; set = set; passes = passes; shown = p; is = refl }))
         all.none
 
     lines-named : (c : Combination) (l : Lines) → LinesAre c (base-of (job .base)) loads l → all.All IsNamed (combination-lines c l)
@@ -81,10 +81,10 @@ module _ (fill : ℕ → ℕ → Coefficient) (job : Job) where
   given-named a g =
       all.more (verdict-named (a .verdict))
       (unless-named (a .verdict)
-      (all.all-append (lines-named (g .loads) (g .are) I (a .one) (g .one))
-      (all.all-append (lines-named (g .loads) (g .are) II (a .two) (g .two))
-      (all.all-append (lines-named (g .loads) (g .are) III (a .three) (g .three))
-      (all.all-append (lines-named (g .loads) (g .are) IV (a .four) (g .four)) (all.all-append (river-named SC (λ c k e. impossible cc) (a .depth)) (river-named CL (λ c k e. impossible cc) (a .clear))))))))
+      (all.all-append (lines-named (g .unrefused) (g .loads) (g .are) I (a .one) (g .one))
+      (all.all-append (lines-named (g .unrefused) (g .loads) (g .are) II (a .two) (g .two))
+      (all.all-append (lines-named (g .unrefused) (g .loads) (g .are) III (a .three) (g .three))
+      (all.all-append (lines-named (g .unrefused) (g .loads) (g .are) IV (a .four) (g .four)) (all.all-append (river-named SC (λ c k e. impossible cc) (a .depth)) (river-named CL (λ c k e. impossible cc) (a .clear))))))))
 
   refusal-named : (n : ℕ) → all.All IsNamed (lines-of (refusal n))
   unfolding lines-of unless-refused

@@ -15,11 +15,12 @@ use Rattle.checks.specs.limits.Limits.{Limit}
 use Rattle.worst.specs.Lines.{CheckShown}
 use Rattle.loads.specs.LoadRows.{AreLoads}
 use Rattle.lines.specs.Lines.{PrintedLine, check, shown-line}
-use Rattle.answer.specs.Rules.{load-rows-of}
+use Rattle.answer.specs.Rules.{load-rows-of, Unrefused}
 use Rattle.answer.specs.Columns.{base-of}
 
--- it shows the figure of the permitted set that it names, beside the limit; no permitted set is worse (`CheckShown`)
+-- its job isn't refused; it shows the figure of the permitted set that it names, beside the limit; no permitted set is worse (`CheckShown`)
 pub record NamesSet (fill : ℕ → ℕ → Coefficient) (job : Job) (combination : Combination) (of : Check) (line : PrintedLine) : Type 0 where
+  pub unrefused : Unrefused fill job
   pub loads : Loads
   pub are : AreLoads fill (load-rows-of job) loads
   pub figure : Figure

@@ -1,13 +1,9 @@
 -- A refused book and a missing place leave the buffer as it was. A place from 1 up to the number of jobs holds the book's job there, and
 -- the block holds its lines whole, so what writing the block does, 7 or the bytes, is what the call does with the lines.
-use Prim.Native.Nat.{ℕ, _≤_, _<_}
+use Prim.Native.Nat.{ℕ, _≤_}
 use native.Mathlib.Omega.{arith}
-use mathlib.Core.Path.{_≡_, refl, sym, ap}
-use mathlib.Core.Logic.{_⊎_, inl, inr}
-use mathlib.Core.Bool.{_||_}
-use lib.Dec.{ltb, eqb}
-use Rattle.arithmetic.specs.decides.Decides.{Decides}
-use Rattle.arithmetic.proofs.Deciding.{decided, refuted, decides-either, decides-equal, decides-below}
+use mathlib.Core.Path.{refl, sym, ap}
+use mathlib.Core.Logic.{inl, inr}
 use Rattle.buffer.specs.declared.Copied.{Copied}
 use Rattle.buffer.specs.Copying as buffer
 use Rattle.debtarush.specs.Called.{no-book, no-place}
@@ -16,16 +12,6 @@ use Rattle.debtarush.proofs.Locating.{Held, held, refusal, job-at, no-j
 use borrow.Author.Needs.{needs}
 use Rattle.debtarush.proofs.job_lines.Statement.{statement}
 use Rattle.debtarush.proofs.job_lines.Tie as tie
-
--- what the test of a place says
-outside : (place n : ℕ) → Decides (eqb place 0 || ltb n place) ((place ≡ 0) ⊎ (n < place))
-outside place n = decides-either _ _ (eqb place 0) (ltb n place) (decides-equal place 0) (decides-below n place)
-
-within : (place n : ℕ) → ((place ≡ 0) ⊎ (n < place) → ⊥) → (1 ≤ place) × (place ≤ n)
-within place n none =
-    let some : place ≡ 0 → ⊥ = λ e. none (inl e) in
-    let few : n < place → ⊥ = λ e. none (inr e) in
-    (omega (arith, some), omega (arith, few))
 
 -- the jobs of a book that is given
 module _ (c : tie.After-known-told2) where
@@ -42,8 +28,11 @@ module _ (c : tie.After-known-told2) where
   jobs = held (read .read-book .ensures) (c .before .count2 .given .1)
 
 -- a place that has a job
-there : (c : tie.Else1) → (1 ≤ place (c .before)) × (place (c .before) ≤ many (c .before))
-there c = within _ _ (refuted _ (c .if1 .left) (outside (place (c .before)) (many (c .before))))
+there : (c : tie.Else2) → (1 ≤ place (c .before .before)) × (place (c .before .before) ≤ many (c .before .before))
+there c =
+    let some = c .before .if1 .left in
+    let few = c .if2 .left in
+    (omega (arith, some), omega (arith, few))
 
 read-book-requires : tie.Need-read-book-requires
 read-book-requires c κs = search needs
@@ -55,19 +44,19 @@ enum-known-count-2 : tie.Need-enum-known-count-2
 enum-known-count-2 c = search needs
 
 returns : tie.Need-returns
-returns c =
-    let h = jobs (c .before) in
-    let none = decided _ (c .if1 .taken) (outside (place (c .before)) (many (c .before))) in
-    no-place (h .book) (no-job-at h _ none) refl refl
+returns c = let h = jobs (c .before) in no-place (h .book) (no-job-at h _ (inl (c .if1 .taken))) refl refl
+
+returns-2 : tie.Need-returns-2
+returns-2 c = let h = jobs (c .before .before) in no-place (h .book) (no-job-at h _ (inr (c .if2 .taken))) refl refl
 
 sub-at : tie.Need-sub-at
 sub-at c = let p = there c in omega arith
 
 mul-job : tie.Need-mul-job
-mul-job c = let p = there c in omega (arith, jobs (c .before) .few)
+mul-job c = let p = there c in omega (arith, jobs (c .before .before) .few)
 
 element-copy-out-job : tie.Need-element-copy-out-job
-element-copy-out-job c = let p = there c in omega (arith, jobs (c .before) .few)
+element-copy-out-job c = let p = there c in omega (arith, jobs (c .before .before) .few)
 
 lines-of-requires : tie.Need-lines-of-requires
 lines-of-requires c κs = search needs
@@ -81,19 +70,19 @@ enum-known-len c = search needs
 enum-told : tie.Need-enum-told
 enum-told c = search needs
 
-returns-2 : tie.Need-returns-2
-returns-2 c = no-book (refusal (c .before .before .before .read-book .ensures) (c .before .count .given .1)) refl refl
+returns-3 : tie.Need-returns-3
+returns-3 c = no-book (refusal (c .before .before .before .read-book .ensures) (c .before .count .given .1)) refl refl
 
 same-length : tie.Need-same-length
 same-length c = search needs
 
-returns-3 : tie.Need-returns-3
+returns-4 : tie.Need-returns-4
 unfolding buffer.copy-told
-returns-3 c =
+returns-4 c =
     let out = c .before .before .before .before .before in
     let lines = out .before .before in
     let test = lines .before .before in
-    let h = jobs (test .before) in
+    let h = jobs (test .before .before) in
     let p = there test in
     call-delivered (h .book) (job-at h _ _ (p .0) (p .1)) (lines .lines-of .ensures) _ _ _
     (sym (ap (λ (w : Copied). as-told (buffer.copy-told w)) (c .before .len .given .1))) (out .write-block .ensures)
@@ -101,13 +90,13 @@ returns-3 c =
 same-length-2 : tie.Need-same-length-2
 same-length-2 c = search needs
 
-returns-4 : tie.Need-returns-4
+returns-5 : tie.Need-returns-5
 unfolding buffer.copy-told
-returns-4 c =
+returns-5 c =
     let out = c .before .before .before .before in
     let lines = out .before .before in
     let test = lines .before .before in
-    let h = jobs (test .before) in
+    let h = jobs (test .before .before) in
     let p = there test in
     call-delivered (h .book) (job-at h _ _ (p .0) (p .1)) (lines .lines-of .ensures) _ _ _
     (sym (ap (λ (w : Copied). as-told (buffer.copy-told w)) (c .enum-told .given .1))) (out .write-block .ensures)
@@ -120,6 +109,7 @@ job-lines-spec =
     enum-known-count
     enum-known-count-2
     returns
+    returns-2
     sub-at
     mul-job
     element-copy-out-job
@@ -127,8 +117,8 @@ job-lines-spec =
     write-block-requires
     enum-known-len
     enum-told
-    returns-2
-    same-length
     returns-3
+    same-length
+    returns-4
     same-length-2
-    returns-4)
+    returns-5)
