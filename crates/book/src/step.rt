@@ -18,23 +18,24 @@ pub struct Step {
 }
 
 // The row that starts at a place.
-pub(crate) fn step_at(s: &[u8], at: usize, mut job: Job) -> Step
+pub(crate) fn step_at(s: &[u8], at: usize, job: Job) -> Step
     requires { ⌜ at ≤ length (now s) ⌝ }
     requires { ⌜ Readable (drop at (now s)) ⌝ }
     ensures { λ r. ⌜ StepIs (now (s .entry)) at job r ⌝ }
 {
     let r = rows::read_row(s, at);
-    let mut way = Took::Refused(Refusal::NoForm);
+    let next = r.next;
     if r.good {
         let keyed = r.row;
-        let t = job.take(keyed);
-        job = t.job;
-        let answer = t.answer;
-        way = answer;
-    }
-    Step {
-        way,
-        job,
-        next: r.next,
+        let taken = job.take(keyed);
+        let way = taken.answer;
+        let job = taken.job;
+        Step { way, job, next }
+    } else {
+        Step {
+            way: Took::Refused(Refusal::NoForm),
+            job,
+            next,
+        }
     }
 }

@@ -123,20 +123,22 @@ impl Job {
         let other = row.key;
         let same = rows::keys::same_key(key, other);
         let good = stages::fits(role, stage, self.count, same);
-        let mut answer = Took::Refused(Refusal::Misplaced);
-        let mut job = self;
         if good {
             match role {
-                Role::Base => {
-                    answer = Took::Started;
-                    job = fresh(Stage::Dry, row);
-                }
-                Role::Scour | Role::Clearance | Role::Load => {
-                    answer = Took::Joined;
-                    job = joined(role, self, row);
-                }
+                Role::Base => Taken {
+                    answer: Took::Started,
+                    job: fresh(Stage::Dry, row),
+                },
+                Role::Scour | Role::Clearance | Role::Load => Taken {
+                    answer: Took::Joined,
+                    job: joined(role, self, row),
+                },
+            }
+        } else {
+            Taken {
+                answer: Took::Refused(Refusal::Misplaced),
+                job: self,
             }
         }
-        Taken { answer, job }
     }
 }
