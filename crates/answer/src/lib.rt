@@ -1,4 +1,4 @@
-// The answer of a job (document 01, Refusals of a job, The printed answer): refusal 11 to 16, or its lines and verdict.
+// The answer of a job (document 01, Refusals of a job, The printed answer): refusal 11 to 17, or its lines and verdict.
 //
 // What is hard is the order: a job is refused with the lowest of its numbers, over all its rows, whatever row shows it
 // first. The answer is total on every `Job` value, and depends on the job alone: Table 2 is a constant.
@@ -64,19 +64,16 @@ fn whole(base: Base, loads: Loads, depth: RiverLine, clear: RiverLine) -> Answer
     lines::verdicts::judged(one, two, three, four, depth, clear)
 }
 
-// The river's answer, or the refusal that the loads give where it comes first.
+// The river's answer, or the refusal that the loads give where it is the lower one.
 fn first_told(told: loads::LoadsAnswer, river: RiverRead) -> RiverRead
     ensures { λ r. ⌜ r ≡ told-first told river ⌝ }
 {
-    let other = match told {
-        loads::LoadsAnswer::OutOfRange => return RiverRead::Refused(11),
-        loads::LoadsAnswer::NoCoefficient => 15,
-        loads::LoadsAnswer::TooManyOptional => 16,
-        loads::LoadsAnswer::Given => return river,
-    };
-    match river {
-        RiverRead::Refused(_) => river,
-        RiverRead::Shown(_, _) => RiverRead::Refused(other),
+    match told {
+        loads::LoadsAnswer::Refused(n) => match river {
+            RiverRead::Refused(m) => RiverRead::Refused(if n < m { n } else { m }),
+            RiverRead::Shown(_, _) => RiverRead::Refused(n),
+        },
+        loads::LoadsAnswer::Given => river,
     }
 }
 

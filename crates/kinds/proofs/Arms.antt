@@ -7,17 +7,18 @@ use lib.ListN.{getD}
 use types.Run.{OneOf}
 use denote.Enum.Declared.{tagOf}
 use Rattle.kinds.specs.declared.Kind.{Kind}
-use Rattle.kinds.specs.declared.Kind.the-variants.{B, S, C, E, DL, EP, LL, LF, CF, WC, BU, TM, EX, WL, SF}
+use Rattle.kinds.specs.declared.Kind.the-variants.{B, S, C, E, W, DL, EP, LL, LF, CF, WC, BU, TM, EX, WL, SF}
 use Rattle.kinds.proofs.Kind.{the-type}
 
 abbrev kind-at : ℕ → Kind
-kind-at n = getD (B ∷ S ∷ C ∷ E ∷ DL ∷ EP ∷ LL ∷ LF ∷ CF ∷ WC ∷ BU ∷ TM ∷ EX ∷ WL ∷ SF ∷ []) n B
+kind-at n = getD (B ∷ S ∷ C ∷ E ∷ W ∷ DL ∷ EP ∷ LL ∷ LF ∷ CF ∷ WC ∷ BU ∷ TM ∷ EX ∷ WL ∷ SF ∷ []) n B
 
 at-place : (k : Kind) → kind-at (tagOf the-type k) ≡ k
 at-place B = refl
 at-place S = refl
 at-place C = refl
 at-place E = refl
+at-place W = refl
 at-place DL = refl
 at-place EP = refl
 at-place LL = refl

@@ -1,9 +1,9 @@
--- Document 01, the job book: the table of kinds, as data. Each kind, how it is written, what it is to its job, and its columns n1 to n6.
+-- Document 01, the job book, and 02, P1: the table of kinds, as data. Each kind, how it is written, what it is to its job, and its columns n1 to n6.
 use Prim.Native.Nat.{ℕ}
 use mathlib.Core.List.{List, [], _∷_}
 use Rattle.fields.specs.Numbers.{absent}
 use Rattle.kinds.specs.declared.Kind.{Kind}
-use Rattle.kinds.specs.declared.Kind.the-variants.{B, S, C, E, DL, EP, LL, LF, CF, WC, BU, TM, EX, WL, SF}
+use Rattle.kinds.specs.declared.Kind.the-variants.{B, S, C, E, W, DL, EP, LL, LF, CF, WC, BU, TM, EX, WL, SF}
 use Rattle.kinds.specs.declared.Role.{Role}
 use Rattle.kinds.specs.declared.Role.the-variants.{Base, Scour, Clearance, Load}
 use Rattle.kinds.specs.declared.Column.{Column}
@@ -23,11 +23,13 @@ load-columns = six (Signed 50000 50000) (Signed 30000 30000) (Signed 50000 50000
 -- S: Q l/s; catchment km²; silt factor, thousandths; waterway W mm; reach; foundation depth mm below flood
 -- C: velocity mm/s; area A and obstructed area a, tenths of m²; underside and flood level mm
 -- E: soil; slope; height mm; length mm; phase
+-- W: shape of Table 4; exposed area, hundredths of m²; velocity mm/s; upper and lower wetted height mm; phase
 abbrev pub columns : Kind → Columns
 columns B = six (Filled 500 30000) (Filled 500 60000) (Filled 1 10000) (Filled 1 1000) (Filled 0 1) Empty
 columns S = six (Filled 1 50000000) (Filled 1 3000000) (Filled 100 3000) (Filled 1000 1300000) (Filled 1 5) (Filled 0 200000)
 columns C = six (Filled 0 10000) (Filled 1 100000) (Filled 1 100000) (Signed 500000 9000000) (Signed 500000 9000000) Empty
 columns E = six (Filled 1 5) (Filled 1 5) (Filled 1 15000) (Filled 1 60000) (Filled 0 2) Empty
+columns W = six (Filled 1 6) (Filled 1 20000) (Filled 0 6000) (Filled 0 60000) (Filled 0 60000) (Filled 0 2)
 columns DL = load-columns
 columns EP = load-columns
 columns LL = load-columns
@@ -46,6 +48,7 @@ letters B = 0x42 ∷ []
 letters S = 0x53 ∷ []
 letters C = 0x43 ∷ []
 letters E = 0x45 ∷ []
+letters W = 0x57 ∷ []
 letters DL = 0x44 ∷ 0x4C ∷ []
 letters EP = 0x45 ∷ 0x50 ∷ []
 letters LL = 0x4C ∷ 0x4C ∷ []
@@ -58,12 +61,13 @@ letters EX = 0x45 ∷ 0x58 ∷ []
 letters WL = 0x57 ∷ 0x4C ∷ []
 letters SF = 0x53 ∷ 0x46 ∷ []
 
--- what a row of a kind is to its job; load rows are E and the last line of the table
+-- what a row of a kind is to its job; load rows are E, W and the last line of the table
 abbrev pub role : Kind → Role
 role B = Base
 role S = Scour
 role C = Clearance
 role E = Load
+role W = Load
 role DL = Load
 role EP = Load
 role LL = Load
@@ -76,9 +80,24 @@ role EX = Load
 role WL = Load
 role SF = Load
 
--- the phase of a load row, 0 service, 1 erection, 2 both, stands in n5
+-- the phase of a load row, 0 service, 1 erection, 2 both: it stands in n5, of a W row in n6
 abbrev pub phase : Kind → Numbers → ℕ
-phase k n = n .n5 .size
+phase B n = n .n5 .size
+phase S n = n .n5 .size
+phase C n = n .n5 .size
+phase E n = n .n5 .size
+phase W n = n .n6 .size
+phase DL n = n .n5 .size
+phase EP n = n .n5 .size
+phase LL n = n .n5 .size
+phase LF n = n .n5 .size
+phase CF n = n .n5 .size
+phase WC n = n .n5 .size
+phase BU n = n .n5 .size
+phase TM n = n .n5 .size
+phase EX n = n .n5 .size
+phase WL n = n .n5 .size
+phase SF n = n .n5 .size
 
 -- the numbers of no row
 abbrev pub blank-numbers : Numbers

@@ -4,10 +4,11 @@ use sets::Class;
 ghost use mathlib.Core.Path.{_≡_};
 ghost use Rattle.kinds.specs.classes.Classes.{class-of, source, optional};
 
-// Where a row's forces come from: nowhere, a fill, or its own numbers.
+// Where a row's forces come from: nowhere, a fill, a water current, or its own numbers.
 pub enum Source {
     Absent,
     Earth,
+    Current,
     Own,
 }
 
@@ -17,7 +18,8 @@ pub fn class_of(kind: Kind) -> Class
 {
     match kind {
         Kind::B | Kind::S | Kind::C | Kind::E | Kind::DL | Kind::EP => Class::Permanent,
-        Kind::LL | Kind::LF | Kind::CF | Kind::WC | Kind::BU | Kind::TM | Kind::EX => Class::Free,
+        Kind::W | Kind::LL | Kind::LF | Kind::CF | Kind::WC | Kind::BU | Kind::TM | Kind::EX =>
+            Class::Free,
         Kind::WL => Class::Wind,
         Kind::SF => Class::Earthquake,
     }
@@ -30,6 +32,7 @@ pub fn source_of(kind: Kind) -> Source
     match kind {
         Kind::B | Kind::S | Kind::C => Source::Absent,
         Kind::E => Source::Earth,
+        Kind::W => Source::Current,
         Kind::DL
         | Kind::EP
         | Kind::LL

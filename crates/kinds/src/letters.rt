@@ -27,6 +27,7 @@ pub fn kind_at(raw: &[u8]) -> KindRead
         0x153 => Kind::S,
         0x143 => Kind::C,
         0x145 => Kind::E,
+        0x157 => Kind::W,
         0x1444C => Kind::DL,
         0x14550 => Kind::EP,
         0x14C4C => Kind::LL,

@@ -10,12 +10,13 @@ use fields::Entry;
 ghost use mathlib.Core.Path.{_≡_};
 ghost use Rattle.kinds.specs.Table.{columns, role, phase};
 
-// The kinds of a row: the base, the two river rows, earth pressure, and the load rows that give their own forces.
+// The kinds of a row: the base, the two river rows, earth pressure, water current, and the load rows that give their own forces.
 pub enum Kind {
     B,
     S,
     C,
     E,
+    W,
     DL,
     EP,
     LL,
@@ -107,6 +108,15 @@ const EARTH_COLUMNS: Columns = Columns {
     n6: Column::Empty,
 };
 
+const CURRENT_COLUMNS: Columns = Columns {
+    n1: Column::Filled(1, 6),
+    n2: Column::Filled(1, 20000),
+    n3: Column::Filled(0, 6000),
+    n4: Column::Filled(0, 60000),
+    n5: Column::Filled(0, 60000),
+    n6: Column::Filled(0, 2),
+};
+
 const FORCE_COLUMNS: Columns = Columns {
     n1: Column::Signed(50000, 50000),
     n2: Column::Signed(30000, 30000),
@@ -125,6 +135,7 @@ pub fn columns_of(kind: Kind) -> Columns
         Kind::S => SCOUR_COLUMNS,
         Kind::C => CLEARANCE_COLUMNS,
         Kind::E => EARTH_COLUMNS,
+        Kind::W => CURRENT_COLUMNS,
         Kind::DL
         | Kind::EP
         | Kind::LL
@@ -148,6 +159,7 @@ pub fn role_of(kind: Kind) -> Role
         Kind::S => Role::Scour,
         Kind::C => Role::Clearance,
         Kind::E
+        | Kind::W
         | Kind::DL
         | Kind::EP
         | Kind::LL
@@ -162,9 +174,27 @@ pub fn role_of(kind: Kind) -> Role
     }
 }
 
-// The phase of a load row, by its kind: every kind of 01 has it in n5.
+// The phase of a load row, by its kind: a W row has it in n6, every other in n5.
 pub fn phase_of(row: Row) -> u32
     ensures { λ r. ⌜ r ≡ phase (row .kind) (row .numbers) ⌝ }
 {
-    row.numbers.n5.size
+    let kind = row.kind;
+    match kind {
+        Kind::W => row.numbers.n6.size,
+        Kind::B
+        | Kind::S
+        | Kind::C
+        | Kind::E
+        | Kind::DL
+        | Kind::EP
+        | Kind::LL
+        | Kind::LF
+        | Kind::CF
+        | Kind::WC
+        | Kind::BU
+        | Kind::TM
+        | Kind::EX
+        | Kind::WL
+        | Kind::SF => row.numbers.n5.size,
+    }
 }

@@ -1,10 +1,10 @@
--- The first rows by their places, as the loop goes through them: what is shown of these holds of the list of them.
-use mathlib.Core.Path.{_≡_, refl, sym, _∙_, ap}
+-- The first rows, one row more at a time: what holds of the rows passed and of one row more.
+use mathlib.Core.Path.{_≡_}
+use mathlib.Core.Logic.{inl, inr, ⊎-elim}
 use mathlib.Core.List.{List, [], _∷_, _++_}
 use Prim.Native.Nat.{ℕ, zero, suc, _+_, _≤_, _<_}
 use native.Mathlib.Omega.{arith}
 use lib.ListN.{getD, length, take}
-use lib.Seq.{take-suc}
 use Rattle.kinds.specs.declared.Kind.the-variants.{B}
 use Rattle.kinds.specs.declared.Row.{Row}
 use Rattle.kinds.specs.Table.{blank-numbers}
@@ -14,43 +14,40 @@ use Rattle.sets.specs.declared.Load.{Load}
 use Rattle.sets.specs.Sets.{no-load}
 use Rattle.loads.specs.forces.Exerts.{Exerts}
 use Rattle.loads.specs.LoadRows.{Every, optionals, Laid}
+use Rattle.loads.specs.steps.Asking.{Some}
 
 -- row i, from 0; past the last an empty one
 unfoldable pub load-row : List Row → ℕ → Row
 load-row rows i = getD rows i (record { kind = B; numbers = blank-numbers })
 
--- ---- what holds of each of the first n rows
-abbrev pub FirstEvery : (Row → Type 0) → List Row → ℕ → Type 0
-FirstEvery P rows n = (i : ℕ) → i < n → P (load-row rows i)
+-- ---- what holds of every row, and of some row
+module _ (P : Row → Type 0) where
+  pub every-more : (rows : List Row) (r : Row) → Every P rows → P r → Every P (rows ++ r ∷ [])
+  unfolding Every
+  every-more [] r all p = (p, tt)
+  every-more (x ∷ rows) r all p = (all .0, every-more rows r (all .1) p)
 
-pub first-every : (P : Row → Type 0) (rows : List Row) (n : ℕ) → n ≤ length rows → FirstEvery P rows n → Every P (take n rows)
-unfolding Every load-row
-first-every P rows zero h all = tt
-first-every P [] (suc n) h all = absurd (omega arith)
-first-every P (r ∷ rows) (suc n) h all = (all 0 (omega arith), first-every P rows n (omega arith) (λ i k. all (suc i) (omega arith)))
+  pub some-last : (rows : List Row) (r : Row) → P r → Some P (rows ++ r ∷ [])
+  unfolding Some
+  some-last [] r p = inl p
+  some-last (x ∷ rows) r p = inr (some-last rows r p)
 
-pub every-first : (P : Row → Type 0) (rows : List Row) (n : ℕ) → n ≤ length rows → Every P (take n rows) → FirstEvery P rows n
-unfolding Every load-row
-every-first P rows zero h all i k = absurd (omega arith)
-every-first P [] (suc n) h all i k = absurd (omega arith)
-every-first P (r ∷ rows) (suc n) h all zero k = all .0
-every-first P (r ∷ rows) (suc n) h all (suc i) k = every-first P rows n (omega arith) (all .1) i (omega arith)
+  pub some-more : (rows : List Row) (r : Row) → Some P rows → Some P (rows ++ r ∷ [])
+  unfolding Some
+  some-more [] r s = absurd s
+  some-more (x ∷ rows) r s = ⊎-elim inl (λ t. inr (some-more rows r t)) s
 
--- ---- how many of the first n rows are optional
-unfoldable pub first-optionals : List Row → ℕ → ℕ
-first-optionals rows zero = 0
-first-optionals rows (suc n) = first-optionals rows n + optional (class-of ((load-row rows n) .kind))
+-- what holds of every row, where something else does
+pub every-map : (P Q : Row → Type 0) → ((row : Row) → P row → Q row) → (rows : List Row) → Every P rows → Every Q rows
+unfolding Every
+every-map P Q f [] all = tt
+every-map P Q f (x ∷ rows) all = (f x (all .0), every-map P Q f rows (all .1))
 
-optionals-more : (rows : List Row) (r : Row) → optionals (rows ++ r ∷ []) ≡ optionals rows + optional (class-of (r .kind))
+-- ---- how many rows are optional
+pub optionals-more : (rows : List Row) (r : Row) → optionals (rows ++ r ∷ []) ≡ optionals rows + optional (class-of (r .kind))
 unfolding optionals
 optionals-more [] r = omega arith
 optionals-more (x ∷ rows) r = omega (arith, optionals-more rows r)
-
-pub optionals-first : (rows : List Row) (n : ℕ) → n ≤ length rows → first-optionals rows n ≡ optionals (take n rows)
-unfolding first-optionals optionals load-row
-optionals-first rows zero h = refl
-optionals-first rows (suc n) h =
-    ap (λ (m : ℕ). m + optional (class-of ((load-row rows n) .kind))) (optionals-first rows n (omega arith)) ∙ sym (optionals-more (take n rows) (load-row rows n)) ∙ sym (ap optionals (take-suc rows n _ (omega arith)))
 
 -- ---- the loads of the first n rows
 module _ (fill : ℕ → ℕ → Coefficient) where

@@ -16,16 +16,22 @@ use Rattle.earth.specs.Earth.{push}
 use Rattle.earth.specs.EarthRow.{Pressed, in-range}
 use Rattle.sets.specs.declared.Load.{Load}
 use Rattle.loads.specs.LoadRows.{Every, AllRanged}
-use Rattle.loads.specs.forces.Exerts.{EarthLoad, Forces, Exerts}
+use Rattle.loads.specs.forces.Exerts.{PushLoad, Forces, Exerts}
 
 pub all-ranged : (rows : List Row) → ((AllRanged rows → ⊥) → ⊥) → AllRanged rows
 unfolding Every
 all-ranged [] n = tt
 all-ranged (row ∷ rows) n = (ranged-unless (row .kind) (row .numbers) (λ h. n (λ all. h (all .0))), all-ranged rows (λ h. n (λ all. h (all .1))))
 
+-- what it is not so that some row has, no row has
+pub every-unless : (P : Row → Type 0) (rows : List Row) → ((Every (λ row. P row → ⊥) rows → ⊥) → ⊥) → Every (λ row. P row → ⊥) rows
+unfolding Every
+every-unless P [] n = tt
+every-unless P (row ∷ rows) n = ((λ p. n (λ all. all .0 p)), every-unless P rows (λ h. n (λ all. h (all .1))))
+
 -- an E row in range exerts what it is told as a whole row
 pub earth-pressed : {fill : ℕ → ℕ → Coefficient} {row : Row} {load : Load} → row .kind ≡ E → Ranged (row .kind) (row .numbers) → Exerts fill row load
-    → (H : ℕ) × (y : ℕ) × Pressed fill (row .numbers) (push H y) × EarthLoad H y load
+    → (H : ℕ) × (y : ℕ) × Pressed fill (row .numbers) (push H y) × PushLoad H y load
 unfolding Forces source
 earth-pressed {fill} {row} {load} e r x =
     let f = subst (λ (k : Kind). Forces fill (source k) (row .numbers) load) e (x .forces) in

@@ -8,18 +8,23 @@ use Rattle.kinds.specs.declared.Row.{Row}
 use Rattle.earth.specs.declared.table2.Coefficient.{Coefficient}
 use Rattle.earth.specs.Earth as earth
 use Rattle.earth.proofs.Pressures.{pushed-one}
+use Rattle.current.specs.Current as current
+use Rattle.current.proofs.Currents.{rule-one}
 use Rattle.sets.specs.declared.Load.{Load}
 use Rattle.sets.specs.declared.Loads.{Loads}
 use Rattle.kinds.specs.declared.classes.Source.{Source}
-use Rattle.kinds.specs.declared.classes.Source.the-variants.{Absent, Earth, Own}
+use Rattle.kinds.specs.declared.classes.Source.the-variants.{Absent, Earth, Current, Own}
 use Rattle.kinds.specs.classes.Classes.{source}
-use Rattle.loads.specs.forces.Exerts.{EarthLoad, Forces, Exerts}
+use Rattle.loads.specs.forces.Exerts.{PushLoad, Forces, Exerts}
 use Rattle.loads.proofs.forces.Exerting.{same-load}
 use Rattle.loads.specs.LoadRows.{Laid, AreLoads}
 
 -- ---- a row exerts one load
 same-push : {H y G z : ℕ} → earth.push H y ≡ earth.push G z → (H ≡ G) × (y ≡ z)
 same-push e = (cc, cc)
+
+same-current : {H y G z : ℕ} → current.push H y ≡ current.push G z → (H ≡ G) × (y ≡ z)
+same-current e = (cc, cc)
 
 pub exerts-one : (fill : ℕ → ℕ → Coefficient) (r : Row) (a b : Load) → Exerts fill r a → Exerts fill r b → a ≡ b
 unfolding Forces
@@ -31,12 +36,15 @@ exerts-one fill r a b p q = go (source (r .kind)) (p .forces) (q .forces)
     phase : a .phase ≡ b .phase
     phase = p .phase ∙ sym (q .phase)
 
+    same : {H y G z : ℕ} → (H ≡ G) × (y ≡ z) → PushLoad H y a → PushLoad G z b → a ≡ b
+    same e f g =
+        let k = subst₂ (λ (H y : ℕ). PushLoad H y a) (e .0) (e .1) f in
+        same-load class phase (k .v ∙ sym (g .v)) (k .x ∙ sym (g .x)) (k .h ∙ sym (g .h)) (k .twist ∙ sym (g .twist))
+
     go : (s : Source) → Forces fill s (r .numbers) a → Forces fill s (r .numbers) b → a ≡ b
-    go Absent f g = same-load class phase (f .v ∙ sym (g .v)) (f .x ∙ sym (g .x)) (f .h ∙ sym (g .h)) (f .twist ∙ sym (g .twist))
-    go Earth f g =
-        let e = same-push (pushed-one (f .pressed) (g .pressed)) in
-        let k = subst₂ (λ (H y : ℕ). EarthLoad H y a) (e .0) (e .1) (f .exerts) in
-        same-load class phase (k .v ∙ sym (g .exerts .v)) (k .x ∙ sym (g .exerts .x)) (k .h ∙ sym (g .exerts .h)) (k .twist ∙ sym (g .exerts .twist))
+    go Absent f g = same (refl, refl) f g
+    go Earth f g = same (same-push (pushed-one (f .pressed) (g .pressed))) (f .exerts) (g .exerts)
+    go Current f g = same (same-current (rule-one (f .rule) (g .rule))) (f .exerts) (g .exerts)
     go Own f g = same-load class phase (f .v ∙ sym (g .v)) (f .x ∙ sym (g .x)) (f .h ∙ sym (g .h)) (f .twist ∙ sym (g .twist))
 
 -- ---- and the rows of a job one table of loads

@@ -1,15 +1,16 @@
--- Document 01, Refusals of a job: what the load rows of a job are told, by 11, 15 and 16 in the order of their numbers, or the loads.
+-- Document 01, Refusals of a job, and 02, P1: what the load rows of a job are told, the lowest of 11, 15, 16 and 17, or the loads.
 use mathlib.Core.Path.{_≡_}
 use mathlib.Core.List.{List}
-use Prim.Native.Nat.{ℕ, _≤_, _<_}
+use Prim.Native.Nat.{ℕ, _<_}
 use lib.ListN.{take, replicate}
+use Rattle.arithmetic.specs.rounding.Least.{Least}
 use Rattle.kinds.specs.declared.Row.{Row}
 use Rattle.earth.specs.declared.table2.Coefficient.{Coefficient}
 use Rattle.sets.specs.declared.Loads.{Loads}
 use Rattle.sets.specs.Sets.{no-load}
-use Rattle.loads.specs.LoadRows.{AllRanged, NoneBlank, optionals, AreLoads}
+use Rattle.loads.specs.LoadRows.{AllRanged, NoneBlank, AllUpright, optionals, AreLoads}
 use Rattle.loads.specs.declared.LoadsAnswer.{LoadsAnswer}
-use Rattle.loads.specs.declared.LoadsAnswer.the-variants.{OutOfRange, NoCoefficient, TooManyOptional, Given}
+use Rattle.loads.specs.declared.LoadsAnswer.the-variants.{Refused, Given}
 use Rattle.loads.specs.declared.LoadsRead.{LoadsRead}
 
 -- an answer in the paper's numbers
@@ -18,29 +19,31 @@ pub data LoadsTold : Type 0 where
   given : Loads → LoadsTold
 
 unfoldable pub loads-told-by : LoadsAnswer → Loads → LoadsTold
-loads-told-by OutOfRange loads = refused 11
-loads-told-by NoCoefficient loads = refused 15
-loads-told-by TooManyOptional loads = refused 16
+loads-told-by (Refused n) loads = refused n
 loads-told-by Given loads = given loads
 
 unfoldable pub loads-told : LoadsRead → LoadsTold
 unfolding loads-told-by
 loads-told t = loads-told-by (t .answer) (t .loads)
 
+-- "given exactly when", of the load rows
+pub data RowsWhen (fill : ℕ → ℕ → Coefficient) (rows : List Row) : ℕ → Type 0 where
+  out-of-range : (AllRanged rows → ⊥) → RowsWhen fill rows 11
+  blank : (NoneBlank fill rows → ⊥) → RowsWhen fill rows 15
+  too-many : 12 < optionals rows → RowsWhen fill rows 16
+  upper-below-lower : (AllUpright rows → ⊥) → RowsWhen fill rows 17
+
+-- "Order as numbered": the least of their numbers, or the loads
 pub data LoadsSays (fill : ℕ → ℕ → Coefficient) (rows : List Row) : LoadsTold → Type 0 where
-  out-of-range : (AllRanged rows → ⊥) → LoadsSays fill rows (refused 11)
-  blank : AllRanged rows → (NoneBlank fill rows → ⊥) → LoadsSays fill rows (refused 15)
-  too-many : AllRanged rows → NoneBlank fill rows → 12 < optionals rows → LoadsSays fill rows (refused 16)
-  loaded : {loads : Loads} → AllRanged rows → NoneBlank fill rows → optionals rows ≤ 12 → AreLoads fill rows loads → LoadsSays fill rows (given loads)
+  refuses : {n : ℕ} → Least (RowsWhen fill rows) n → LoadsSays fill rows (refused n)
+  loaded : {loads : Loads} → ((n : ℕ) → RowsWhen fill rows n → ⊥) → AreLoads fill rows loads → LoadsSays fill rows (given loads)
 
 -- no loads: what stands beside a refusal
 unfoldable pub no-loads : Loads
 no-loads = record { count = 0; loads = replicate 16 no-load }
 
 unfoldable pub Beside : LoadsAnswer → Loads → Type 0
-Beside OutOfRange loads = loads ≡ no-loads
-Beside NoCoefficient loads = loads ≡ no-loads
-Beside TooManyOptional loads = loads ≡ no-loads
+Beside (Refused n) loads = loads ≡ no-loads
 Beside Given loads = Unit {0}
 
 -- the whole answer: the load rows are the first `count` of the 16

@@ -1,4 +1,4 @@
--- Document 01, Refusals of a job: what 11, 15 and 16 ask of the load rows of a job, and the loads that the rows exert.
+-- Document 01, Refusals of a job, and 02, P1: what 11, 15, 16 and 17 ask of the load rows of a job, and the loads that the rows exert.
 use mathlib.Core.Path.{_≡_}
 use mathlib.Core.List.{List, [], _∷_}
 use Prim.Native.Nat.{ℕ, _+_}
@@ -11,6 +11,7 @@ use Rattle.sets.specs.declared.Loads.{Loads}
 use Rattle.sets.specs.Sets.{no-load}
 use Rattle.kinds.specs.classes.Classes.{class-of, optional}
 use Rattle.loads.specs.forces.Blank.{BlankThere}
+use Rattle.loads.specs.forces.Wetted.{UpperBelowLower}
 use Rattle.loads.specs.forces.Exerts.{Exerts}
 
 -- P holds of every row
@@ -30,6 +31,10 @@ NoneBlank fill rows = Every (λ row. BlankThere fill row → ⊥) rows
 unfoldable pub optionals : List Row → ℕ
 optionals [] = 0
 optionals (row ∷ rows) = optional (class-of (row .kind)) + optionals rows
+
+-- what 17 asks: in no W row upper is below lower
+abbrev pub AllUpright : List Row → Type 0
+AllUpright rows = Every (λ row. UpperBelowLower row → ⊥) rows
 
 -- each row exerts the load in its place, and past the last row there stands no load
 unfoldable pub Laid : (ℕ → ℕ → Coefficient) → List Row → List Load → Type 0

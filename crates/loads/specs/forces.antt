@@ -1,2 +1,3 @@
 pub mod Blank
+pub mod Wetted
 pub mod Exerts

@@ -1,6 +1,7 @@
-// What one load row exerts (document 01, the job book and Earth pressure): its class, its phase, and its forces, from its own numbers or
-// from its fill; or why its job is refused, with 11 or 15.
+// What one load row exerts (document 01, the job book and Earth pressure; 02, P1): its class, its phase, and its forces, from its own numbers,
+// from its fill or from the water current; or why its job is refused, with 11, 15 or 17.
 use arithmetic::signed::Amount;
+use current::CurrentAnswer;
 use earth::EarthAnswer;
 use kinds::Numbers;
 use kinds::Row;
@@ -12,13 +13,13 @@ ghost use mathlib.Core.Bool.{false};
 ghost use Prim.Native.Nat.{_≤_};
 ghost use Rattle.earth.specs.table2.Table2.{table2-fill};
 ghost use Rattle.arithmetic.specs.signed.Whole.{signed, amount};
-ghost use Rattle.loads.specs.forces.Exerts.{OwnForces, EarthLoad};
+ghost use Rattle.kinds.specs.classes.Classes.{class-of};
+ghost use Rattle.loads.specs.forces.Exerts.{OwnForces, PushLoad};
 ghost use Rattle.loads.specs.steps.Exerted.{LoadOf};
 
-// What a load row is told: its load; or refusal 11, a number out of range, or 15, Table 2 is blank there.
+// What a load row is told: the lowest of its own refusals, or its load.
 pub enum RowLoad {
-    OutOfRange,
-    NoCoefficient,
+    Refused(u8),
     Exerted(Load),
 }
 
@@ -32,14 +33,14 @@ fn amount_of(minus: bool, size: u64) -> Amount
     }
 }
 
-// The load of an earth pressure.
-fn earth_load(class: Class, phase: u32, thrust: u64, arm: u64) -> Load
-    requires { ⌜ (thrust ≤ 300000) × (arm ≤ 5000) ⌝ }
-    ensures { λ r. ⌜ (r .class ≡ class) × (r .phase ≡ phase) × EarthLoad thrust arm r ⌝ }
+// The load of a push toward +x at a height, and no V.
+fn push_load(class: Class, phase: u32, force: u64, arm: u64) -> Load
+    requires { ⌜ (force ≤ 300000) × (arm ≤ 60000) ⌝ }
+    ensures { λ r. ⌜ (r .class ≡ class) × (r .phase ≡ phase) × PushLoad force arm r ⌝ }
 {
     let none = amount_of(false, 0);
-    let h = amount_of(false, thrust);
-    let twist = amount_of(false, thrust * arm);
+    let h = amount_of(false, force);
+    let twist = amount_of(false, force * arm);
     Load {
         class,
         phase,
@@ -68,33 +69,37 @@ fn own_load(class: Class, phase: u32, numbers: Numbers) -> Load
     }
 }
 
-// What a load row exerts. Whether its numbers are in range is asked once, by the rule that its forces come from.
-pub(crate) fn load_of(row: Row) -> RowLoad
+// What a load row of a class exerts. Whether its numbers are in range is asked once, by the rule that its forces come from.
+pub(crate) fn load_of(row: Row, class: Class) -> RowLoad
+    requires { ⌜ class ≡ class-of (row .kind) ⌝ }
     ensures { λ r. ⌜ LoadOf table2-fill row r ⌝ }
 {
     let kind = row.kind;
     let numbers = row.numbers;
-    let class = kinds::classes::class_of(kind);
     let phase = kinds::phase_of(row);
     let source = kinds::classes::source_of(kind);
     match source {
         Source::Earth => match earth::pressure(numbers) {
-            EarthAnswer::OutOfRange => RowLoad::OutOfRange,
-            EarthAnswer::NoCoefficient => RowLoad::NoCoefficient,
-            EarthAnswer::Push { thrust, arm } => RowLoad::Exerted(earth_load(
-                class,
-                phase,
-                thrust,
-                arm,
-            )),
+            EarthAnswer::OutOfRange => RowLoad::Refused(11),
+            EarthAnswer::NoCoefficient => RowLoad::Refused(15),
+            EarthAnswer::Push { thrust, arm } => {
+                RowLoad::Exerted(push_load(class, phase, thrust, arm))
+            }
+        },
+        Source::Current => match current::pressure(numbers) {
+            CurrentAnswer::OutOfRange => RowLoad::Refused(11),
+            CurrentAnswer::UpperBelowLower => RowLoad::Refused(17),
+            CurrentAnswer::Push { force, arm } => {
+                RowLoad::Exerted(push_load(class, phase, force, arm))
+            }
         },
         Source::Own | Source::Absent => {
             if !kinds::ranges::is_ranged(kind, numbers) {
-                return RowLoad::OutOfRange;
+                return RowLoad::Refused(11);
             }
             // a row of no source: no job has one among its load rows
             if let Source::Absent = source {
-                return RowLoad::Exerted(earth_load(class, phase, 0, 0));
+                return RowLoad::Exerted(push_load(class, phase, 0, 0));
             }
             RowLoad::Exerted(own_load(class, phase, numbers))
         }

@@ -1,4 +1,4 @@
-// The loads of a job's load rows, or their refusal (document 01, refusals 11, 15 and 16 of a job).
+// The loads of a job's load rows, or their refusal (document 01, refusals 11, 15 and 16 of a job; 02, P1, refusal 17).
 //
 // Everything above sees loads and no rows. One loop asks each row once. The order of the refusals is over all the rows and by number, and
 // past the rows of the job there stands no load.
@@ -12,15 +12,11 @@ ghost use Prim.Native.Nat.{_≤_};
 ghost use lib.ListN.{take};
 ghost use Rattle.earth.specs.table2.Table2.{table2-fill};
 ghost use Rattle.loads.specs.Answer.{no-loads, LoadsAnswered};
-ghost use Rattle.loads.specs.steps.Asking.{row-count};
-ghost use Rattle.loads.specs.steps.Asking.{AskedIs};
+ghost use Rattle.loads.specs.steps.Asking.{row-count, Lower, AskedIs};
 
-// What the load rows are told: refusal 11 (a number out of range), 15 (Table 2 blank) or 16 (more than 12 optional rows), in that
-// order over all of them; or the loads.
+// What the load rows are told: the lowest of the refusals that they give, over all of them; or the loads.
 pub enum LoadsAnswer {
-    OutOfRange,
-    NoCoefficient,
-    TooManyOptional,
+    Refused(u8),
     Given,
 }
 
@@ -30,11 +26,10 @@ pub struct LoadsRead {
     pub loads: Loads,
 }
 
-// What 11, 15 and 16 ask of rows: whether every number is in its range, whether Table 2 is filled for each in range that asks it, and
-// how many rows are optional; and the loads of the rows. The last two count where the first two say yes.
+// What was asked of rows: the lowest number with which one of them is refused by itself, or 0, and how many rows are optional; and, where
+// none is refused, the loads of the rows.
 struct Asked {
-    ranged: bool,
-    filled: bool,
+    first: u8,
     optional: u64,
     loads: Loads,
 }
@@ -58,66 +53,66 @@ fn row_count(count: usize) -> usize
     count
 }
 
-// What 11, 15 and 16 ask of the first n rows, and their loads.
+// "Order as numbered": the lower of two refusals, of which the first may be none, 0.
+fn lower(first: u8, number: u8) -> u8
+    ensures { λ r. ⌜ Lower first number r ⌝ }
+{
+    if first == 0 {
+        return number;
+    }
+    if number < first {
+        return number;
+    }
+    first
+}
+
+// What the first n rows were asked, and their loads. An optional row counts whether or not it is refused, since 16 comes before 17.
 fn asked_of(rows: [Row; 16], n: usize) -> Asked
     requires { ⌜ n ≤ 16 ⌝ }
     ensures { λ r. ⌜ AskedIs table2-fill (take n rows) r ⌝ }
 {
     let none = sets::no_load();
     let mut loads = [none; 16];
-    let mut ranged = true;
-    let mut filled = true;
+    let mut first: u8 = 0;
     let mut optional: u64 = 0;
     let mut i: usize = 0;
     while i < n {
         let row = rows[i];
-        match forces::load_of(row) {
-            RowLoad::OutOfRange => ranged = false,
-            RowLoad::NoCoefficient => filled = false,
-            RowLoad::Exerted(load) => {
-                let class = load.class;
-                optional = optional + kinds::classes::optional_count(class);
-                loads[i] = load;
-            }
+        let kind = row.kind;
+        let class = kinds::classes::class_of(kind);
+        optional = optional + kinds::classes::optional_count(class);
+        match forces::load_of(row, class) {
+            RowLoad::Refused(number) => first = lower(first, number),
+            RowLoad::Exerted(load) => loads[i] = load,
         }
         i = i + 1;
     }
     let loads = Loads { count: n, loads };
     Asked {
-        ranged,
-        filled,
+        first,
         optional,
         loads,
     }
 }
 
-// The loads of a job's load rows, which are the first `count` of `rows`, at most 16; or refusal 11, 15 or 16.
+// The loads of a job's load rows, which are the first `count` of `rows`, at most 16; or the lowest of the refusals 11, 15, 16 and 17.
 pub fn loads_of(rows: [Row; 16], count: usize) -> LoadsRead
     ensures { λ r. ⌜ LoadsAnswered table2-fill rows count r ⌝ }
 {
     let asked = asked_of(rows, row_count(count));
-    let none = no_loads();
-    if !asked.ranged {
-        return LoadsRead {
-            answer: LoadsAnswer::OutOfRange,
-            loads: none,
-        };
-    }
-    if !asked.filled {
-        return LoadsRead {
-            answer: LoadsAnswer::NoCoefficient,
-            loads: none,
-        };
-    }
+    let mut first = asked.first;
     if 12 < asked.optional {
+        first = lower(first, 16);
+    }
+    if first == 0 {
+        let loads = asked.loads;
         return LoadsRead {
-            answer: LoadsAnswer::TooManyOptional,
-            loads: none,
+            answer: LoadsAnswer::Given,
+            loads,
         };
     }
-    let loads = asked.loads;
     LoadsRead {
-        answer: LoadsAnswer::Given,
-        loads,
+        answer: LoadsAnswer::Refused(first),
+        loads: no_loads(),
     }
 }

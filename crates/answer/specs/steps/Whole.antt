@@ -1,12 +1,12 @@
 -- What `whole` and `first_told` answer.
-use Prim.Native.Nat.{ℕ}
+use mathlib.Core.Bool.{cond}
+use lib.Dec.{ltb}
 use mathlib.Core.Path.{_≡_}
 use Rattle.sets.specs.declared.Combination.the-variants.{I, II, III, IV}
 use Rattle.sets.specs.declared.Loads.{Loads}
 use Rattle.checks.specs.declared.Base.{Base}
 use Rattle.loads.specs.declared.LoadsAnswer as loads
 use Rattle.loads.specs.declared.LoadsAnswer.the-variants as taking
-use Rattle.lines.specs.declared.Verdict.the-variants.{Refused}
 use Rattle.lines.specs.declared.RiverLine.{RiverLine}
 use Rattle.lines.specs.declared.Answer.{Answer}
 use Rattle.lines.specs.verdicts.Verdict.{VerdictIs}
@@ -24,14 +24,8 @@ pub record WholeIs (base : Base) (loads : Loads) (d c : RiverLine) (a : Answer) 
   pub clear : a .clear ≡ c
   pub verdict : VerdictIs (a .verdict) a
 
--- the river's refusal, 11 to 14, or another
-abbrev pub earlier : RiverRead → ℕ → ℕ
-earlier (river.Refused n) other = n
-earlier (river.Shown d c) other = other
-
--- "Order as numbered": 11 of the load rows before 12 to 14 of the river, and all of the river's before 15 and 16
+-- "Order as numbered": the lower of the two refusals, or the river's answer
 abbrev pub told-first : loads.LoadsAnswer → RiverRead → RiverRead
-told-first taking.OutOfRange x = river.Refused 11
-told-first taking.NoCoefficient x = river.Refused (earlier x 15)
-told-first taking.TooManyOptional x = river.Refused (earlier x 16)
+told-first (taking.Refused n) (river.Refused m) = river.Refused (cond (ltb n m) n m)
+told-first (taking.Refused n) (river.Shown d c) = river.Refused n
 told-first taking.Given x = x

@@ -2,7 +2,7 @@
 use mathlib.Core.Path.{_≡_}
 use Rattle.arithmetic.proofs.Cases.{impossible}
 use Rattle.kinds.specs.declared.classes.Source.{Source}
-use Rattle.kinds.specs.declared.classes.Source.the-variants.{Absent, Earth, Own}
+use Rattle.kinds.specs.declared.classes.Source.the-variants.{Absent, Earth, Current, Own}
 
 pub absent-not : _≡_ {A = Source} Absent Own → ⊥
 absent-not q = impossible cc
@@ -12,6 +12,21 @@ earth-not q = impossible cc
 
 pub absent-earth : _≡_ {A = Source} Absent Earth → ⊥
 absent-earth q = impossible cc
+
+pub current-not : _≡_ {A = Source} Current Own → ⊥
+current-not q = impossible cc
+
+pub current-earth : _≡_ {A = Source} Current Earth → ⊥
+current-earth q = impossible cc
+
+pub absent-current : _≡_ {A = Source} Absent Current → ⊥
+absent-current q = impossible cc
+
+pub earth-current : _≡_ {A = Source} Earth Current → ⊥
+earth-current q = impossible cc
+
+pub own-current : _≡_ {A = Source} Own Current → ⊥
+own-current q = impossible cc
 
 pub own-earth : _≡_ {A = Source} Own Earth → ⊥
 own-earth q = impossible cc

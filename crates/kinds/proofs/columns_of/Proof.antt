@@ -20,6 +20,9 @@ enum-told-3 c = search needs
 enum-told-4 : tie.Need-enum-told-4
 enum-told-4 c = search needs
 
+enum-told-5 : tie.Need-enum-told-5
+enum-told-5 c = search needs
+
 returns : tie.Need-returns
 returns c = sym (ap columns (c .enum-told .given .1))
 
@@ -33,7 +36,10 @@ returns-4 : tie.Need-returns-4
 returns-4 c = sym (ap columns (c .enum-told4 .given .1))
 
 returns-5 : tie.Need-returns-5
-returns-5 c = kind-arm columns load-columns (DL ∷ EP ∷ LL ∷ LF ∷ CF ∷ WC ∷ BU ∷ TM ∷ EX ∷ WL ∷ SF ∷ []) (c .before .args .kind) refl (c .match .keys5)
+returns-5 c = sym (ap columns (c .enum-told5 .given .1))
+
+returns-6 : tie.Need-returns-6
+returns-6 c = kind-arm columns load-columns (DL ∷ EP ∷ LL ∷ LF ∷ CF ∷ WC ∷ BU ∷ TM ∷ EX ∷ WL ∷ SF ∷ []) (c .before .args .kind) refl (c .match .keys6)
 
 pub columns-of-spec : {M : Type 1} → statement M
-columns-of-spec = tie.close (tie.spec enum-told enum-told-2 enum-told-3 enum-told-4 returns returns-2 returns-3 returns-4 returns-5)
+columns-of-spec = tie.close (tie.spec enum-told enum-told-2 enum-told-3 enum-told-4 enum-told-5 returns returns-2 returns-3 returns-4 returns-5 returns-6)

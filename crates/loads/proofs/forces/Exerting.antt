@@ -1,14 +1,15 @@
--- What a row exerts: the columns that its source reads, the push of an E row, and how large it is.
+-- What a row exerts: the columns that its source reads, the push of an E and of a W row, and how large it is.
 use mathlib.Core.Path.{_≡_, refl, sym, _∙_, subst, subst⁻¹}
 use mathlib.Core.Bool.{Bool, true, false}
 use Prim.Native.Nat.{ℕ, _*_, _≤_}
 use native.Mathlib.Nat.{le-trans, mul-le-mul}
+use native.Mathlib.Omega.{arith}
 use lib.Dec.{lit≤}
 use lib.IntN.{_*ℤ_}
 use Rattle.arithmetic.proofs.Cases.{impossible, unlike}
 use Rattle.fields.specs.declared.Entry.{Entry}
 use Rattle.kinds.specs.declared.Kind.{Kind}
-use Rattle.kinds.specs.declared.Kind.the-variants.{B, S, C, E, DL, EP, LL, LF, CF, WC, BU, TM, EX, WL, SF}
+use Rattle.kinds.specs.declared.Kind.the-variants.{B, S, C, E, W, DL, EP, LL, LF, CF, WC, BU, TM, EX, WL, SF}
 use Rattle.kinds.specs.declared.Numbers.{Numbers}
 use Rattle.kinds.specs.declared.Row.{Row}
 use Rattle.kinds.specs.Table.{load-columns, phase}
@@ -20,18 +21,25 @@ use Rattle.earth.specs.EarthRow.{Pressed, out-of-range, in-range}
 use Rattle.earth.specs.declared.Backfill.{Backfill}
 use Rattle.earth.proofs.Pressures.{pushed-one}
 use Rattle.earth.proofs.Bounds.{pressed-modest}
+use Rattle.current.specs.Current as current
+use Rattle.current.specs.CurrentRow as currents
+use Rattle.current.specs.declared.Shaft.{Shaft}
+use Rattle.current.proofs.Currents.{rule-one}
+use Rattle.current.proofs.Bounds.{push-mild}
 use Rattle.arithmetic.specs.declared.signed.Amount.{Amount}
 use Rattle.arithmetic.specs.signed.Whole.{amount}
 use Rattle.sets.specs.declared.Load.{Load}
 use Rattle.sets.specs.Bounded.{BoundedLoad}
 use Rattle.kinds.specs.declared.classes.Source.{Source}
-use Rattle.kinds.specs.declared.classes.Source.the-variants.{Absent, Earth, Own}
+use Rattle.kinds.specs.declared.classes.Source.the-variants.{Absent, Earth, Current, Own}
 use Rattle.kinds.specs.classes.Classes.{class-of, source}
-use Rattle.kinds.proofs.classes.Sources.{absent-not, earth-not, absent-earth, own-earth}
+use Rattle.kinds.proofs.classes.Sources.{absent-not, earth-not, current-not, absent-earth, current-earth, own-earth, absent-current, earth-current, own-current}
 use Rattle.loads.specs.forces.Blank.{BlankThere}
+use Rattle.loads.specs.forces.Wetted.{UpperBelowLower}
 use Rattle.loads.specs.steps.Exerted.{LoadOf}
+use Rattle.loads.specs.steps.Exerted as rows
 use Rattle.loads.specs.declared.forces.RowLoad.the-variants as RowLoad
-use Rattle.loads.specs.forces.Exerts.{OwnForces, EarthLoad, Forces, Exerts}
+use Rattle.loads.specs.forces.Exerts.{OwnForces, PushLoad, Forces, Exerts}
 use Rattle.loads.proofs.forces.Amounts.{amount-size, value-size, product-size}
 
 -- ---- the columns of a row
@@ -41,6 +49,7 @@ own-columns B n e r = absurd (absent-not e)
 own-columns S n e r = absurd (absent-not e)
 own-columns C n e r = absurd (absent-not e)
 own-columns E n e r = absurd (earth-not e)
+own-columns W n e r = absurd (current-not e)
 own-columns DL n e r = r
 own-columns EP n e r = r
 own-columns LL n e r = r
@@ -59,6 +68,7 @@ earth-kind B e = absurd (absent-earth e)
 earth-kind S e = absurd (absent-earth e)
 earth-kind C e = absurd (absent-earth e)
 earth-kind E e = refl
+earth-kind W e = absurd (current-earth e)
 earth-kind DL e = absurd (own-earth e)
 earth-kind EP e = absurd (own-earth e)
 earth-kind LL e = absurd (own-earth e)
@@ -71,6 +81,25 @@ earth-kind EX e = absurd (own-earth e)
 earth-kind WL e = absurd (own-earth e)
 earth-kind SF e = absurd (own-earth e)
 
+pub current-kind : (k : Kind) → source k ≡ Current → k ≡ W
+unfolding source
+current-kind B e = absurd (absent-current e)
+current-kind S e = absurd (absent-current e)
+current-kind C e = absurd (absent-current e)
+current-kind E e = absurd (earth-current e)
+current-kind W e = refl
+current-kind DL e = absurd (own-current e)
+current-kind EP e = absurd (own-current e)
+current-kind LL e = absurd (own-current e)
+current-kind LF e = absurd (own-current e)
+current-kind CF e = absurd (own-current e)
+current-kind WC e = absurd (own-current e)
+current-kind BU e = absurd (own-current e)
+current-kind TM e = absurd (own-current e)
+current-kind EX e = absurd (own-current e)
+current-kind WL e = absurd (own-current e)
+current-kind SF e = absurd (own-current e)
+
 pub around-size : (a : ℕ) (e : Entry) → Around a a e → e .size ≤ a
 around-size a e h = go (e .minus) refl
   where
@@ -78,22 +107,44 @@ around-size a e h = go (e .minus) refl
     go true d = h .under d
     go false d = h .over d
 
--- ---- what a load row is told: by the push of its fill, or by its own numbers
+-- ---- what a load row is told: by the push of its fill or of the current, or by its own numbers
 pushed-not : {fill : ℕ → ℕ → Coefficient} {row : Backfill} {t : EarthTold} → Pushed fill row t → t ≡ refused 11 → ⊥
 pushed-not (blank b) e = unlike 15 11 refl cc
 pushed-not (has-coefficient k h y) e = impossible cc
 
-out-of-range-not : {fill : ℕ → ℕ → Coefficient} {row : Numbers} {t : EarthTold} → Pressed fill row t → t ≡ refused 11 → Ranged E row → ⊥
-out-of-range-not (out-of-range h) e r = h r
-out-of-range-not (in-range q s) e r = pushed-not s e
+earth-out : {fill : ℕ → ℕ → Coefficient} {row : Numbers} {t : EarthTold} → Pressed fill row t → t ≡ refused 11 → Ranged E row → ⊥
+earth-out (out-of-range h) e r = h r
+earth-out (in-range q s) e r = pushed-not s e
 
-in-range-else : {fill : ℕ → ℕ → Coefficient} {row : Numbers} {t : EarthTold} → Pressed fill row t → (t ≡ refused 11 → ⊥) → Ranged E row × Pushed fill (backfill-of row) t
-in-range-else (out-of-range h) n = absurd (n refl)
-in-range-else (in-range r s) n = (r, s)
+earth-else : {fill : ℕ → ℕ → Coefficient} {row : Numbers} {t : EarthTold} → Pressed fill row t → (t ≡ refused 11 → ⊥) → Ranged E row × Pushed fill (backfill-of row) t
+earth-else (out-of-range h) n = absurd (n refl)
+earth-else (in-range r s) n = (r, s)
+
+rule-not : {row : Shaft} {t : current.CurrentTold} → current.CurrentRule row t → t ≡ current.refused 11 → ⊥
+rule-not (current.upper-below-lower l) e = unlike 17 11 refl cc
+rule-not (current.pushes l h y) e = impossible cc
+
+current-out : {row : Numbers} {t : current.CurrentTold} → currents.CurrentSays row t → t ≡ current.refused 11 → Ranged W row → ⊥
+current-out (currents.out-of-range h) e r = h r
+current-out (currents.in-range q s) e r = rule-not s e
+
+current-else : {row : Numbers} {t : current.CurrentTold} → currents.CurrentSays row t → (t ≡ current.refused 11 → ⊥) → Ranged W row × current.CurrentRule (current.shaft-of row) t
+current-else (currents.out-of-range h) n = absurd (n refl)
+current-else (currents.in-range r s) n = (r, s)
 
 module _ (fill : ℕ → ℕ → Coefficient) (row : Row) where
   unfoldable pub Kept : Load → Type 0
   Kept load = (load .class ≡ class-of (row .kind)) × (load .phase ≡ phase (row .kind) (row .numbers))
+
+  -- 11 is the lowest of a row's numbers
+  pub told-out : (Ranged (row .kind) (row .numbers) → ⊥) → LoadOf fill row (RowLoad.Refused 11)
+  unfolding LoadOf
+  told-out h = record { holds = rows.out-of-range h; least = lowest }
+    where
+      lowest : (n : ℕ) → rows.RowWhen fill row n → 11 ≤ n
+      lowest n (rows.out-of-range x) = omega arith
+      lowest n (rows.blank x) = omega arith
+      lowest n (rows.upper-below-lower x) = omega arith
 
   module _ (is-earth : source (row .kind) ≡ Earth) where
     own-range : Ranged E (row .numbers) → Ranged (row .kind) (row .numbers)
@@ -102,33 +153,83 @@ module _ (fill : ℕ → ℕ → Coefficient) (row : Row) where
     earth-range : Ranged (row .kind) (row .numbers) → Ranged E (row .numbers)
     earth-range = subst (λ (k : Kind). Ranged k (row .numbers)) (earth-kind (row .kind) is-earth)
 
-    pub told-out : Pressed fill (row .numbers) (refused 11) → LoadOf fill row RowLoad.OutOfRange
-    unfolding LoadOf
-    told-out p = λ r. out-of-range-not p refl (earth-range r)
+    pub earth-told-out : Pressed fill (row .numbers) (refused 11) → LoadOf fill row (RowLoad.Refused 11)
+    earth-told-out p = told-out (λ r. earth-out p refl (earth-range r))
 
-    pub told-blank : Pressed fill (row .numbers) (refused 15) → LoadOf fill row RowLoad.NoCoefficient
+    pub earth-told-blank : Pressed fill (row .numbers) (refused 15) → LoadOf fill row (RowLoad.Refused 15)
     unfolding LoadOf BlankThere
-    told-blank p = let q = in-range-else p (λ e. unlike 15 11 refl cc) in (own-range (q .0), (is-earth, q .1))
+    earth-told-blank p = record { holds = rows.blank (is-earth, q .1); least = lowest }
+      where
+        q : Ranged E (row .numbers) × Pushed fill (backfill-of (row .numbers)) (refused 15)
+        q = earth-else p (λ e. unlike 15 11 refl cc)
 
-    pub told-push : {H y : ℕ} (load : Load) → Pressed fill (row .numbers) (push H y) → Kept load → EarthLoad H y load → LoadOf fill row (RowLoad.Exerted load)
-    unfolding LoadOf BlankThere Kept Forces
-    told-push load p k f =
-        let q = in-range-else p (λ e. impossible cc) in (
-          own-range (q .0),
-          (λ b. let e = pushed-one (q .1) (b .1) in impossible cc),
-          record { class = k .0; phase = k .1; forces = subst⁻¹ (λ (s : Source). Forces fill s (row .numbers) load) is-earth (record { H = _; y = _; pressed = q .1; exerts = f }) },
-        )
+        lowest : (n : ℕ) → rows.RowWhen fill row n → 15 ≤ n
+        lowest n (rows.out-of-range x) = absurd (x (own-range (q .0)))
+        lowest n (rows.blank x) = omega arith
+        lowest n (rows.upper-below-lower x) = omega arith
 
-  module _ {s : Source} (is : source (row .kind) ≡ s) (not-earth : s ≡ Earth → ⊥) (r : Ranged (row .kind) (row .numbers)) where
+    pub earth-told-push : {H y : ℕ} (load : Load) → Pressed fill (row .numbers) (push H y) → Kept load → PushLoad H y load → LoadOf fill row (RowLoad.Exerted load)
+    unfolding LoadOf BlankThere UpperBelowLower Kept Forces
+    earth-told-push {H} {y} load p k f =
+        (none, record { class = k .0; phase = k .1; forces = subst⁻¹ (λ (s : Source). Forces fill s (row .numbers) load) is-earth (record { H = H; y = y; pressed = q .1; exerts = f }) })
+      where
+        q : Ranged E (row .numbers) × Pushed fill (backfill-of (row .numbers)) (push H y)
+        q = earth-else p (λ e. impossible cc)
+
+        none : (n : ℕ) → rows.RowWhen fill row n → ⊥
+        none n (rows.out-of-range x) = x (own-range (q .0))
+        none n (rows.blank x) = let e = pushed-one (q .1) (x .1) in impossible cc
+        none n (rows.upper-below-lower x) = earth-current (sym is-earth ∙ x .0)
+
+  module _ (is-current : source (row .kind) ≡ Current) where
+    wet-range : Ranged W (row .numbers) → Ranged (row .kind) (row .numbers)
+    wet-range = subst⁻¹ (λ (k : Kind). Ranged k (row .numbers)) (current-kind (row .kind) is-current)
+
+    current-range : Ranged (row .kind) (row .numbers) → Ranged W (row .numbers)
+    current-range = subst (λ (k : Kind). Ranged k (row .numbers)) (current-kind (row .kind) is-current)
+
+    pub current-told-out : currents.CurrentSays (row .numbers) (current.refused 11) → LoadOf fill row (RowLoad.Refused 11)
+    current-told-out p = told-out (λ r. current-out p refl (current-range r))
+
+    pub current-told-below : currents.CurrentSays (row .numbers) (current.refused 17) → LoadOf fill row (RowLoad.Refused 17)
+    unfolding LoadOf BlankThere UpperBelowLower
+    current-told-below p = record { holds = rows.upper-below-lower (is-current, q .1); least = lowest }
+      where
+        q : Ranged W (row .numbers) × current.CurrentRule (current.shaft-of (row .numbers)) (current.refused 17)
+        q = current-else p (λ e. unlike 17 11 refl cc)
+
+        lowest : (n : ℕ) → rows.RowWhen fill row n → 17 ≤ n
+        lowest n (rows.out-of-range x) = absurd (x (wet-range (q .0)))
+        lowest n (rows.blank x) = absurd (current-earth (sym is-current ∙ x .0))
+        lowest n (rows.upper-below-lower x) = omega arith
+
+    pub current-told-push : {H y : ℕ} (load : Load) → currents.CurrentSays (row .numbers) (current.push H y) → Kept load → PushLoad H y load → LoadOf fill row (RowLoad.Exerted load)
+    unfolding LoadOf BlankThere UpperBelowLower Kept Forces
+    current-told-push {H} {y} load p k f =
+        (none, record { class = k .0; phase = k .1; forces = subst⁻¹ (λ (s : Source). Forces fill s (row .numbers) load) is-current (record { H = H; y = y; rule = q .1; exerts = f }) })
+      where
+        q : Ranged W (row .numbers) × current.CurrentRule (current.shaft-of (row .numbers)) (current.push H y)
+        q = current-else p (λ e. impossible cc)
+
+        none : (n : ℕ) → rows.RowWhen fill row n → ⊥
+        none n (rows.out-of-range x) = x (wet-range (q .0))
+        none n (rows.blank x) = current-earth (sym is-current ∙ x .0)
+        none n (rows.upper-below-lower x) = let e = rule-one (q .1) (x .1) in impossible cc
+
+  module _ {s : Source} (is : source (row .kind) ≡ s) (not-earth : s ≡ Earth → ⊥) (not-current : s ≡ Current → ⊥) (r : Ranged (row .kind) (row .numbers)) where
     pub told-load : (load : Load) → Kept load → Forces fill s (row .numbers) load → LoadOf fill row (RowLoad.Exerted load)
-    unfolding LoadOf BlankThere Kept
-    told-load load k f =
-        (r, (λ b. not-earth (sym is ∙ b .0)), record { class = k .0; phase = k .1; forces = subst⁻¹ (λ (x : Source). Forces fill x (row .numbers) load) is f })
+    unfolding LoadOf BlankThere UpperBelowLower Kept
+    told-load load k f = (none, record { class = k .0; phase = k .1; forces = subst⁻¹ (λ (x : Source). Forces fill x (row .numbers) load) is f })
+      where
+        none : (n : ℕ) → rows.RowWhen fill row n → ⊥
+        none n (rows.out-of-range x) = x r
+        none n (rows.blank x) = not-earth (sym is ∙ x .0)
+        none n (rows.upper-below-lower x) = not-current (sym is ∙ x .0)
 
 -- ---- how large a load is
-earth-bounded : {H y : ℕ} {load : Load} → H ≤ 300000 → H * y ≤ 3000000000 → EarthLoad H y load → BoundedLoad load
+push-bounded : {H y : ℕ} {load : Load} → H ≤ 300000 → H * y ≤ 3000000000 → PushLoad H y load → BoundedLoad load
 unfolding amount
-earth-bounded {H} {y} p q f =
+push-bounded {H} {y} p q f =
     record {
       v = subst (λ (a : Amount). a .size ≤ 50000) (sym (f .v)) (lit≤ tt);
       x = subst (λ (a : Amount). a .size ≤ 32000) (sym (f .x)) (lit≤ tt);
@@ -153,8 +254,9 @@ unfolding Forces
 exerts-bounded fill small row load r e = go (source (row .kind)) refl (e .forces)
   where
     go : (s : Source) → source (row .kind) ≡ s → Forces fill s (row .numbers) load → BoundedLoad load
-    go Absent d f = earth-bounded (lit≤ tt) (lit≤ tt) f
-    go Earth d f = let m = pressed-modest small (in-range (earth-range fill row d r) (f .pressed)) in earth-bounded (m .thrust) (m .moment) (f .exerts)
+    go Absent d f = push-bounded (lit≤ tt) (lit≤ tt) f
+    go Earth d f = let m = pressed-modest small (in-range (earth-range fill row d r) (f .pressed)) in push-bounded (m .thrust) (m .moment) (f .exerts)
+    go Current d f = let m = push-mild (current-range fill row d r) (f .rule) in push-bounded (le-trans (m .force) (lit≤ tt)) (m .moment) (f .exerts)
     go Own d f = own-bounded (own-columns (row .kind) (row .numbers) d r) f
 
 -- loads are the same if their parts are

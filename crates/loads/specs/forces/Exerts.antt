@@ -1,4 +1,4 @@
--- What a load row exerts (document 01, the job book, Earth pressure and Load sets). `fill` is what is held for a soil and a slope: today Table 2.
+-- What a load row exerts (document 01, the job book, Earth pressure and Load sets; 02, P1). `fill` is what is held for a soil and a slope: today Table 2.
 use mathlib.Core.Path.{_≡_}
 use Prim.Native.Nat.{ℕ, _*_}
 use lib.IntN.{pos, _*ℤ_}
@@ -8,10 +8,12 @@ use Rattle.kinds.specs.Table.{phase}
 use Rattle.kinds.specs.ranges.Range.{value}
 use Rattle.earth.specs.declared.table2.Coefficient.{Coefficient}
 use Rattle.earth.specs.Earth.{push, backfill-of, Pushed}
+use Rattle.current.specs.Current.{shaft-of, CurrentRule}
+use Rattle.current.specs.Current as current
 use Rattle.arithmetic.specs.signed.Whole.{amount}
 use Rattle.sets.specs.declared.Load.{Load}
 use Rattle.kinds.specs.declared.classes.Source.{Source}
-use Rattle.kinds.specs.declared.classes.Source.the-variants.{Absent, Earth, Own}
+use Rattle.kinds.specs.declared.classes.Source.the-variants.{Absent, Earth, Current, Own}
 use Rattle.kinds.specs.classes.Classes.{class-of, source}
 
 -- a load as written: V, x, H, and H times y, the twist
@@ -21,28 +23,36 @@ pub record OwnForces (numbers : Numbers) (load : Load) : Type 0 where
   pub h : load .h ≡ amount (value (numbers .n3))
   pub twist : load .twist ≡ amount (value (numbers .n3) *ℤ value (numbers .n4))
 
--- a thrust H at the height y, and no V
-pub record EarthLoad (H y : ℕ) (load : Load) : Type 0 where
+-- a push H toward +x at the height y, and no V
+pub record PushLoad (H y : ℕ) (load : Load) : Type 0 where
   pub v : load .v ≡ amount (pos 0)
   pub x : load .x ≡ amount (pos 0)
   pub h : load .h ≡ amount (pos H)
   pub twist : load .twist ≡ amount (pos (H * y))
 
--- an earth pressure: H toward +x at y; V = 0
+-- an earth pressure: its push
 pub record EarthForces (fill : ℕ → ℕ → Coefficient) (numbers : Numbers) (load : Load) : Type 0 where
   pub H : ℕ
   pub y : ℕ
   pub pressed : Pushed fill (backfill-of numbers) (push H y)
-  pub exerts : EarthLoad H y load
+  pub exerts : PushLoad H y load
+
+-- a water current: its push
+pub record CurrentForces (numbers : Numbers) (load : Load) : Type 0 where
+  pub H : ℕ
+  pub y : ℕ
+  pub rule : CurrentRule (shaft-of numbers) (current.push H y)
+  pub exerts : PushLoad H y load
 
 -- a row that is no load row exerts nothing; no job has one among its load rows
 abbrev pub NoForces : Load → Type 0
-NoForces load = EarthLoad 0 0 load
+NoForces load = PushLoad 0 0 load
 
 -- the forces of a row, by where they come from
 unfoldable pub Forces : (ℕ → ℕ → Coefficient) → Source → Numbers → Load → Type 0
 Forces fill Absent numbers load = NoForces load
 Forces fill Earth numbers load = EarthForces fill numbers load
+Forces fill Current numbers load = CurrentForces numbers load
 Forces fill Own numbers load = OwnForces numbers load
 
 -- the load of a row: its class, its phase and its forces

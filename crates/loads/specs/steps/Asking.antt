@@ -1,29 +1,38 @@
--- What `row_count` and `asked_of` answer: how many rows are looked at, what 11, 15 and 16 ask of them, and their loads.
+-- What `row_count`, `lower` and `asked_of` answer: how many rows are looked at, the lowest number that one of them shows by itself, how many
+-- are optional, and their loads.
 use mathlib.Core.Path.{_≡_}
-use mathlib.Core.Bool.{true}
-use mathlib.Core.List.{List}
-use Prim.Native.Nat.{ℕ}
-use Rattle.arithmetic.specs.decides.Decides.{Decides}
-use Rattle.kinds.specs.declared.Row.{Row}
-use Rattle.kinds.specs.ranges.Range.{Ranged}
-use Rattle.earth.specs.declared.table2.Coefficient.{Coefficient}
-use Rattle.loads.specs.forces.Blank.{BlankThere}
-use Rattle.loads.specs.LoadRows.{Every, AllRanged, optionals, AreLoads}
-use Rattle.loads.specs.declared.Asked.{Asked}
+use mathlib.Core.Logic.{_⊎_}
 use mathlib.Core.Bool.{cond}
+use mathlib.Core.List.{List, [], _∷_}
+use Prim.Native.Nat.{ℕ, _≤_, _<_}
 use lib.Dec.{ltb}
-
--- 15 is asked of a row that is in range: Table 2 is not blank there
-abbrev pub FilledThere : (ℕ → ℕ → Coefficient) → Row → Type 0
-FilledThere fill row = Ranged (row .kind) (row .numbers) → BlankThere fill row → ⊥
-
-pub record AskedIs (fill : ℕ → ℕ → Coefficient) (rows : List Row) (asked : Asked) : Type 0 where
-  pub ranged : Decides (asked .ranged) (AllRanged rows)
-  pub filled : Decides (asked .filled) (Every (FilledThere fill) rows)
-  -- rows that are in range, with no blank place among them, are counted and exert their loads
-  pub optional : asked .ranged ≡ true → asked .filled ≡ true → asked .optional ≡ optionals rows
-  pub loads : asked .ranged ≡ true → asked .filled ≡ true → AreLoads fill rows (asked .loads)
+use Rattle.kinds.specs.declared.Row.{Row}
+use Rattle.earth.specs.declared.table2.Coefficient.{Coefficient}
+use Rattle.loads.specs.LoadRows.{Every, optionals, AreLoads}
+use Rattle.loads.specs.steps.Exerted.{RowWhen}
+use Rattle.loads.specs.declared.Asked.{Asked}
 
 -- how many of the rows are looked at: the first `count`, at most 16
 unfoldable pub row-count : ℕ → ℕ
 row-count count = cond (ltb 16 count) 16 count
+
+-- the lower of two refusals, of which the first may be none, 0
+pub data Lower (first number : ℕ) : ℕ → Type 0 where
+  alone : first ≡ 0 → Lower first number number
+  before : number < first → Lower first number number
+  after : (first ≡ 0 → ⊥) → first ≤ number → Lower first number first
+
+-- P holds of some row
+unfoldable pub Some : (Row → Type 0) → List Row → Type 0
+Some P [] = ⊥
+Some P (row ∷ rows) = P row ⊎ Some P rows
+
+-- the lowest number that one of the rows shows by itself; or 0, if none shows any
+pub record FirstShown (fill : ℕ → ℕ → Coefficient) (rows : List Row) (first : ℕ) : Type 0 where
+  pub shown : (first ≡ 0 → ⊥) → Some (λ row. RowWhen fill row first) rows
+  pub clear : (n : ℕ) → (first ≡ 0) ⊎ (n < first) → Every (λ row. RowWhen fill row n → ⊥) rows
+
+pub record AskedIs (fill : ℕ → ℕ → Coefficient) (rows : List Row) (asked : Asked) : Type 0 where
+  pub first : FirstShown fill rows (asked .first)
+  pub optional : asked .optional ≡ optionals rows
+  pub loads : asked .first ≡ 0 → AreLoads fill rows (asked .loads)

@@ -1,8 +1,8 @@
--- The six kinds of the first arm are all permanent and the seven of the second all free, whichever of them it is; WL and SF have their own arms.
+-- The six kinds of the first arm are all permanent and the eight of the second all free, whichever of them it is; WL and SF have their own arms.
 use borrow.Author.Needs.{needs}
 use mathlib.Core.Path.{refl}
 use mathlib.Core.List.{[], _∷_}
-use Rattle.kinds.specs.declared.Kind.the-variants.{B, S, C, E, DL, EP, LL, LF, CF, WC, BU, TM, EX}
+use Rattle.kinds.specs.declared.Kind.the-variants.{B, S, C, E, W, DL, EP, LL, LF, CF, WC, BU, TM, EX}
 use Rattle.sets.specs.declared.Class.the-variants.{Permanent, Free}
 use Rattle.kinds.specs.classes.Classes.{class-of}
 use Rattle.kinds.proofs.Arms.{kind-arm}
@@ -21,7 +21,7 @@ returns c = kind-arm class-of Permanent (B ∷ S ∷ C ∷ E ∷ DL ∷ EP ∷ [
 
 returns-2 : tie.Need-returns-2
 unfolding class-of
-returns-2 c = kind-arm class-of Free (LL ∷ LF ∷ CF ∷ WC ∷ BU ∷ TM ∷ EX ∷ []) (c .before .args .kind) refl (c .match .keys2)
+returns-2 c = kind-arm class-of Free (W ∷ LL ∷ LF ∷ CF ∷ WC ∷ BU ∷ TM ∷ EX ∷ []) (c .before .args .kind) refl (c .match .keys2)
 
 returns-3 : tie.Need-returns-3
 unfolding class-of

@@ -12,6 +12,9 @@ use Rattle.kinds.proofs.classes.source_of.Tie as tie
 enum-told : tie.Need-enum-told
 enum-told c = search needs
 
+enum-told-2 : tie.Need-enum-told-2
+enum-told-2 c = search needs
+
 returns : tie.Need-returns
 unfolding source
 returns c = kind-arm source Absent (B ∷ S ∷ C ∷ []) (c .before .args .kind) refl (c .match .keys1)
@@ -22,7 +25,11 @@ returns-2 c = search needs
 
 returns-3 : tie.Need-returns-3
 unfolding source
-returns-3 c = kind-arm source Own (DL ∷ EP ∷ LL ∷ LF ∷ CF ∷ WC ∷ BU ∷ TM ∷ EX ∷ WL ∷ SF ∷ []) (c .before .args .kind) refl (c .match .keys3)
+returns-3 c = search needs
+
+returns-4 : tie.Need-returns-4
+unfolding source
+returns-4 c = kind-arm source Own (DL ∷ EP ∷ LL ∷ LF ∷ CF ∷ WC ∷ BU ∷ TM ∷ EX ∷ WL ∷ SF ∷ []) (c .before .args .kind) refl (c .match .keys4)
 
 pub source-of-spec : {M : Type 1} → statement M
-source-of-spec = tie.close (tie.spec enum-told returns returns-2 returns-3)
+source-of-spec = tie.close (tie.spec enum-told enum-told-2 returns returns-2 returns-3 returns-4)

@@ -1,11 +1,11 @@
--- Earth pushes toward +x alone, so no sign comes in, and there is no V. H·y is at most 300,000 · 5,000 and fits.
+-- A push is toward +x alone, so no sign comes in, and there is no V. H·y is at most 300,000 · 60,000 and fits.
 use borrow.Author.Needs.{needs}
 use native.Mathlib.Omega.{arith}
 use mathlib.Core.Path.{refl}
 use native.Mathlib.Nat.{mul-le-mul}
 use Rattle.arithmetic.specs.signed.Whole.{signed}
-use Rattle.loads.proofs.forces.earth_load.Statement.{statement}
-use Rattle.loads.proofs.forces.earth_load.Tie as tie
+use Rattle.loads.proofs.forces.push_load.Statement.{statement}
+use Rattle.loads.proofs.forces.push_load.Tie as tie
 
 amount-of-requires : tie.Need-amount-of-requires
 amount-of-requires c κs = search needs
@@ -24,7 +24,7 @@ unfolding signed
 returns c =
     (refl, refl, record { v = c .before .before .amount-of .ensures; x = c .before .before .amount-of .ensures; h = c .before .amount-of2 .ensures; twist = c .amount-of3 .ensures })
 
-pub earth-load-spec : {M : Type 1} → statement M
-earth-load-spec =
+pub push-load-spec : {M : Type 1} → statement M
+push-load-spec =
     tie.close
     (tie.spec amount-of-requires amount-of-requires-2 mul-amount-of amount-of-requires-3 returns)

@@ -1,0 +1,2 @@
+-- The laws of the force and its height.
+pub mod Fractions

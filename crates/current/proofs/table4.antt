@@ -1,0 +1,2 @@
+-- The laws of Table 4.
+pub mod Constants

@@ -1,0 +1,20 @@
+-- `current::table4::constant_of` meets its contract: the code's table is the definition's, by one computed equation.
+use mathlib.Core.Path.{refl}
+use borrow.Author.Needs.{needs}
+use Rattle.current.proofs.table4.constant_of.Statement.{statement}
+use Rattle.current.proofs.table4.constant_of.Tie as tie
+
+sub-i : tie.Need-sub-i
+sub-i c = search needs
+
+mul-result : tie.Need-mul-result
+mul-result c = search needs
+
+array-read-result : tie.Need-array-read-result
+array-read-result c = search needs
+
+returns : tie.Need-returns
+returns c = refl
+
+pub constant-of-spec : {M : Type 1} → statement M
+constant-of-spec = tie.close (tie.spec sub-i mul-result array-read-result returns)
