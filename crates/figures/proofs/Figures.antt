@@ -1,15 +1,16 @@
--- Every starred figure holds of the definitions: each by a test that is computed.
+-- Every starred figure, and every figure worked out for a request, holds of the definitions: each by a test that is computed.
 use mathlib.Core.Path.{refl}
 use native.Mathlib.Nat.{not-le-of-lt}
 use lib.Dec.{lit<, lit≤}
 use Rattle.arithmetic.proofs.rounding.Compute.{up-test, cube-test, cube-test′}
 use Rattle.scour.specs.discharge.Discharge.{to-500, to-5000, to-25000}
 use Rattle.earth.specs.Earth.{has-coefficient}
+use Rattle.current.specs.Current.{pushes}
 use Rattle.arithmetic.specs.signed.Whole.{worth, amount, above, below}
 use Rattle.sets.specs.Sets.{bit, row}
 use Rattle.sums.specs.Totals.{counted, sum, arm, v-moment, h-moment, resists, overturns, resisting, overturning}
 use Rattle.checks.specs.ranks.Figures.{Presses}
-use Rattle.figures.specs.Figures.{needed, pressure, pressure-either, AllHold, none, more, starred}
+use Rattle.figures.specs.Figures.{needed, pressure, pressure-either, AllHold, none, more, starred, worked}
 use Rattle.figures.proofs.Loaded.{overturns-test}
 
 pub figures : AllHold starred
@@ -36,3 +37,18 @@ figures =
       part = up-test _ _ _ tt;
     })
     none))))))))))))))
+
+pub worked-figures : AllHold worked
+worked-figures =
+    more (pushes (lit≤ tt) (up-test _ _ _ tt) (up-test _ _ _ tt))
+    (more (pushes (lit≤ tt) (up-test _ _ _ tt) (up-test _ _ _ tt))
+    (more (pushes (lit≤ tt) (up-test _ _ _ tt) (up-test _ _ _ tt))
+    (more (pushes (lit≤ tt) (up-test _ _ _ tt) (up-test _ _ _ tt))
+    (more (pushes (lit≤ tt) (up-test _ _ _ tt) (up-test _ _ _ tt))
+    (more (pushes (lit≤ tt) (up-test _ _ _ tt) (up-test _ _ _ tt))
+    (more (pushes (lit≤ tt) (up-test _ _ _ tt) (up-test _ _ _ tt))
+    (more (pushes (lit≤ tt) (up-test _ _ _ tt) (up-test _ _ _ tt))
+    (more (pushes (lit≤ tt) (up-test _ _ _ tt) (up-test _ _ _ tt))
+    (more (pushes (lit≤ tt) (up-test _ _ _ tt) (up-test _ _ _ tt))
+    (more (pushes (lit≤ tt) (up-test _ _ _ tt) (up-test _ _ _ tt))
+    none))))))))))

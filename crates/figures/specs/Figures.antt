@@ -1,4 +1,5 @@
--- Document 01, "Figures on each side": the starred ones as one list, each said of the definitions that the promises cite.
+-- Document 01, "Figures on each side": the starred ones as one list; and the figures of document 02's requests, worked out by hand in
+-- docs/DECISIONS.md, as another. Each is said of the definitions that the promises cite.
 use mathlib.Core.Path.{_≡_}
 use mathlib.Core.Bool.{Bool, true, false}
 use mathlib.Core.List.{List, [], _∷_}
@@ -12,6 +13,7 @@ use Rattle.scour.specs.lacey.Lacey.{RegimeMet, RegimeDepth, ConstrictedDepth, D
 use Rattle.clearance.specs.afflux.Rules.{Afflux}
 use Rattle.earth.specs.table2.Table2.{table2-fill}
 use Rattle.earth.specs.Earth.{Pushed, push}
+use Rattle.current.specs.Current as water
 use Rattle.sets.specs.declared.Loads.{Loads}
 use Rattle.checks.specs.declared.Base.{Base}
 use Rattle.checks.specs.declared.Check.the-variants.{OP}
@@ -37,20 +39,21 @@ pub record PressesEither (B L N M figure : ℕ) : Type 0 where
   pub whole : PressesWhole B L N M figure
   pub part : PressesPart B L N M figure
 
--- a figure: what is asked, and what 01 says
-pub data StarredFigure : Type 0 where
-  flood : (Q Z Qf : ℕ) → StarredFigure
-  width : (Q W : ℕ) (met : Bool) → StarredFigure
-  depth : (Qf f D : ℕ) → StarredFigure
-  needed : (D reach d : ℕ) → StarredFigure
-  constricted : (q f D : ℕ) → StarredFigure
-  afflux : (v A a h : ℕ) → StarredFigure
-  earth : (soil slope height length H y : ℕ) → StarredFigure
-  overturning : (B v x h y figure : ℕ) → StarredFigure
-  pressure : (B L N M figure : ℕ) → StarredFigure
-  pressure-either : (B L N M figure : ℕ) → StarredFigure
+-- a figure: what is asked, and what 01 says, or the work by hand
+pub data WorkedFigure : Type 0 where
+  flood : (Q Z Qf : ℕ) → WorkedFigure
+  width : (Q W : ℕ) (met : Bool) → WorkedFigure
+  depth : (Qf f D : ℕ) → WorkedFigure
+  needed : (D reach d : ℕ) → WorkedFigure
+  constricted : (q f D : ℕ) → WorkedFigure
+  afflux : (v A a h : ℕ) → WorkedFigure
+  earth : (soil slope height length H y : ℕ) → WorkedFigure
+  current : (shape area velocity upper lower H y : ℕ) → WorkedFigure
+  overturning : (B v x h y figure : ℕ) → WorkedFigure
+  pressure : (B L N M figure : ℕ) → WorkedFigure
+  pressure-either : (B L N M figure : ℕ) → WorkedFigure
 
-abbrev pub Holds : StarredFigure → Type 0
+abbrev pub Holds : WorkedFigure → Type 0
 Holds (flood Q Z Qf) = FoundationDischarge Q Z Qf
 Holds (width Q W met) = Decides met (RegimeMet Q W)
 Holds (depth Qf f D) = RegimeDepth Qf f D
@@ -58,14 +61,16 @@ Holds (needed D reach d) = DepthNeeded D reach d
 Holds (constricted q f D) = ConstrictedDepth q f D
 Holds (afflux v A a h) = Afflux v A a h
 Holds (earth soil slope height length H y) = Pushed table2-fill (record { soil = soil; slope = slope; height = height; length = length }) (push H y)
+Holds (current shape area velocity upper lower H y) =
+    water.CurrentRule (record { shape = shape; area = area; velocity = velocity; upper = upper; lower = lower }) (water.push H y)
 Holds (overturning B v x h y figure) = Overturns B (dead-load v x h y) figure
 Holds (pressure B L N M figure) = Presses B L N M (Number figure)
 Holds (pressure-either B L N M figure) = PressesEither B L N M figure
 
 -- all of a list hold
-pub data AllHold : List StarredFigure → Type 0 where
+pub data AllHold : List WorkedFigure → Type 0 where
   none : AllHold []
-  more : {x : StarredFigure} {xs : List StarredFigure} → Holds x → AllHold xs → AllHold (x ∷ xs)
+  more : {x : WorkedFigure} {xs : List WorkedFigure} → Holds x → AllHold xs → AllHold (x ∷ xs)
 
 -- *Z = 500, Q = 1,000,000: 1,300,000. *5,000: 1,200,000. *25,000: 1,100,000.
 -- *Q = 1,000,000: W = 152,908 meets the regime width, *152,907 doesn't.
@@ -76,7 +81,7 @@ pub data AllHold : List StarredFigure → Type 0 where
 -- *B 4,000, one row of V 1,000 at x 0, H 100: y 10,000 gives OP 200, *10,001 gives 199.
 -- *B 4,000, L 8,000, N 1,000, M = 2,000,000: PR 84.
 -- *N 900, M 1,200,000: PR 57 by either rule.
-abbrev pub starred : List StarredFigure
+abbrev pub starred : List WorkedFigure
 starred =
     flood 1000000 500 1300000
     ∷ flood 1000000 5000 1200000
@@ -93,4 +98,23 @@ starred =
     ∷ overturning 4000 1000 0 100 10001 199
     ∷ pressure 4000 8000 1000 2000000 84
     ∷ pressure-either 4000 8000 900 1200000 57
+    ∷ []
+
+-- P1, water current. Each shape: area 10 m², 3 m/s, wetted from 3,000 to 9,000.
+-- H on each side of a whole kN: 3,005 mm/s and 3,006. y on each side of a whole mm: lower 0 and 1 below 3,000.
+-- Rounded once: 101.3 kg are 0.993 kN, and 102 kg would be more than 1; two thirds of 1 mm are 1 mm.
+-- The largest row; and no velocity, with upper equal to lower.
+abbrev pub worked : List WorkedFigure
+worked =
+    current 1 1000 3000 9000 3000 70 7000
+    ∷ current 2 1000 3000 9000 3000 31 7000
+    ∷ current 3 1000 3000 9000 3000 33 7000
+    ∷ current 4 1000 3000 9000 3000 42 7000
+    ∷ current 5 1000 3000 9000 3000 22 7000
+    ∷ current 6 1000 3000 9000 3000 23 7000
+    ∷ current 2 1000 3005 3000 0 31 2000
+    ∷ current 2 1000 3006 3000 1 32 2001
+    ∷ current 1 16 2831 1 0 1 1
+    ∷ current 1 20000 6000 60000 60000 5579 60000
+    ∷ current 1 1000 0 5000 5000 0 5000
     ∷ []

@@ -1,4 +1,4 @@
-// Lines of the program that runs document 01's figures: what was asked, what came and what 01 says.
+// Lines of the program that runs the figures: what was asked, what came and what 01 says, or the work by hand.
 //
 // What is written no contract can say; how many figures agree is said.
 use libc::STDOUT_FILENO;
@@ -20,13 +20,24 @@ fn counted(agree: u64, came: u64, says: u64) -> u64
     agree
 }
 
-// The line of a figure, by the words and the number that ask for it: one more that agrees, where what came is what 01 says.
+// The line of a figure of 01, by the words and the number that ask for it: one more that agrees, where what came is what 01 says.
 pub(crate) fn figure(agree: u64, words: &[u8], number: u64, came: u64, says: u64) -> u64
     ensures { λ r. ⌜ r ≡ agreeing agree came says ⌝ }
 {
     write(words, number);
     write(b" came ", came);
     write(b", 01 says ", says);
+    io::write_all(STDOUT_FILENO, b"\n");
+    counted(agree, came, says)
+}
+
+// The line of a figure of 02, which docs/DECISIONS.md works out by hand.
+pub(crate) fn worked(agree: u64, words: &[u8], number: u64, came: u64, says: u64) -> u64
+    ensures { λ r. ⌜ r ≡ agreeing agree came says ⌝ }
+{
+    write(words, number);
+    write(b" came ", came);
+    write(b", by hand ", says);
     io::write_all(STDOUT_FILENO, b"\n");
     counted(agree, came, says)
 }

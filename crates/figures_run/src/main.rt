@@ -1,6 +1,8 @@
-// Runs the figures of document 01's "Figures on each side", starred or not, through the public functions. One line a figure, in 01's
-// order: what was asked, what came and what 01 says; and a last line with how many of them agree.
+// Runs the figures of document 01's "Figures on each side", starred or not, through the public functions, and those of document 02's requests,
+// worked out by hand. One line a figure, in 01's order and then 02's: what was asked, what came and what it should be; and a last line with how
+// many of them agree.
 mod asked;
+mod currents;
 mod forces;
 
 use kinds::Numbers;
@@ -103,6 +105,6 @@ fn main() {
     }
     let a = forces::borne(raised(raised(scoured(), 1000, 229), 1200, 0));
     let b = cleared(cleared(cleared(a, 30_000, 600), 30_001, 601), 300_001, 1500);
-    io::print_decimal(STDOUT_FILENO, b);
-    io::write_all(STDOUT_FILENO, b" of 21 figures agree\n");
+    io::print_decimal(STDOUT_FILENO, currents::washed(b));
+    io::write_all(STDOUT_FILENO, b" of 37 figures agree\n");
 }
