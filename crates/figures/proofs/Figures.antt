@@ -10,7 +10,9 @@ use Rattle.arithmetic.specs.signed.Whole.{worth, amount, above, below}
 use Rattle.sets.specs.Sets.{bit, row}
 use Rattle.sums.specs.Totals.{counted, sum, arm, v-moment, h-moment, resists, overturns, resisting, overturning}
 use Rattle.checks.specs.ranks.Figures.{Presses}
-use Rattle.figures.specs.Figures.{needed, pressure, pressure-either, AllHold, none, more, starred, worked}
+use Rattle.kinds.specs.classes.Classes.{class-of, optional}
+use Rattle.loads.specs.LoadRows.{optionals}
+use Rattle.figures.specs.Figures.{needed, optional-rows, pressure, pressure-either, AllHold, none, more, starred, worked}
 use Rattle.figures.proofs.Loaded.{overturns-test}
 
 pub figures : AllHold starred
@@ -39,6 +41,7 @@ figures =
     none))))))))))))))
 
 pub worked-figures : AllHold worked
+unfolding optionals optional class-of
 worked-figures =
     more (pushes (lit≤ tt) (up-test _ _ _ tt) (up-test _ _ _ tt))
     (more (pushes (lit≤ tt) (up-test _ _ _ tt) (up-test _ _ _ tt))
@@ -51,4 +54,5 @@ worked-figures =
     (more (pushes (lit≤ tt) (up-test _ _ _ tt) (up-test _ _ _ tt))
     (more (pushes (lit≤ tt) (up-test _ _ _ tt) (up-test _ _ _ tt))
     (more (pushes (lit≤ tt) (up-test _ _ _ tt) (up-test _ _ _ tt))
-    none))))))))))
+    (more {x = optional-rows _ _ _} refl
+    none)))))))))))

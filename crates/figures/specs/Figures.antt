@@ -2,12 +2,16 @@
 -- docs/DECISIONS.md, as another. Each is said of the definitions that the promises cite.
 use mathlib.Core.Path.{_≡_}
 use mathlib.Core.Bool.{Bool, true, false}
-use mathlib.Core.List.{List, [], _∷_}
+use mathlib.Core.List.{List, [], _∷_, _++_}
 use Prim.Native.Nat.{ℕ}
+use lib.ListN.{replicate}
 use Rattle.arithmetic.specs.decides.Decides.{Decides}
 use Rattle.fields.specs.Numbers.{positive, absent}
-use Rattle.kinds.specs.declared.Kind.the-variants.{DL}
+use Rattle.kinds.specs.declared.Kind.{Kind}
+use Rattle.kinds.specs.declared.Kind.the-variants.{DL, LL}
+use Rattle.kinds.specs.declared.Kind.the-variants as kind
 use Rattle.kinds.specs.declared.Row.{Row}
+use Rattle.kinds.specs.Table.{blank-numbers}
 use Rattle.scour.specs.discharge.Discharge.{FoundationDischarge}
 use Rattle.scour.specs.lacey.Lacey.{RegimeMet, RegimeDepth, ConstrictedDepth, DepthNeeded}
 use Rattle.clearance.specs.afflux.Rules.{Afflux}
@@ -20,12 +24,16 @@ use Rattle.checks.specs.declared.Check.the-variants.{OP}
 use Rattle.checks.specs.declared.Figure.the-variants.{Number}
 use Rattle.checks.specs.ranks.Figures.{PressesWhole, PressesPart, Presses}
 use Rattle.checks.specs.set_figures.Figures.{Shows}
-use Rattle.loads.specs.LoadRows.{AreLoads}
+use Rattle.loads.specs.LoadRows.{optionals, AreLoads}
 
 -- a DL row as it is written: V, x, H, y, in service
 abbrev pub dead-load : (v x h y : ℕ) → Row
 dead-load v x h y =
     record { kind = DL; numbers = record { n1 = positive v; n2 = positive x; n3 = positive h; n4 = positive y; n5 = positive 0; n6 = absent } }
+
+-- a row of a kind, whatever its numbers
+abbrev pub row-of : Kind → Row
+row-of k = record { kind = k; numbers = blank-numbers }
 
 -- OP of the set of one row, on a base of width B whatever else it is: the loads are those of that row and of no other, and the row counts 1
 pub record Overturns (B : ℕ) (row : Row) (figure : ℕ) : Type 0 where
@@ -49,6 +57,7 @@ pub data WorkedFigure : Type 0 where
   afflux : (v A a h : ℕ) → WorkedFigure
   earth : (soil slope height length H y : ℕ) → WorkedFigure
   current : (shape area velocity upper lower H y : ℕ) → WorkedFigure
+  optional-rows : (live water count : ℕ) → WorkedFigure
   overturning : (B v x h y figure : ℕ) → WorkedFigure
   pressure : (B L N M figure : ℕ) → WorkedFigure
   pressure-either : (B L N M figure : ℕ) → WorkedFigure
@@ -63,6 +72,7 @@ Holds (afflux v A a h) = Afflux v A a h
 Holds (earth soil slope height length H y) = Pushed table2-fill (record { soil = soil; slope = slope; height = height; length = length }) (push H y)
 Holds (current shape area velocity upper lower H y) =
     water.CurrentRule (record { shape = shape; area = area; velocity = velocity; upper = upper; lower = lower }) (water.push H y)
+Holds (optional-rows live water count) = optionals (replicate live (row-of LL) ++ replicate water (row-of kind.W)) ≡ count
 Holds (overturning B v x h y figure) = Overturns B (dead-load v x h y) figure
 Holds (pressure B L N M figure) = Presses B L N M (Number figure)
 Holds (pressure-either B L N M figure) = PressesEither B L N M figure
@@ -103,7 +113,7 @@ starred =
 -- P1, water current. Each shape: area 10 m², 3 m/s, wetted from 3,000 to 9,000.
 -- H on each side of a whole kN: 3,005 mm/s and 3,006. y on each side of a whole mm: lower 0 and 1 below 3,000.
 -- Rounded once: 101.3 kg are 0.993 kN, and 102 kg would be more than 1; two thirds of 1 mm are 1 mm.
--- The largest row; and no velocity, with upper equal to lower.
+-- The largest row; and no velocity, with upper equal to lower. A W row counts among the optional ones: with twelve LL rows they are 13.
 abbrev pub worked : List WorkedFigure
 worked =
     current 1 1000 3000 9000 3000 70 7000
@@ -117,4 +127,5 @@ worked =
     ∷ current 1 16 2831 1 0 1 1
     ∷ current 1 20000 6000 60000 60000 5579 60000
     ∷ current 1 1000 0 5000 5000 0 5000
+    ∷ optional-rows 12 1 13
     ∷ []
