@@ -1,4 +1,4 @@
-/* The yardstick: document 01's printing program in plain C. A book on standard input, its lines on standard output.
+/* The yardstick: document 01's printing program in plain C, with 02's kind W. A book on standard input, its lines on standard output.
    The book is read once; load sets are walked as two tables of half sums with carried sums, all checks of a combination
    at once, and a quotient is only worked out where the figure gets worse. What it takes from the C library is declared
    here, so that the kit's compiler, which has no headers, compiles it. */
@@ -18,7 +18,7 @@ i64 write(int, const void *, u64);
 #define COLD static __attribute__((noinline, cold))
 
 enum { MAX_BOOK = 65536, MAX_JOBS = 64, MAX_LOADS = 16 };
-enum { KB, KS, KC, KE, KDL, KEP, KLL, KLF, KCF, KWC, KBU, KTM, KEX, KWL, KSF, NO_KIND };
+enum { KB, KS, KC, KE, KDL, KEP, KLL, KLF, KCF, KWC, KBU, KTM, KEX, KW, KWL, KSF, NO_KIND };
 
 /* ---- RFC 4180 rows */
 enum { TEXT, COMMA, CR, LF, QUOTE, BAD };
@@ -74,7 +74,7 @@ static int next_row(Rows *r, Field *f) {
 
 /* ---- the job book */
 typedef struct { u8 bytes[24]; u8 member_len, job_len; } Key;
-typedef struct { int kind; i32 n[5]; } Load;
+typedef struct { int kind; i32 n[6]; } Load;
 typedef struct {
     Key key;
     i32 base[5], scour[6], clear[5];
@@ -83,16 +83,17 @@ typedef struct {
 } Job;
 typedef struct { Key key; int kind; i32 n[6]; int in_range; } Row;
 
-static const i32 ranges[5][6][2] = {
+static const i32 ranges[6][6][2] = {
     {{500, 30000}, {500, 60000}, {1, 10000}, {1, 1000}, {0, 1}},
     {{1, 50000000}, {1, 3000000}, {100, 3000}, {1000, 1300000}, {1, 5}, {0, 200000}},
     {{0, 10000}, {1, 100000}, {1, 100000}, {-500000, 9000000}, {-500000, 9000000}},
     {{1, 5}, {1, 5}, {1, 15000}, {1, 60000}, {0, 2}},
     {{-50000, 50000}, {-30000, 30000}, {-50000, 50000}, {0, 60000}, {0, 2}},
+    {{1, 6}, {1, 20000}, {0, 6000}, {0, 60000}, {0, 60000}, {0, 2}},
 };
 
 static int kind_of(const u8 *s, u32 n) {
-    if (n == 1) switch (s[0]) { case 'B': return KB; case 'S': return KS; case 'C': return KC; case 'E': return KE; default: return NO_KIND; }
+    if (n == 1) switch (s[0]) { case 'B': return KB; case 'S': return KS; case 'C': return KC; case 'E': return KE; case 'W': return KW; default: return NO_KIND; }
     if (n != 2) return NO_KIND;
     switch (s[0] << 8 | s[1]) {
     case 'D' << 8 | 'L': return KDL;
@@ -137,8 +138,8 @@ static int row_form(const u8 *book, int count, const Field *f, Row *r) {
     if (!name_form(m, mn) || !name_form(j, jn)) return 0;
     r->kind = kind_of(book + f[2].start, f[2].end - f[2].start);
     if (r->kind == NO_KIND) return 0;
-    int want = r->kind == KS ? 6 : 5;
-    const i32(*g)[2] = ranges[r->kind < 4 ? r->kind : 4];
+    int want = r->kind == KS || r->kind == KW ? 6 : 5;
+    const i32(*g)[2] = ranges[r->kind < 4 ? r->kind : r->kind == KW ? 5 : 4];
     r->in_range = 1;
     r->n[5] = 0;
     for (int i = 0; i < want; i++) {
@@ -207,7 +208,7 @@ static int scan(const u8 *book, u32 len, u32 *no, u32 *row) {
     return count;
 }
 
-/* ---- river rules and earth pressure */
+/* ---- river rules, earth pressure and water current */
 INLINE u64 div_up(u64 a, u64 b) { return a / b + (a % b != 0); }
 
 static u64 qf_of(u64 q, u64 z) {
@@ -241,6 +242,7 @@ static const u64 table2[5][5] = {
     {4609, 4471, 4707, 5962, 8786}, {6178, 5805, 6276, 7649, 10787}, {7355, 7511, 8090, 9571, 13494},
     {15690, 16186, 17893, 0, 0}, {18828, 20306, 21189, 0, 0},
 };
+static const u64 table4[6] = {79, 35, 37, 47, 24, 26};
 
 /* ---- load sets */
 #define TOP (~0ul) /* "none" for OP, OM, SL; "off" for PR, RK; and no key */
@@ -448,7 +450,7 @@ static u32 lines(const Job *j) {
     memset(&service.fixed, 0, sizeof(Sums));
     memset(&erection.fixed, 0, sizeof(Sums));
     service.np = service.nw = service.nq = erection.np = erection.nw = erection.nq = 0;
-    int some_1 = 0, optional = 0;
+    int some_1 = 0, optional = 0, upside_down = 0;
     for (int i = 0; i < j->count; i++) {
         const Load *o = &j->loads[i];
         Sums s;
@@ -456,15 +458,21 @@ static u32 lines(const Job *j) {
             u64 k = table2[o->n[0] - 1][o->n[1] - 1], ht = o->n[2];
             if (k == 0) return 15;
             s = sums_row(b, i, 0, 0, div_up(k * ht * ht * o->n[3], 2000000000000ull), div_up(ht, 3));
+        } else if (o->kind == KW) {
+            u64 v = o->n[2];
+            upside_down |= o->n[3] < o->n[4];
+            s = sums_row(b, i, 0, 0, div_up(table4[o->n[0] - 1] * o->n[1] * v * v * 196133, 2000000000000000ull), div_up(2 * o->n[3] + o->n[4], 3));
         } else s = sums_row(b, i, o->n[0], o->n[1], o->n[2], o->n[3]);
         optional += o->kind > KEP;
-        some_1 |= o->n[4] == 1;
+        int phase = o->n[o->kind == KW ? 5 : 4];
+        some_1 |= phase == 1;
         if (optional <= 12) {
-            if (o->n[4] != 1) add(&service, o->kind, &s);
-            if (o->n[4] != 0) add(&erection, o->kind, &s);
+            if (phase != 1) add(&service, o->kind, &s);
+            if (phase != 0) add(&erection, o->kind, &s);
         }
     }
     if (optional > 12) return 16;
+    if (upside_down) return 17;
 
     head(j);
     PUT("VERDICT,");

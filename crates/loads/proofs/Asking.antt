@@ -1,14 +1,13 @@
 -- What the rows passed were asked, with their loads, by what one row more is told.
 use native.Mathlib.Omega.{arith}
 use native.Mathlib.Numerals.{add-one}
-use mathlib.Core.Path.{_≡_, refl, sym, _∙_, ap, subst⁻¹}
+use mathlib.Core.Path.{_≡_, refl, _∙_, ap, subst⁻¹}
 use mathlib.Core.Logic.{inl, inr, ⊎-elim}
 use mathlib.Core.List.{List, [], _∷_, _++_}
 use Prim.Native.Nat.{ℕ, _+_, _≤_, _<_}
 use lib.ListN.{length, take, set, length-set}
 use lib.Seq.{take-suc}
 use Rattle.arithmetic.specs.rounding.Least.{Least}
-use Rattle.arithmetic.proofs.Cases.{impossible}
 use Rattle.kinds.specs.declared.Row.{Row}
 use Rattle.kinds.specs.classes.Classes.{class-of, optional}
 use Rattle.earth.specs.declared.table2.Coefficient.{Coefficient}
@@ -17,7 +16,7 @@ use Rattle.sets.specs.declared.Class.the-variants.{Permanent, Free, Wind, Earth
 use Rattle.sets.specs.declared.Load.{Load}
 use Rattle.loads.specs.LoadRows.{Every, optionals}
 use Rattle.loads.specs.steps.Exerted.{RowWhen, out-of-range, blank, upper-below-lower, LoadOf}
-use Rattle.loads.specs.steps.Asking.{Lower, alone, before, after, Some, FirstShown, AskedIs}
+use Rattle.loads.specs.steps.Asking.{Lower, alone, before, after, FirstShown, AskedIs}
 use Rattle.loads.specs.declared.forces.RowLoad.the-variants.{Refused, Exerted}
 use Rattle.loads.proofs.FirstRows.{load-row, every-more, some-last, some-more, optionals-more}
 use Rattle.loads.proofs.Laying.{LaidFirst, laid-more, laid-all}

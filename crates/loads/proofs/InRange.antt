@@ -1,19 +1,19 @@
--- Load rows of which it is not so that a number is out of range are in range, each of them; and what an E row in range exerts is what the whole
--- row is told.
+-- Load rows of which it is not so that a number is out of range are in range, each of them; and what an E row, or a W row, in range exerts is what
+-- the whole row is told.
 use mathlib.Core.Path.{_≡_, subst}
 use mathlib.Core.List.{List, [], _∷_}
 use Prim.Native.Nat.{ℕ}
 use Rattle.kinds.specs.declared.Kind.{Kind}
-use Rattle.kinds.specs.declared.Kind.the-variants.{E}
+use Rattle.kinds.specs.declared.Kind.the-variants.{E, W}
 use Rattle.kinds.specs.declared.Row.{Row}
 use Rattle.kinds.specs.ranges.Range.{Ranged}
 use Rattle.kinds.proofs.ranges.Ranges.{ranged-unless}
-use Rattle.kinds.specs.declared.classes.Source.{Source}
-use Rattle.kinds.specs.declared.classes.Source.the-variants.{Earth}
 use Rattle.kinds.specs.classes.Classes.{source}
 use Rattle.earth.specs.declared.table2.Coefficient.{Coefficient}
 use Rattle.earth.specs.Earth.{push}
 use Rattle.earth.specs.EarthRow.{Pressed, in-range}
+use Rattle.current.specs.Current as current
+use Rattle.current.specs.CurrentRow as currents
 use Rattle.sets.specs.declared.Load.{Load}
 use Rattle.loads.specs.LoadRows.{Every, AllRanged}
 use Rattle.loads.specs.forces.Exerts.{PushLoad, Forces, Exerts}
@@ -23,7 +23,7 @@ unfolding Every
 all-ranged [] n = tt
 all-ranged (row ∷ rows) n = (ranged-unless (row .kind) (row .numbers) (λ h. n (λ all. h (all .0))), all-ranged rows (λ h. n (λ all. h (all .1))))
 
--- what it is not so that some row has, no row has
+-- where it is not so that some row has P, no row has it
 pub every-unless : (P : Row → Type 0) (rows : List Row) → ((Every (λ row. P row → ⊥) rows → ⊥) → ⊥) → Every (λ row. P row → ⊥) rows
 unfolding Every
 every-unless P [] n = tt
@@ -36,3 +36,11 @@ unfolding Forces source
 earth-pressed {fill} {row} {load} e r x =
     let f = subst (λ (k : Kind). Forces fill (source k) (row .numbers) load) e (x .forces) in
     (f .H, f .y, in-range (subst (λ (k : Kind). Ranged k (row .numbers)) e r) (f .pressed), f .exerts)
+
+-- and so does a W row
+pub current-pressed : {fill : ℕ → ℕ → Coefficient} {row : Row} {load : Load} → row .kind ≡ W → Ranged (row .kind) (row .numbers) → Exerts fill row load
+    → (H : ℕ) × (y : ℕ) × currents.CurrentSays (row .numbers) (current.push H y) × PushLoad H y load
+unfolding Forces source
+current-pressed {fill} {row} {load} e r x =
+    let f = subst (λ (k : Kind). Forces fill (source k) (row .numbers) load) e (x .forces) in
+    (f .H, f .y, currents.in-range (subst (λ (k : Kind). Ranged k (row .numbers)) e r) (f .rule), f .exerts)

@@ -2,15 +2,14 @@
 use borrow.Author.Needs.{needs}
 use native.Mathlib.Omega.{arith}
 use native.Mathlib.Nat.{le-antisymm}
-use mathlib.Core.Path.{_≡_, subst, subst⁻¹, ap, _∙_}
+use mathlib.Core.Path.{_≡_, subst, ap, _∙_}
 use mathlib.Core.Logic.{⊎-elim}
 use mathlib.Core.List.{List}
-use Prim.Native.Nat.{ℕ, _+_, _-_, _≤_, _<_}
+use Prim.Native.Nat.{ℕ, _-_, _≤_, _<_}
 use lib.ListN.{length}
 use Rattle.earth.specs.table2.Table2.{table2-fill}
 use Rattle.kinds.specs.declared.Row.{Row}
 use Rattle.kinds.specs.classes.Classes.{class-of, optional}
-use Rattle.sets.specs.declared.Class.{Class}
 use Rattle.loads.specs.steps.Exerted.{LoadOf}
 use Rattle.loads.specs.declared.forces.RowLoad.{RowLoad}
 use Rattle.loads.proofs.FirstRows.{load-row}

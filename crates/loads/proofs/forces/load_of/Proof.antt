@@ -28,7 +28,6 @@ use Rattle.kinds.specs.ranges.Range.{Ranged}
 use Rattle.kinds.proofs.classes.Sources.{absent-earth, own-earth, absent-current, own-current}
 use Rattle.sets.specs.declared.Load.{Load}
 use Rattle.loads.specs.forces.Exerts.{Forces}
-use Rattle.loads.specs.steps.Exerted.{LoadOf}
 use Rattle.loads.proofs.forces.Exerting.{own-columns, around-size, Kept, told-out, earth-told-out, earth-told-blank, earth-told-push, current-told-out, current-told-below, current-told-push, told-load}
 use Rattle.loads.proofs.forces.load_of.Statement.{statement}
 use Rattle.loads.proofs.forces.load_of.Tie as tie
