@@ -1,7 +1,7 @@
-// The answer of a job (document 01, Refusals of a job, The printed answer): refusal 11 to 17, or its lines and verdict.
+// The answer of a job (document 01, Refusals of a job, The printed answer; 02, P1): refusal 11 to 17, or its lines and verdict.
 //
 // What is hard is the order: a job is refused with the lowest of its numbers, over all its rows, whatever row shows it
-// first. The answer is total on every `Job` value, and depends on the job alone: Table 2 is a constant.
+// first. The answer is total on every `Job` value, and depends on the job alone: Tables 2 and 4 are constants.
 pub mod river;
 
 use checks::Base;

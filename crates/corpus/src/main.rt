@@ -1,8 +1,8 @@
 // Prints the lines of each stored book that its arguments name, after a line with the book's name (document 01, The printed
 // answer). What it must print is put together from the lines of programs written apart from this one. The books named
 // using-NN are the examples of docs/USING.md; load-sets.book has 01's figures of OP and PR, and cases of the other checks and of the
-// load sets that the old program got wrong or never tried; those named p1 and current have W rows, current-ends.book at the ends of
-// their ranges and past them, and each order with 17. A file that cannot be read to its end is told, and has no lines.
+// load sets that the old program got wrong or never tried; those whose names begin with p1 or current have W rows,
+// current-ends.book at the ends of their ranges and past them, and with each refusal of a job that comes before 17. A file that cannot be read to its end is told, and has no lines.
 use libc::STDERR_FILENO;
 use libc::STDOUT_FILENO;
 

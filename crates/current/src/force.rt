@@ -1,7 +1,8 @@
 // The force of a water current and its height above the base (document 02, P1, for 002, clauses 5.9.2.1 and 5.9.2.6).
 //
-// 9.80665 is taken as 196,133 in 20,000, each a fifth of 980,665 in 100,000: so the product is at most 1.12·10^19, and fits a word by nothing
-// but the ranges in the table of kinds and the constants of Table 4.
+// 9.80665 is taken as 196,133 in 20,000, each a fifth of 980,665 in 100,000; with 10^11 for the units of area, velocity and force what is divided
+// by is 2·10^15. So the product is at most 1.12·10^19, and fits a word by nothing but the ranges in the table of kinds and the constants of
+// Table 4.
 ghost use Prim.Native.Nat.{_≤_};
 ghost use Rattle.current.specs.force.Force.{Force, Arm};
 

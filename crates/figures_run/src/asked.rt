@@ -11,6 +11,7 @@ fn write(words: &[u8], number: u64) {
     io::print_decimal(STDOUT_FILENO, number);
 }
 
+// How many figures agree, with one more where what came is what it should be.
 fn counted(agree: u64, came: u64, says: u64) -> u64
     ensures { λ r. ⌜ r ≡ agreeing agree came says ⌝ }
 {
@@ -20,24 +21,27 @@ fn counted(agree: u64, came: u64, says: u64) -> u64
     agree
 }
 
-// The line of a figure of 01, by the words and the number that ask for it: one more that agrees, where what came is what 01 says.
-pub(crate) fn figure(agree: u64, words: &[u8], number: u64, came: u64, says: u64) -> u64
+// The line of a figure, by the words and the number that ask for it, and by the words of who says what it should be.
+fn told(agree: u64, words: &[u8], number: u64, came: u64, whose: &[u8], says: u64) -> u64
     ensures { λ r. ⌜ r ≡ agreeing agree came says ⌝ }
 {
     write(words, number);
     write(b" came ", came);
-    write(b", 01 says ", says);
+    write(whose, says);
     io::write_all(STDOUT_FILENO, b"\n");
     counted(agree, came, says)
+}
+
+// The line of a figure of 01.
+pub(crate) fn figure(agree: u64, words: &[u8], number: u64, came: u64, says: u64) -> u64
+    ensures { λ r. ⌜ r ≡ agreeing agree came says ⌝ }
+{
+    told(agree, words, number, came, b", 01 says ", says)
 }
 
 // The line of a figure of 02, which docs/DECISIONS.md works out by hand.
 pub(crate) fn worked(agree: u64, words: &[u8], number: u64, came: u64, says: u64) -> u64
     ensures { λ r. ⌜ r ≡ agreeing agree came says ⌝ }
 {
-    write(words, number);
-    write(b" came ", came);
-    write(b", by hand ", says);
-    io::write_all(STDOUT_FILENO, b"\n");
-    counted(agree, came, says)
+    told(agree, words, number, came, b", by hand ", says)
 }

@@ -1,6 +1,6 @@
 // The figures of water current (document 02, P1), which docs/DECISIONS.md works out by hand.
 //
-// A row that is refused has its number for its figure, which no force and no height here is.
+// A row that is refused has its number for its figure: none of the forces and heights here is 11 or 17.
 use crate::asked;
 use crate::forces;
 use current::CurrentAnswer;
@@ -64,5 +64,6 @@ pub(crate) fn washed(agree: u64) -> u64 {
     let c = raised(b, b"y of W, upper 3000, lower ", 3000, 1, 2001);
     let d = raised(c, b"y of W, upper 1, lower ", 1, 0, 1);
     let e = raised(d, b"y of W, upper 60000, lower ", 60000, 60000, 60000);
-    raised(e, b"refusal of W, upper 2999, lower ", 2999, 3000, 17)
+    let f = raised(e, b"y of W, upper 5000, lower ", 5000, 5000, 5000);
+    raised(f, b"refusal of W, upper 2999, lower ", 2999, 3000, 17)
 }

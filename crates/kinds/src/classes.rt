@@ -1,4 +1,4 @@
-// What a row of a kind is to a combination, and where its forces come from (document 01, the job book and Load sets).
+// What a row of a kind is to a combination, and where its forces come from (document 01, the job book and Load sets; 02, P1).
 use crate::Kind;
 use sets::Class;
 ghost use mathlib.Core.Path.{_≡_};

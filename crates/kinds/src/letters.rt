@@ -1,4 +1,4 @@
-// How the kinds of document 01's table are written, and the kind that a field is (refusal 3).
+// How the kinds of the table are written (document 01, the job book; 02, P1), and the kind that a field is (refusal 3).
 //
 // A field is a kind exactly if the stretch between its quotes is, since no letter is a quote.
 use crate::Kind;

@@ -1,7 +1,8 @@
-// Document 01's table of kinds, as data: the form (refusal 3) and the ranges (refusal 11) of a row's numbers.
+// The table of kinds (document 01, the job book; 02, P1), as data: the form (refusal 3) and the ranges (refusal 11) of a row's numbers.
 //
 // Which columns are filled and in what range, how the kind is written, what a row of it is to its job, and where its phase stands, is stated in
-// one table (`specs/Table.antt`), its class and the source of its forces with `classes`. A kind that is added joins both. The code's copies are shown to be the definitions'.
+// one table (`specs/Table.antt`), its class and the source of its forces with `classes`. A kind that is added joins both. The code's copies are
+// shown to be the definitions'.
 pub mod classes;
 pub mod letters;
 pub mod ranges;
@@ -71,7 +72,7 @@ pub struct Row {
     pub numbers: Numbers,
 }
 
-// The columns of each kind, as the table gives them (document 01, the job book); the last are those of every row that gives its own forces.
+// The columns of each kind, as the table gives them; the last are those of every row that gives its own forces.
 const BASE_COLUMNS: Columns = Columns {
     n1: Column::Filled(500, 30000),
     n2: Column::Filled(500, 60000),

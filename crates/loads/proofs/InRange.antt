@@ -23,7 +23,7 @@ unfolding Every
 all-ranged [] n = tt
 all-ranged (row ∷ rows) n = (ranged-unless (row .kind) (row .numbers) (λ h. n (λ all. h (all .0))), all-ranged rows (λ h. n (λ all. h (all .1))))
 
--- where it is not so that some row has P, no row has it
+-- where it cannot be otherwise than that no row has P, none has it
 pub every-unless : (P : Row → Type 0) (rows : List Row) → ((Every (λ row. P row → ⊥) rows → ⊥) → ⊥) → Every (λ row. P row → ⊥) rows
 unfolding Every
 every-unless P [] n = tt

@@ -1,4 +1,4 @@
--- Document 02, P1 (002, 5.9.2.1 and 5.9.2.6): the force of a water current and its height. Area in hundredths of m², velocity in mm/s, heights in mm, H in kN.
+-- Document 02, P1 (002, 5.9.2.1 and 5.9.2.6): the force of a water current and its height.
 use Prim.Native.Nat.{ℕ, _*_, _-_, _^_}
 use Rattle.arithmetic.specs.rounding.Least.{RoundedUp}
 

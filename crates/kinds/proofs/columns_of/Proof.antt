@@ -1,4 +1,4 @@
--- B, S, C and E have columns of their own. The eleven kinds of the table's last line share theirs, which `kind-arm` shows of their list.
+-- B, S, C, E and W have columns of their own. The eleven kinds of the table's last line share theirs, which `kind-arm` shows of their list.
 use mathlib.Core.Path.{refl, sym, ap}
 use mathlib.Core.List.{[], _∷_}
 use borrow.Author.Needs.{needs}

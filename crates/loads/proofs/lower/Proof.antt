@@ -1,4 +1,5 @@
 -- Each return is one case of `Lower`.
+use native.Mathlib.Omega.{arith}
 use Rattle.loads.specs.steps.Asking.{alone, before, after}
 use Rattle.loads.proofs.lower.Statement.{statement}
 use Rattle.loads.proofs.lower.Tie as tie
@@ -7,10 +8,10 @@ returns : tie.Need-returns
 returns c = alone (c .if1 .taken)
 
 returns-2 : tie.Need-returns-2
-returns-2 c = before (c .if2 .taken)
+returns-2 c = let test = c .if2 .taken in before (omega arith)
 
 returns-3 : tie.Need-returns-3
-returns-3 c = after (c .before .if1 .left) (c .if2 .left)
+returns-3 c = let test = c .if2 .left in after (c .before .if1 .left) (omega arith)
 
 pub lower-spec : {M : Type 1} → statement M
 lower-spec = tie.close (tie.spec returns returns-2 returns-3)
