@@ -57,7 +57,7 @@ pub data WorkedFigure : Type 0 where
   afflux : (v A a h : ℕ) → WorkedFigure
   earth : (soil slope height length H y : ℕ) → WorkedFigure
   current : (shape area velocity upper lower H y : ℕ) → WorkedFigure
-  optional-rows : (live water count : ℕ) → WorkedFigure
+  optional-rows : (live currents count : ℕ) → WorkedFigure
   overturning : (B v x h y figure : ℕ) → WorkedFigure
   pressure : (B L N M figure : ℕ) → WorkedFigure
   pressure-either : (B L N M figure : ℕ) → WorkedFigure
@@ -72,7 +72,7 @@ Holds (afflux v A a h) = Afflux v A a h
 Holds (earth soil slope height length H y) = Pushed table2-fill (record { soil = soil; slope = slope; height = height; length = length }) (push H y)
 Holds (current shape area velocity upper lower H y) =
     water.CurrentRule (record { shape = shape; area = area; velocity = velocity; upper = upper; lower = lower }) (water.push H y)
-Holds (optional-rows live water count) = optionals (replicate live (row-of LL) ++ replicate water (row-of kind.W)) ≡ count
+Holds (optional-rows live currents count) = optionals (replicate live (row-of LL) ++ replicate currents (row-of kind.W)) ≡ count
 Holds (overturning B v x h y figure) = Overturns B (dead-load v x h y) figure
 Holds (pressure B L N M figure) = Presses B L N M (Number figure)
 Holds (pressure-either B L N M figure) = PressesEither B L N M figure

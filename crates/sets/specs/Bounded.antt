@@ -1,4 +1,4 @@
--- How large a load may be for every sum to fit a word; what 01's rows exert is within it.
+-- How large a load may be for every sum to fit a word; what the load rows of a job exert is within it.
 use Prim.Native.Nat.{ℕ, _≤_, _<_}
 use Rattle.sets.specs.declared.Load.{Load}
 use Rattle.sets.specs.declared.Loads.{Loads}

@@ -4,17 +4,8 @@ use Rattle.arithmetic.proofs.Cases.{impossible}
 use Rattle.kinds.specs.declared.classes.Source.{Source}
 use Rattle.kinds.specs.declared.classes.Source.the-variants.{Absent, Earth, Current, Own}
 
-pub absent-not : _≡_ {A = Source} Absent Own → ⊥
-absent-not q = impossible cc
-
-pub earth-not : _≡_ {A = Source} Earth Own → ⊥
-earth-not q = impossible cc
-
 pub absent-earth : _≡_ {A = Source} Absent Earth → ⊥
 absent-earth q = impossible cc
-
-pub current-not : _≡_ {A = Source} Current Own → ⊥
-current-not q = impossible cc
 
 pub current-earth : _≡_ {A = Source} Current Earth → ⊥
 current-earth q = impossible cc

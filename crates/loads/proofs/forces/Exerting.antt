@@ -12,7 +12,8 @@ use Rattle.kinds.specs.declared.Kind.{Kind}
 use Rattle.kinds.specs.declared.Kind.the-variants.{B, S, C, E, W, DL, EP, LL, LF, CF, WC, BU, TM, EX, WL, SF}
 use Rattle.kinds.specs.declared.Numbers.{Numbers}
 use Rattle.kinds.specs.declared.Row.{Row}
-use Rattle.kinds.specs.Table.{load-columns, phase}
+use Rattle.kinds.specs.Table.{columns, load-columns, phase}
+use Rattle.kinds.specs.declared.Columns.{Columns}
 use Rattle.kinds.specs.ranges.Range.{Around, InColumns, Ranged, value}
 use Rattle.earth.specs.declared.table2.Coefficient.{Coefficient}
 use Rattle.earth.specs.steps.LowCoefficient.{LowCoefficient}
@@ -33,7 +34,7 @@ use Rattle.sets.specs.Bounded.{BoundedLoad}
 use Rattle.kinds.specs.declared.classes.Source.{Source}
 use Rattle.kinds.specs.declared.classes.Source.the-variants.{Absent, Earth, Current, Own}
 use Rattle.kinds.specs.classes.Classes.{class-of, source}
-use Rattle.kinds.proofs.classes.Sources.{absent-not, earth-not, current-not, absent-earth, current-earth, own-earth, absent-current, earth-current, own-current}
+use Rattle.kinds.proofs.classes.Sources.{current-earth, earth-current}
 use Rattle.loads.specs.forces.Blank.{BlankThere}
 use Rattle.loads.specs.forces.Wetted.{UpperBelowLower}
 use Rattle.loads.specs.steps.Exerted.{LoadOf}
@@ -42,63 +43,37 @@ use Rattle.loads.specs.declared.forces.RowLoad.the-variants as RowLoad
 use Rattle.loads.specs.forces.Exerts.{OwnForces, PushLoad, Forces, Exerts}
 use Rattle.loads.proofs.forces.Amounts.{amount-size, value-size, product-size}
 
--- ---- the columns of a row
+-- ---- what the source of its forces says of a kind
+abbrev OfSource : Source → Kind → Type 0
+OfSource Absent k = Unit {0}
+OfSource Earth k = k ≡ E
+OfSource Current k = k ≡ W
+OfSource Own k = columns k ≡ load-columns
+
+of-source : (k : Kind) → OfSource (source k) k
+unfolding source
+of-source B = tt
+of-source S = tt
+of-source C = tt
+of-source E = refl
+of-source W = refl
+of-source DL = refl
+of-source EP = refl
+of-source LL = refl
+of-source LF = refl
+of-source CF = refl
+of-source WC = refl
+of-source BU = refl
+of-source TM = refl
+of-source EX = refl
+of-source WL = refl
+of-source SF = refl
+
+kind-by : (k : Kind) (s : Source) → source k ≡ s → OfSource s k
+kind-by k s e = subst (λ (x : Source). OfSource x k) e (of-source k)
+
 pub own-columns : (k : Kind) (n : Numbers) → source k ≡ Own → Ranged k n → InColumns load-columns n
-unfolding source
-own-columns B n e r = absurd (absent-not e)
-own-columns S n e r = absurd (absent-not e)
-own-columns C n e r = absurd (absent-not e)
-own-columns E n e r = absurd (earth-not e)
-own-columns W n e r = absurd (current-not e)
-own-columns DL n e r = r
-own-columns EP n e r = r
-own-columns LL n e r = r
-own-columns LF n e r = r
-own-columns CF n e r = r
-own-columns WC n e r = r
-own-columns BU n e r = r
-own-columns TM n e r = r
-own-columns EX n e r = r
-own-columns WL n e r = r
-own-columns SF n e r = r
-
-pub earth-kind : (k : Kind) → source k ≡ Earth → k ≡ E
-unfolding source
-earth-kind B e = absurd (absent-earth e)
-earth-kind S e = absurd (absent-earth e)
-earth-kind C e = absurd (absent-earth e)
-earth-kind E e = refl
-earth-kind W e = absurd (current-earth e)
-earth-kind DL e = absurd (own-earth e)
-earth-kind EP e = absurd (own-earth e)
-earth-kind LL e = absurd (own-earth e)
-earth-kind LF e = absurd (own-earth e)
-earth-kind CF e = absurd (own-earth e)
-earth-kind WC e = absurd (own-earth e)
-earth-kind BU e = absurd (own-earth e)
-earth-kind TM e = absurd (own-earth e)
-earth-kind EX e = absurd (own-earth e)
-earth-kind WL e = absurd (own-earth e)
-earth-kind SF e = absurd (own-earth e)
-
-pub current-kind : (k : Kind) → source k ≡ Current → k ≡ W
-unfolding source
-current-kind B e = absurd (absent-current e)
-current-kind S e = absurd (absent-current e)
-current-kind C e = absurd (absent-current e)
-current-kind E e = absurd (earth-current e)
-current-kind W e = refl
-current-kind DL e = absurd (own-current e)
-current-kind EP e = absurd (own-current e)
-current-kind LL e = absurd (own-current e)
-current-kind LF e = absurd (own-current e)
-current-kind CF e = absurd (own-current e)
-current-kind WC e = absurd (own-current e)
-current-kind BU e = absurd (own-current e)
-current-kind TM e = absurd (own-current e)
-current-kind EX e = absurd (own-current e)
-current-kind WL e = absurd (own-current e)
-current-kind SF e = absurd (own-current e)
+own-columns k n e = subst (λ (c : Columns). InColumns c n) (kind-by k Own e)
 
 pub around-size : (a : ℕ) (e : Entry) → Around a a e → e .size ≤ a
 around-size a e h = go (e .minus) refl
@@ -148,10 +123,10 @@ module _ (fill : ℕ → ℕ → Coefficient) (row : Row) where
 
   module _ (is-earth : source (row .kind) ≡ Earth) where
     own-range : Ranged E (row .numbers) → Ranged (row .kind) (row .numbers)
-    own-range = subst⁻¹ (λ (k : Kind). Ranged k (row .numbers)) (earth-kind (row .kind) is-earth)
+    own-range = subst⁻¹ (λ (k : Kind). Ranged k (row .numbers)) (kind-by (row .kind) Earth is-earth)
 
     earth-range : Ranged (row .kind) (row .numbers) → Ranged E (row .numbers)
-    earth-range = subst (λ (k : Kind). Ranged k (row .numbers)) (earth-kind (row .kind) is-earth)
+    earth-range = subst (λ (k : Kind). Ranged k (row .numbers)) (kind-by (row .kind) Earth is-earth)
 
     pub earth-told-out : Pressed fill (row .numbers) (refused 11) → LoadOf fill row (RowLoad.Refused 11)
     earth-told-out p = told-out (λ r. earth-out p refl (earth-range r))
@@ -183,10 +158,10 @@ module _ (fill : ℕ → ℕ → Coefficient) (row : Row) where
 
   module _ (is-current : source (row .kind) ≡ Current) where
     wet-range : Ranged W (row .numbers) → Ranged (row .kind) (row .numbers)
-    wet-range = subst⁻¹ (λ (k : Kind). Ranged k (row .numbers)) (current-kind (row .kind) is-current)
+    wet-range = subst⁻¹ (λ (k : Kind). Ranged k (row .numbers)) (kind-by (row .kind) Current is-current)
 
     current-range : Ranged (row .kind) (row .numbers) → Ranged W (row .numbers)
-    current-range = subst (λ (k : Kind). Ranged k (row .numbers)) (current-kind (row .kind) is-current)
+    current-range = subst (λ (k : Kind). Ranged k (row .numbers)) (kind-by (row .kind) Current is-current)
 
     pub current-told-out : currents.CurrentSays (row .numbers) (current.refused 11) → LoadOf fill row (RowLoad.Refused 11)
     current-told-out p = told-out (λ r. current-out p refl (current-range r))
