@@ -70,7 +70,7 @@ fn first_told(told: loads::LoadsAnswer, river: RiverRead) -> RiverRead
 {
     match told {
         loads::LoadsAnswer::Refused(n) => match river {
-            RiverRead::Refused(m) => RiverRead::Refused(if n < m { n } else { m }),
+            RiverRead::Refused(m) => RiverRead::Refused(river::lower(n, m)),
             RiverRead::Shown(_, _) => RiverRead::Refused(n),
         },
         loads::LoadsAnswer::Given => river,

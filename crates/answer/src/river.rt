@@ -12,7 +12,7 @@ ghost use mathlib.Core.Path.{_≡_};
 ghost use Rattle.scour.specs.ScourRow.{scour-told};
 ghost use Rattle.answer.specs.Columns.{base-of};
 ghost use Rattle.answer.specs.river.steps.Says.{RiverSays};
-ghost use Rattle.answer.specs.river.steps.Rows.{DepthGiven, ClearGiven, BothGive};
+ghost use Rattle.answer.specs.river.steps.Rows.{DepthGiven, ClearGiven, lower, BothGive};
 
 // What the river rows of a job give: their refusal, 11 to 14, or their lines.
 pub enum RiverRead {
@@ -66,13 +66,20 @@ fn clear_of(answer: ClearanceAnswer) -> RowGives
     }
 }
 
+// "Order as numbered": the lower of two refusals.
+pub(crate) fn lower(n: u8, m: u8) -> u8
+    ensures { λ r. ⌜ r ≡ lower n m ⌝ }
+{
+    if n < m { n } else { m }
+}
+
 // Both rows: the lower of their refusals, or their lines.
 fn both(depth: RowGives, clear: RowGives) -> RiverRead
     ensures { λ r. ⌜ BothGive depth clear r ⌝ }
 {
     match depth {
         RowGives::Refused(n) => match clear {
-            RowGives::Refused(m) => RiverRead::Refused(if m < n { m } else { n }),
+            RowGives::Refused(m) => RiverRead::Refused(lower(n, m)),
             RowGives::Line(_) => RiverRead::Refused(n),
         },
         RowGives::Line(sc) => match clear {

@@ -1,8 +1,6 @@
--- Each pair of arms is a line of `told-first`; of two refusals the test tells which is the lower.
+-- Each pair of arms is a line of `told-first`.
 use borrow.Author.Needs.{needs}
-use borrow.Author.Tests.{lt-ltb, le-ltb}
 use mathlib.Core.Path.{sym, ap, ap₂, _∙_}
-use mathlib.Core.Bool.{Bool, cond}
 use Rattle.answer.specs.declared.river.RiverRead.the-variants.{Refused}
 use Rattle.loads.specs.declared.LoadsAnswer.{LoadsAnswer}
 use Rattle.answer.specs.steps.Whole.{told-first}
@@ -21,23 +19,17 @@ enum-told c = search needs
 enum-told-2 : tie.Need-enum-told-2
 enum-told-2 c = search needs
 
+lower-requires : tie.Need-lower-requires
+lower-requires c κs = search needs
+
 returns : tie.Need-returns
-returns c =
-    let m = c .before .before .river .given .0 .0 in
-    let n = c .before .before .before .before .before .told .given .0 .0 in
-    sym (ap₂ told-first (c .before .before .before .before .before .told .given .1) (c .before .before .river .given .1) ∙ ap (λ (t : Bool). Refused (cond t n m)) (lt-ltb n m (c .if1 .taken)))
+returns c = ap Refused (c .lower .ensures) ∙ sym (ap₂ told-first (c .before .before .before .before .before .told .given .1) (c .before .before .river .given .1))
 
 returns-2 : tie.Need-returns-2
-returns-2 c =
-    let m = c .before .before .river .given .0 .0 in
-    let n = c .before .before .before .before .before .told .given .0 .0 in
-    sym (ap₂ told-first (c .before .before .before .before .before .told .given .1) (c .before .before .river .given .1) ∙ ap (λ (t : Bool). Refused (cond t n m)) (le-ltb n m (c .if1 .left)))
+returns-2 c = sym (ap₂ told-first (c .before .before .before .told .given .1) (c .enum-told .given .1))
 
 returns-3 : tie.Need-returns-3
-returns-3 c = sym (ap₂ told-first (c .before .before .before .told .given .1) (c .enum-told .given .1))
-
-returns-4 : tie.Need-returns-4
-returns-4 c = sym (ap (λ (a : LoadsAnswer). told-first a (c .before .before .args .river)) (c .enum-told2 .given .1))
+returns-3 c = sym (ap (λ (a : LoadsAnswer). told-first a (c .before .before .args .river)) (c .enum-told2 .given .1))
 
 pub first-told-spec : {M : Type 1} → statement M
-first-told-spec = tie.close (tie.spec enum-known-told enum-known-river enum-told enum-told-2 returns returns-2 returns-3 returns-4)
+first-told-spec = tie.close (tie.spec enum-known-told enum-known-river lower-requires enum-told enum-told-2 returns returns-2 returns-3)

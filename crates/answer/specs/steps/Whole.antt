@@ -1,6 +1,4 @@
 -- What `whole` and `first_told` answer.
-use mathlib.Core.Bool.{cond}
-use lib.Dec.{ltb}
 use mathlib.Core.Path.{_≡_}
 use Rattle.sets.specs.declared.Combination.the-variants.{I, II, III, IV}
 use Rattle.sets.specs.declared.Loads.{Loads}
@@ -12,6 +10,7 @@ use Rattle.lines.specs.declared.Answer.{Answer}
 use Rattle.lines.specs.verdicts.Verdict.{VerdictIs}
 use Rattle.answer.specs.declared.river.RiverRead.{RiverRead}
 use Rattle.answer.specs.declared.river.RiverRead.the-variants as river
+use Rattle.answer.specs.river.steps.Rows.{lower}
 use Rattle.answer.specs.Answer.{LinesAre}
 
 -- the lines of loads, beside those of the river: what the last step of the code answers
@@ -26,6 +25,6 @@ pub record WholeIs (base : Base) (loads : Loads) (d c : RiverLine) (a : Answer) 
 
 -- "Order as numbered": the lower of the two refusals, or the river's answer
 abbrev pub told-first : loads.LoadsAnswer → RiverRead → RiverRead
-told-first (taking.Refused n) (river.Refused m) = river.Refused (cond (ltb n m) n m)
+told-first (taking.Refused n) (river.Refused m) = river.Refused (lower n m)
 told-first (taking.Refused n) (river.Shown d c) = river.Refused n
 told-first taking.Given x = x

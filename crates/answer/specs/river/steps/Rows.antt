@@ -1,4 +1,4 @@
--- What `depth_of`, `clear_of` and `both` answer, whatever job the rows stand in.
+-- What `depth_of`, `clear_of`, `lower` and `both` answer, whatever job the rows stand in.
 use Prim.Native.Nat.{ℕ, _≤_}
 use mathlib.Core.Path.{_≡_}
 use mathlib.Core.Bool.{Bool, true, false, cond}
@@ -38,9 +38,13 @@ ClearGiven clearance.OverObstructed r = r ≡ Refused 14
 ClearGiven (clearance.Given there needed) (Refused n) = ⊥
 ClearGiven (clearance.Given there needed) (Line l) = ClearLineIs there needed l
 
--- the lower of two refusals, or the lines
+-- "Order as numbered": the lower of two refusals
+abbrev pub lower : ℕ → ℕ → ℕ
+lower n m = cond (ltb n m) n m
+
+-- the lower of the rows' refusals, or the lines
 abbrev pub both : RowGives → RowGives → RiverRead
-both (Refused n) (Refused m) = river.Refused (cond (ltb m n) m n)
+both (Refused n) (Refused m) = river.Refused (lower n m)
 both (Refused n) (Line c) = river.Refused n
 both (Line d) (Refused m) = river.Refused m
 both (Line d) (Line c) = river.Shown d c
