@@ -1,12 +1,13 @@
 -- Adding sums, row by row: sums are added in any order, their fields are the natural sums of the definitions, these make the whole numbers N, H and M, and all of it fits.
 use borrow.Author.Needs.{needs}
 use mathlib.Core.Path.{_≡_, refl, sym, _∙_, ap, ap₂, subst}
-use Prim.Native.Nat.{ℕ, zero, suc, _+_, _*_, _^_, _≤_}
+use Prim.Native.Nat.{ℕ, zero, suc, _+_, _*_, _%_, _^_, _≤_, _<_}
 use native.Mathlib.Omega.{arith}
 use native.Mathlib.Numerals.{add-one}
-use native.Mathlib.Nat.{mul-le-mul, le-refl}
+use native.Mathlib.Nat.{mul-le-mul, le-refl, mod-lt, mod-one, mod-eq-of-lt}
 use lib.IntN.{ℤ, pos, _+ℤ_, _-ℤ_, _*ℤ_}
-use lib.Pow.{pow-mono}
+use lib.Count.{ones, onesIn, ones-cat}
+use lib.Pow.{pow-mono, pow-pos, mod-pow-add}
 use Rattle.arithmetic.specs.declared.signed.Amount.{Amount}
 use Rattle.arithmetic.specs.declared.signed.Parts.{Parts}
 use Rattle.arithmetic.specs.signed.Whole.{worth, above, below}
@@ -20,6 +21,7 @@ use Rattle.sets.specs.declared.Loads.{Loads}
 use Rattle.sums.specs.declared.Sums.{Sums}
 use Rattle.sets.specs.Sets.{bit, row}
 use Rattle.sets.specs.Bounded.{Bounded, BoundedLoad}
+use Rattle.sets.proofs.Bits.{bit-two}
 use Rattle.sums.specs.Totals.{countedℤ, counted, sumℤ, sum, N, H, M, moment, plus, minus, arm, v-moment, h-moment, resists, overturns, resisting, overturning}
 use Rattle.sums.specs.steps.Sums.{parts-sum, balance-sum, no-sums, add, add-if, balance-of, is-wind, is-earthquake, moment-of, terms-of, sums-to, sums-of, arm-by, balance-by, moment-by, Room}
 
@@ -35,11 +37,12 @@ pub record SameSums (a b : Sums) : Type 0 where
   pub minus : a .minus ≡ b .minus
   pub winds : a .winds ≡ b .winds
   pub earthquakes : a .earthquakes ≡ b .earthquakes
+  pub rows : a .rows ≡ b .rows
   pub set : a .set ≡ b .set
 
 pub same-sums : {a b : Sums} → SameSums a b → a ≡ b
 same-sums e =
-    λ i. record { v = e .v i; h = e .h i; m = e .m i; plus = e .plus i; minus = e .minus i; winds = e .winds i; earthquakes = e .earthquakes i; set = e .set i }
+    λ i. record { v = e .v i; h = e .h i; m = e .m i; plus = e .plus i; minus = e .minus i; winds = e .winds i; earthquakes = e .earthquakes i; rows = e .rows i; set = e .set i }
 
 -- ---- sums are added in any order
 module _ (a b c : Parts) where
@@ -63,6 +66,7 @@ add-swap a b c =
       minus = balance-swap (a .minus) (b .minus) (c .minus);
       winds = omega arith;
       earthquakes = omega arith;
+      rows = omega arith;
       set = omega arith;
     })
 
@@ -158,6 +162,29 @@ module _ (width : ℕ) (loads : Loads) (set : ℕ) where
   pub earthquakes-is : (sums-of width loads set) .earthquakes ≡ sum (λ load. is-earthquake (load .class)) loads set (loads .count)
   unfolding sums-of no-sums add terms-of
   earthquakes-is = field-is width loads set (λ s. s .earthquakes) (λ load. is-earthquake (load .class)) refl (λ a b. refl) (λ load place. refl) (loads .count)
+
+-- ---- the rows of a set are counted by the ones of its number
+module _ (width : ℕ) (loads : Loads) (set : ℕ) where
+  one-more : (held : ℕ) (a : Sums) (load : Load) (place : ℕ) → held < 2 → (add-if held a (terms-of width load place)) .rows ≡ ones held + a .rows
+  unfolding add-if add terms-of ones onesIn
+  one-more zero a load place h = let e : ones 0 ≡ 0 = refl in omega (arith, e)
+  one-more (suc zero) a load place h = let e : ones 1 ≡ 1 = refl in omega (arith, e)
+  one-more (suc (suc held)) a load place h = absurd (omega arith)
+
+  last-bit : (n : ℕ) → set % 2 ^ suc n ≡ bit set n * 2 ^ n + set % 2 ^ n
+  unfolding bit
+  last-bit n = let e : suc n ≡ 1 + n = omega arith in ap (λ (k : ℕ). set % 2 ^ k) e ∙ mod-pow-add set 1 n
+
+  rows-to : (n : ℕ) → (sums-to width loads set n) .rows ≡ ones (set % 2 ^ n)
+  unfolding sums-to no-sums ones onesIn
+  rows-to zero = sym (ap ones (mod-one set))
+  rows-to (suc n) =
+      one-more (bit set n) (sums-to width loads set n) (row loads n) (2 ^ n) (bit-two set n) ∙ ap (λ (x : ℕ). ones (bit set n) + x) (rows-to n)
+      ∙ sym (ap ones (last-bit n) ∙ ones-cat n (bit set n) (set % 2 ^ n) (mod-lt set (pow-pos n)))
+
+  pub rows-is : set < 2 ^ loads .count → (sums-of width loads set) .rows ≡ ones set
+  unfolding sums-of
+  rows-is h = rows-to (loads .count) ∙ ap ones (mod-eq-of-lt h)
 
 -- ---- one row, in natural numbers
 pub arm-plus : (width : ℕ) (x : ℤ) → arm-by width (above x) (below x) ≡ parts-of (arm plus width x)
@@ -323,6 +350,7 @@ module _ (width : ℕ) (load : Load) (wide : width ≤ 30000) (b : BoundedLoad l
         overturning-minus = omega (arith, n .1);
         winds = c .0;
         earthquakes = c .1;
+        rows = le-refl 1;
         set = omega arith;
       }
 

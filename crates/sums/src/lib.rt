@@ -2,6 +2,7 @@
 // combination permits the set, by the wind and earthquake rows among them.
 //
 // Document 01 sums whole numbers, and the program adds what each is above and below zero, row by row.
+pub mod carried;
 pub mod permitted;
 pub mod row_terms;
 pub mod set_sums;
@@ -18,7 +19,7 @@ pub struct Balance {
 }
 
 // The sums over the rows of a set: V, H and the moment by their parts, the balance at the edges at +x and at -x, how many rows
-// are wind and earthquake, and the set's number.
+// are wind, earthquake, and there at all, and the set's number.
 pub struct Sums {
     pub v: Parts,
     pub h: Parts,
@@ -27,6 +28,7 @@ pub struct Sums {
     pub minus: Balance,
     pub winds: u64,
     pub earthquakes: u64,
+    pub rows: u64,
     pub set: u64,
 }
 
@@ -56,6 +58,7 @@ pub fn no_sums() -> Sums
         minus: even,
         winds: 0,
         earthquakes: 0,
+        rows: 0,
         set: 0,
     }
 }
@@ -89,6 +92,7 @@ pub fn add_sums(a: Sums, b: Sums) -> Sums
         },
         winds: a.winds + b.winds,
         earthquakes: a.earthquakes + b.earthquakes,
+        rows: a.rows + b.rows,
         set: a.set + b.set,
     }
 }

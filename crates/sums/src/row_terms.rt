@@ -67,6 +67,7 @@ pub fn terms_of(width: u64, load: Load, place: u64) -> Sums
         minus,
         winds,
         earthquakes,
+        rows: 1,
         set: place,
     }
 }

@@ -2,4 +2,4 @@
 pub mod Naming
 pub mod Searching
 pub mod Weighing
-mod Factors
+pub mod Reading

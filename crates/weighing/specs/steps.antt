@@ -1,2 +1,3 @@
 pub mod Ranked
 pub mod Weighs
+pub mod Bounds

@@ -2,8 +2,8 @@
 //
 // Of two sets with one figure the one with fewer rows is named, and of as many rows the smaller number. What is hard is that this
 // order and that of the figures are one order of one number, the weight, so that the worse of two is one.
+ghost use mathlib.Core.Path.{_≡_};
 ghost use Prim.Native.Nat.{_<_};
-ghost use Rattle.arithmetic.specs.decides.Decides.{Decides};
 ghost use Rattle.weighing.specs.steps.Ranked.{tie-order, WorseOf};
 
 // The worst so far of a check: the rank of its figure, and its set; set 0 where there is none yet.
@@ -12,14 +12,16 @@ pub struct RankedSet {
     pub set: u64,
 }
 
-// Of two sets with the same figure, whether s comes before t: it has fewer rows, or as many and the smaller number.
-fn fewer(s: u64, t: u64) -> bool
-    requires { ⌜ (0 < s) × (s < 65536) × (t < 65536) ⌝ }
-    ensures { λ r. ⌜ Decides r (tie-order s < tie-order t) ⌝ }
+// The order of the sets with one figure: the fewest rows first, then the smallest number. Set 0, none yet, comes last.
+pub(crate) fn tie_order(set: u64) -> u64
+    requires { ⌜ set < 65536 ⌝ }
+    ensures { λ r. ⌜ r ≡ tie-order set ⌝ }
 {
-    let p = u64::count_ones(s);
-    let q = u64::count_ones(t);
-    (t == 0) | (p < q) | ((p == q) & (s < t))
+    if set == 0 {
+        return 17 * 65536;
+    }
+    let rows = u64::count_ones(set) as u64;
+    65536 * rows + set
 }
 
 // The worse of the worst so far and of one set more: the lower rank, and of equal ranks the set that comes first.
@@ -27,10 +29,13 @@ pub(crate) fn worse(worst: RankedSet, rank: u64, set: u64) -> RankedSet
     requires { ⌜ (0 < set) × (set < 65536) × (worst .set < 65536) ⌝ }
     ensures { λ r. ⌜ WorseOf worst rank set r ⌝ }
 {
-    let first_of_tie = (rank == worst.rank) && fewer(set, worst.set);
-    if first_of_tie | (rank < worst.rank) {
-        RankedSet { rank, set }
-    } else {
-        worst
+    if rank < worst.rank {
+        return RankedSet { rank, set };
     }
+    if rank == worst.rank {
+        if tie_order(set) < tie_order(worst.set) {
+            return RankedSet { rank, set };
+        }
+    }
+    worst
 }

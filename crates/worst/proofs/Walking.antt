@@ -1,11 +1,12 @@
--- From all choices to what the walk finds.
+-- From the choices in their order to what the walk finds.
 use mathlib.Core.Path.{_≡_, refl, sym, _∙_, ap, subst, subst⁻¹}
 use mathlib.Core.Logic.{_⊎_, inl, inr, ⊎-elim}
 use mathlib.Core.Bool.{Bool, true, false}
-use Prim.Native.Nat.{ℕ, _+_, _-_, _^_, _<_}
+use Prim.Native.Nat.{ℕ, zero, suc, _+_, _-_, _/_, _^_, _<_}
 use native.Mathlib.Omega.{arith}
-use native.Mathlib.Nat.{lt-of-lt-of-le}
+use native.Mathlib.Nat.{lt-of-lt-of-le, add-zero}
 use native.Mathlib.Decide.{decLt}
+use lib.Count.{ones}
 use lib.Pow.{pow-mono}
 use Rattle.arithmetic.proofs.Cases.{by-cases}
 use Rattle.arithmetic.specs.decides.Decides.{Decides}
@@ -16,15 +17,18 @@ use Rattle.sums.specs.declared.Sums.{Sums}
 use Rattle.sets.specs.Sets.{row, Permitted}
 use Rattle.sets.specs.Bounded.{Bounded}
 use Rattle.sets.specs.steps.Deciding.{Arises, Admits, RowFits}
-use Rattle.sums.specs.steps.Sums.{sums-of}
+use Rattle.sums.specs.declared.carried.Carried.{Carried}
+use Rattle.sums.specs.steps.Sums.{no-sums, sums-of, Room}
+use Rattle.sums.specs.steps.Carried.{shift-by}
+use Rattle.sums.proofs.Adding.{room-all, rows-is}
 use Rattle.sets.proofs.Permitting.{Fit}
 use Rattle.sums.proofs.permitted.Admitted.{admitted-permitted, admitted}
 use Rattle.checks.specs.declared.Base.{Base}
+use Rattle.checks.specs.Sized.{Sized}
 use Rattle.checks.specs.declared.Check.{Check}
 use Rattle.checks.specs.declared.Check.the-variants.{OP, OM, SL, PR, RK}
 use Rattle.checks.specs.declared.Figure.{Figure}
 use Rattle.checks.specs.set_figures.Figures.{Shows}
-use Rattle.checks.specs.steps.BySums.{ShowsBySums}
 use Rattle.checks.specs.Order.{side}
 use Rattle.checks.specs.limits.Limits.{Limit}
 use Rattle.checks.specs.service.Service.{Service}
@@ -34,64 +38,98 @@ use Rattle.checks.proofs.Ranking.{ranks-map}
 use Rattle.checks.proofs.set_figures.Showing.{by-sums-shows, shows-one}
 use Rattle.weighing.specs.declared.Worst.{Worst}
 use Rattle.weighing.specs.declared.ranked.RankedSet.{RankedSet}
+use Rattle.weighing.specs.steps.Ranked.{tie-order, Offered}
+use Rattle.worst.specs.steps.Stance.{choosable, pick, stance-at}
+use Rattle.worst.specs.steps.Order.{choice}
+use Rattle.weighing.specs.steps.Weighs.{set-in, winds-in, earthquakes-in, ShowsCarried, Light, Low, ranked-of, Weighed, Weighs, Visits}
+use Rattle.weighing.specs.steps.Bounds.{bounds-of, Within}
 use Rattle.worst.specs.declared.term_table.TermTable.{TermTable}
-use Rattle.weighing.specs.steps.Ranked.{Offered}
-use Rattle.worst.specs.steps.Stance.{choosable, pick, chosen, stance-at}
-use Rattle.weighing.specs.steps.Weighs.{ranked-of, Weighed, Weighs, Visits}
-use Rattle.worst.specs.steps.Terms.{terms-at}
+use Rattle.worst.specs.steps.Steps.{reached}
 use Rattle.worst.specs.steps.TermTable.{TableIs}
 use Rattle.worst.specs.steps.Search.{Walked}
 use Rattle.weighing.proofs.Weighing.{weighed-or-not}
+use Rattle.weighing.proofs.Reading.{light, winds-read, earthquakes-read, set-read, key-ordered, carried-shows}
+use Rattle.weighing.proofs.bounds.Bounding.{Words, within-visits}
 use Rattle.weighing.proofs.Searching.{Extends, nothing-yet, offer, skip, ends-named, ends-empty}
-use Rattle.worst.proofs.choices.Choices.{pick-low, pick-bit, KeepsStances, Made, made, sums-number, Tabled, pick-sums}
+use Rattle.worst.proofs.choices.Choices.{pick-low, pick-bit, KeepsStances, Made, made, sums-number}
+use Rattle.worst.proofs.Order.{visited}
+use Rattle.worst.proofs.Stepping.{set-of, carried-is}
 use Rattle.worst.proofs.choices.Rows.{stance-says, held-never, held-always, stance-fits}
 
--- ---- the choices gone through, and what is found over all of them
--- the set of choice k, and the sets of the first n choices
-unfoldable pub set-of : Combination → Loads → ℕ → ℕ
-set-of combination loads k = pick (stance-at combination loads) (loads .count) k
-
+-- ---- the steps gone through, and what is found over all of them
+-- the sets of the first n steps
 unfoldable pub GoneThrough : Combination → Loads → ℕ → ℕ → Type 0
 GoneThrough combination loads n t = (k : ℕ) × (k < n) × (t ≡ set-of combination loads k)
 
--- the worst so far, check by check, after the first n choices
+-- the worst so far, check by check, after the first n steps
 pub record SoFar (combination : Combination) (base : Base) (loads : Loads) (serves : Bool) (n : ℕ) (none : RankedSet) (worst : Worst) : Type 0 where
   pub weighed : (check : Check) → Weighed serves base check → Extends (side check) (Permitted combination loads) (Shows check base loads) (GoneThrough combination loads n) none (ranked-of check worst)
   pub only : (check : Check) → ((ranked-of check worst) .set ≡ 0 → ⊥) → Weighed serves base check
 
-module _ (combination : Combination) (base : Base) (loads : Loads) (bounded : Bounded loads) (arises : Arises combination loads) where
-  pub set-low : (k : ℕ) → set-of combination loads k < 65536
+module _ (combination : Combination) (base : Base) (loads : Loads) (sized : Sized base) (bounded : Bounded loads) (arises : Arises combination loads) where
+  abbrev count : ℕ
+  count = choosable (stance-at combination loads) (loads .count)
+
+  set-within : (k : ℕ) → set-of combination loads k < 2 ^ loads .count
   unfolding set-of
-  set-low k = lt-of-lt-of-le (pick-low (stance-at combination loads) (loads .count) k) (pow-mono {j = 16} (bounded .count))
+  set-within k = pick-low (stance-at combination loads) (loads .count) (choice count k)
+
+  set-low : (k : ℕ) → set-of combination loads k < 65536
+  set-low k = lt-of-lt-of-le (set-within k) (pow-mono {j = 16} (bounded .count))
 
   fits : (k : ℕ) → Fit combination loads (set-of combination loads k)
   unfolding Fit set-of stance-at
   fits k = (
-    pick-low (stance-at combination loads) (loads .count) k,
-    λ i h. subst⁻¹ (RowFits combination (row loads i)) (pick-bit (stance-at combination loads) (loads .count) k i h)
+    set-within k,
+    λ i h. subst⁻¹ (RowFits combination (row loads i)) (pick-bit (stance-at combination loads) (loads .count) (choice count k) i h)
         (stance-fits combination (row loads i) (stance-at combination loads i) _ (stance-says combination (row loads i))),
   )
 
-  -- the sums of a choice are those of its set
-  pub choice-sums : (table : TermTable) (k : ℕ) → TableIs combination (base .width) loads (loads .count) table
-      → chosen (table .fixed) (terms-at (table .terms)) k (table .choosable) ≡ sums-of (base .width) loads (set-of combination loads k)
-  unfolding set-of sums-of Tabled
-  choice-sums table k f =
-      (λ i. chosen (f .always i) (terms-at (table .terms)) k (f .count i)) ∙ sym (pick-sums (stance-at combination loads) (base .width) loads (terms-at (table .terms)) (loads .count) k (f .rows))
+  -- ---- the carried sums of step k: they are small, and tell its set
+  sums : ℕ → Sums
+  sums k = sums-of (base .width) loads (set-of combination loads k)
 
-  pub set-number : (k : ℕ) → (sums-of (base .width) loads (set-of combination loads k)) .set ≡ set-of combination loads k
-  unfolding set-of sums-of
-  set-number k = sums-number (base .width) loads _ (loads .count) (pick-low (stance-at combination loads) (loads .count) k)
+  pub carried : ℕ → Carried
+  carried k = shift-by (sums k) no-sums
 
-  -- one choice more
+  room : (k : ℕ) → Room 16 (sums k)
+  unfolding sums
+  room k = room-all (base .width) loads (set-of combination loads k) (sized .width) bounded
+
+  pub light-at : (k : ℕ) → Light (carried k)
+  unfolding carried
+  light-at k = light (sums k) (room k)
+
+  set-number : (k : ℕ) → (sums k) .set ≡ set-of combination loads k
+  unfolding sums sums-of
+  set-number k = sums-number (base .width) loads _ (loads .count) (set-within k)
+
+  number-low : (k : ℕ) → (sums k) .set < 65536
+  number-low k = subst⁻¹ (λ (n : ℕ). n < 65536) (set-number k) (set-low k)
+
+  set-is : (k : ℕ) → set-in (carried k) ≡ set-of combination loads k
+  unfolding carried
+  set-is k = set-read (sums k) (room k) (number-low k) ∙ set-number k
+
+  keyed : (k : ℕ) → 0 < set-in (carried k) → (carried k) .key / 65536 ≡ tie-order (set-in (carried k))
+  unfolding carried sums
+  keyed k = key-ordered (sums k) (room k) (number-low k) (rows-is (base .width) loads (set-of combination loads k) (set-within k) ∙ ap ones (sym (set-number k)))
+
+  -- what a walk by the table carries
+  pub carried-there : (table : TermTable) → TableIs combination (base .width) loads table → (k : ℕ) → k < table .choices → reached (table .steps) (table .first) k ≡ carried k
+  unfolding carried sums
+  carried-there table f k h = carried-is combination (base .width) loads table f (sized .width) bounded k (subst (λ (n : ℕ). k < n) (f .choices) h)
+
+  -- ---- one step more
   gone-through-more : (n t : ℕ) → GoneThrough combination loads (n + 1) t → GoneThrough combination loads n t ⊎ (t ≡ set-of combination loads n)
   unfolding GoneThrough
   gone-through-more n t w =
       by-cases (decLt (w .0) n) (λ h. inl (w .0, h, w .2)) (λ h. let e : w .0 ≡ n = omega (arith, w .1) in inr (w .2 ∙ ap (set-of combination loads) e))
 
-  pub one-choice : (serves : Bool) (n : ℕ) (none : RankedSet) {sums : Sums} {b r : Worst} → sums ≡ sums-of (base .width) loads (set-of combination loads n) → Visits combination serves base sums b r
+  pub one-step : (serves : Bool) (n : ℕ) (none : RankedSet) {b r : Worst} → Visits combination serves base (carried n) b r
       → SoFar combination base loads serves n none b → SoFar combination base loads serves (n + 1) none r
-  one-choice serves n none {sums} {b} {r} e v so =
+  unfolding carried sums
+  one-step serves n none {b} {r} v so =
       record {
         weighed = λ check on. ⊎-elim (inside check on) (outside check on) (v .came);
         only = λ check found. by-cases (weighed-or-not serves base check) (λ on. on) (λ off. so .only check (λ z. found (kept check off z)));
@@ -101,42 +139,54 @@ module _ (combination : Combination) (base : Base) (loads : Loads) (bounded : Bo
       kept check off z =
           ⊎-elim (λ w. ap (λ (x : RankedSet). x .set) (w .1 .left check off) ∙ z) (λ w. ap (λ (x : Worst). (ranked-of check x) .set) (w .1) ∙ z) (v .came)
 
-      number : sums .set ≡ set-of combination loads n
-      number = ap (λ (s : Sums). s .set) e ∙ set-number n
+      set : ℕ
+      set = set-of combination loads n
 
-      admits : Admits combination (sums .winds) (sums .earthquakes) (sums .set) ≡ Admits combination ((sums-of (base .width) loads (set-of combination loads n)) .winds) ((sums-of (base .width) loads (set-of combination loads n)) .earthquakes) (set-of combination loads n)
-      admits = (λ i. Admits combination ((e i) .winds) ((e i) .earthquakes) (number i))
+      admits : Admits combination (winds-in (carried n)) (earthquakes-in (carried n)) (set-in (carried n)) ≡ Admits combination ((sums n) .winds) ((sums n) .earthquakes) set
+      admits = λ i. Admits combination (winds-read (sums n) (room n) i) (earthquakes-read (sums n) (room n) i) (set-is n i)
 
-      inside : (check : Check) → Weighed serves base check → Admits combination (sums .winds) (sums .earthquakes) (sums .set)
-          × Weighs serves base sums b r
+      inside : (check : Check) → Weighed serves base check → Admits combination (winds-in (carried n)) (earthquakes-in (carried n)) (set-in (carried n)) × Weighs serves base (carried n) b r
           → Extends (side check) (Permitted combination loads) (Shows check base loads) (GoneThrough combination loads (n + 1)) none (ranked-of check r)
       inside check on w =
-          offer (side check) (Permitted combination loads) (Shows check base loads) (set-of combination loads n) (so .weighed check on) (gone-through-more n)
-          (admitted-permitted (base .width) loads (set-of combination loads n) combination (fits n) arises (subst (λ (A : Type 0). A) admits (w .0)))
+          offer (side check) (Permitted combination loads) (Shows check base loads) set (so .weighed check on) (gone-through-more n)
+          (admitted-permitted (base .width) loads set combination (fits n) arises (subst (λ (A : Type 0). A) admits (w .0)))
           (shown (w .1 .offered check on))
         where
-          shown : Offered (side check) (ShowsBySums check base sums) (ranked-of check b) (sums .set) (ranked-of check r) → Offered (side check) (Shows check base loads (set-of combination loads n)) (ranked-of check b) (set-of combination loads n) (ranked-of check r)
+          shown : Offered (side check) (ShowsCarried check base (carried n)) (ranked-of check b) (set-in (carried n)) (ranked-of check r) → Offered (side check) (Shows check base loads set) (ranked-of check b) set (ranked-of check r)
           shown o =
-              subst (λ (s : ℕ). Offered (side check) (Shows check base loads (set-of combination loads n)) (ranked-of check b) s (ranked-of check r)) number
+              subst (λ (s : ℕ). Offered (side check) (Shows check base loads set) (ranked-of check b) s (ranked-of check r)) (set-is n)
               (record {
                 rank = o .rank;
-                ranks = ranks-map (λ f h. by-sums-shows base loads (set-of combination loads n) check f (subst (λ (s : Sums). ShowsBySums check base s f) e h)) (o .ranks);
+                ranks = ranks-map (λ f h. by-sums-shows base loads set check f (carried-shows (sums n) (room n) check base f h)) (o .ranks);
                 worse = o .worse;
               })
 
-      outside : (check : Check) → Weighed serves base check → (Admits combination (sums .winds) (sums .earthquakes) (sums .set) → ⊥) × (r ≡ b)
+      outside : (check : Check) → Weighed serves base check → (Admits combination (winds-in (carried n)) (earthquakes-in (carried n)) (set-in (carried n)) → ⊥) × (r ≡ b)
           → Extends (side check) (Permitted combination loads) (Shows check base loads) (GoneThrough combination loads (n + 1)) none (ranked-of check r)
       outside check on w =
           subst⁻¹ (λ (x : Worst). Extends (side check) (Permitted combination loads) (Shows check base loads) (GoneThrough combination loads (n + 1)) none (ranked-of check x)) (w .1)
-          (skip (side check) (Permitted combination loads) (Shows check base loads) (set-of combination loads n) (so .weighed check on) (gone-through-more n)
-          (λ p. w .0 (subst⁻¹ (λ (A : Type 0). A) admits (admitted (base .width) loads (set-of combination loads n) combination p))))
+          (skip (side check) (Permitted combination loads) (Shows check base loads) set (so .weighed check on) (gone-through-more n)
+          (λ p. w .0 (subst⁻¹ (λ (A : Type 0). A) admits (admitted (base .width) loads set combination p))))
 
-  -- every permitted set is a choice
+  -- ---- steps within the bounds leave the worst so far as it is
+  pub passed-over : (serves : Bool) (none : RankedSet) {worst : Worst} → Low worst → Words worst → (from n : ℕ) → SoFar combination base loads serves (from + 1) none worst
+      → ((k : ℕ) → from < k → k < from + 1 + n → Within (base .width) (bounds-of serves base worst) (carried k)) → SoFar combination base loads serves (from + 1 + n) none worst
+  passed-over serves none {worst} low words from zero so all = subst⁻¹ (λ (k : ℕ). SoFar combination base loads serves k none worst) (add-zero (from + 1)) so
+  passed-over serves none {worst} low words from (suc n) so all =
+      let k = from + 1 + n in
+      let e : from + 1 + suc n ≡ k + 1 = omega arith in
+      subst⁻¹ (λ (m : ℕ). SoFar combination base loads serves m none worst) e
+      (one-step serves k none
+      (within-visits combination serves base worst (carried k) sized low words (light-at k) (keyed k) (all k (omega arith) (omega arith)))
+      (passed-over serves none low words from n so (λ k h l. all k h (omega arith))))
+
+  -- every permitted set is a choice, and every choice that of a step
   every : (t : ℕ) → Permitted combination loads t → GoneThrough combination loads (2 ^ choosable (stance-at combination loads) (loads .count)) t
   unfolding GoneThrough set-of Made KeepsStances stance-at
   every t p =
       let m = made (stance-at combination loads) t (loads .count) (p .within) (λ i h. (held-never combination loads t i p h, held-always combination loads t i p h)) in
-      (m .0, m .1, sym (m .2))
+      let v = visited count (m .0) (m .1) in
+      (v .0, v .1, sym (ap (pick (stance-at combination loads) (loads .count)) (v .2) ∙ m .2))
 
   pub all-found : (serves : Bool) (n : ℕ) (none : RankedSet) (worst : Worst) → n ≡ 2 ^ choosable (stance-at combination loads) (loads .count) → none .set ≡ 0 → none .rank ≡ 2 ^ 64 - 1
       → Decides serves (Service combination) → SoFar combination base loads serves n none worst → Walked combination base loads worst

@@ -1,4 +1,5 @@
 pub mod Stance
-pub mod Terms
+pub mod Order
+pub mod Steps
 pub mod TermTable
 pub mod Search

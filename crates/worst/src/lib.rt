@@ -12,7 +12,9 @@ use lines::Line;
 use lines::Lines;
 use sets::Combination;
 use sets::Loads;
+use sums::carried::Carried;
 use weighing::Worst;
+use weighing::bounds::Bounds;
 use weighing::ranked::RankedSet;
 ghost use mathlib.Core.Path.{_≡_};
 ghost use Prim.Native.Nat.{_≤_};
@@ -22,10 +24,41 @@ ghost use Rattle.sets.specs.steps.Deciding.{Arises};
 ghost use Rattle.checks.specs.Sized.{Sized};
 ghost use Rattle.checks.specs.steps.HasCheck.{HasCheck};
 ghost use Rattle.worst.specs.Lines.{LineSays, line};
+ghost use Rattle.weighing.specs.steps.Bounds.{Fitting};
 ghost use Rattle.worst.specs.steps.Search.{FoundWorst, Walked};
+ghost use Rattle.worst.specs.steps.Steps.{Ahead, Passed};
 
-// The worst of all choices: every permitted set of the combination is one of them. The first rows, a quarter of them, change most
-// often, so the sums of the others are added once for all choices that differ in the first alone.
+// Where a walk stands: the step that it has reached, and the sums of the choice there.
+pub struct Place {
+    pub step: u64,
+    pub carried: Carried,
+}
+
+// From one step to the next whose choice is not within the bounds, or to the last. On the way to step k the row changes whose number is
+// that of the zeros behind the last one of k; it is added and taken away by turns.
+fn pass_over(steps: &[u64; 256], last: u64, width: u64, bounds: Bounds, from: Place) -> Place
+    requires { ⌜ width ≤ 30000 ⌝ }
+    requires { ⌜ Fitting bounds ⌝ }
+    requires { ⌜ Ahead (now steps) last from ⌝ }
+    ensures { λ r. ⌜ Passed (now (steps .entry)) last width bounds from r ⌝ }
+{
+    let mut carried = from.carried;
+    let mut k = from.step;
+    while k < last {
+        k = k + 1;
+        let row = u64::trailing_zeros(k) as usize;
+        let taken = ((k >> row) / 2 % 2) as usize;
+        let step = term_table::step_at(steps, 2 * row + taken);
+        carried = sums::carried::moved(carried, step);
+        if !weighing::bounds::within(width, bounds, carried) {
+            return Place { step: k, carried };
+        }
+    }
+    Place { step: k, carried }
+}
+
+// The worst of all choices: every permitted set of the combination is one of them. A choice within the bounds of the worst so far is
+// passed over, and the others are weighed.
 fn walk(combination: Combination, base: Base, loads: Loads) -> Worst
     requires { ⌜ Sized base ⌝ }
     requires { ⌜ Bounded loads ⌝ }
@@ -33,30 +66,28 @@ fn walk(combination: Combination, base: Base, loads: Loads) -> Worst
     ensures { λ r. ⌜ Walked combination base loads r ⌝ }
 {
     let serves = checks::service::serves(combination);
-    let table = term_table::table_of(combination, base.width, loads);
-    let terms = table.terms;
-    let choosable = table.choosable;
-    let fixed = table.fixed;
+    let width = base.width;
+    let table = term_table::table_of(combination, width, loads);
+    let steps = table.steps;
+    let first = table.first;
+    let last = table.choices - 1;
     let none = RankedSet { rank: TOP, set: 0 };
-    let mut worst = Worst {
+    let unweighed = Worst {
         op: none,
         om: none,
         sl: none,
         pr: none,
         rk: none,
     };
-    let low = choosable / 4;
-    let step = 1u64 << low;
-    let choices = 1u64 << choosable;
-    let mut upper = fixed;
-    let mut k: u64 = 0;
-    while k < choices {
-        if k % step == 0 {
-            upper = term_table::sums_at(&terms, low, choosable - low, k / step, fixed);
-        }
-        let sums = term_table::sums_at(&terms, 0, low, k % step, upper);
-        worst = weighing::visit(combination, serves, base, sums, worst);
-        k = k + 1;
+    let mut worst = weighing::visit(combination, serves, base, first, unweighed);
+    let mut place = Place {
+        step: 0,
+        carried: first,
+    };
+    while place.step < last {
+        let bounds = weighing::bounds::bounds_of(serves, base, worst);
+        place = pass_over(&steps, last, width, bounds, place);
+        worst = weighing::visit(combination, serves, base, place.carried, worst);
     }
     worst
 }

@@ -1,134 +1,86 @@
-// The table of a combination's rows (document 01, Load sets): the terms of those that are choosable, 13 numbers each and at most 16 rows, so
-// 208 numbers; and the sums of the rows in every set of it.
+// The table of a combination's rows (document 01, Load sets): what a choosable row adds to the sums of a set, and next to it what it takes
+// away again, 8 numbers each and at most 16 rows, so 256 numbers; and the sums of the rows in every set of it.
 //
-// A search adds the terms of the chosen rows for each set that it weighs, so they lie side by side in one lent array. A choosable row's
-// place there is the number of choosable rows before it, by which a choice holds it.
+// A walk goes from choice to choice by one row at a time, so what leads to the next lies ready in one lent array. A choosable row's place
+// there is the number of choosable rows before it, by which a choice holds it.
 use crate::choices::Stance;
-use arithmetic::signed::Parts;
 use sets::Combination;
 use sets::Loads;
 use sums::Balance;
-use sums::Sums;
-ghost use Prim.Native.Nat.{_<_, ℕ, _+_, _≤_};
-ghost use Rattle.worst.specs.steps.Terms.{Puts, terms-at, terms-from};
+use sums::carried::Carried;
 ghost use mathlib.Core.Path.{_≡_};
-ghost use Rattle.sums.specs.steps.Sums.{Room};
-ghost use Rattle.worst.specs.steps.Stance.{chosen};
+ghost use Prim.Native.Nat.{_≤_, _<_};
+ghost use lib.ListN.{length};
 ghost use Rattle.sets.specs.Bounded.{Bounded};
+ghost use Rattle.worst.specs.steps.Steps.{Puts, step-at};
 ghost use Rattle.worst.specs.steps.TermTable.{TableIs};
 
-// The rows of a combination: the terms of its choosable rows, 13 numbers each, how many they are, and the sums of the rows in every set.
+// The rows of a combination: what leads from choice to choice, how many choices there are, and the sums of the one with no choosable row.
 pub struct TermTable {
-    pub terms: [u64; 208],
-    pub choosable: usize,
-    pub fixed: Sums,
+    pub steps: [u64; 256],
+    pub choices: u64,
+    pub first: Carried,
 }
 
-// The table with the terms of one row written.
-fn put_terms(table: [u64; 208], j: usize, sums: Sums) -> [u64; 208]
-    requires { ⌜ j < 16 ⌝ }
-    ensures { λ r. ⌜ Puts table j sums r ⌝ }
+// The entry at a place of the table, written.
+fn put_step(steps: &mut [u64; 256], place: usize, step: Carried)
+    requires { ⌜ place < 32 ⌝ }
+    requires { ⌜ length (now steps) ≡ 256 ⌝ }
+    ensures { λ r. ⌜ Puts (now (steps .entry)) place step (now (steps .exit)) ⌝ }
 {
-    let row = [
-        sums.v.above,
-        sums.v.below,
-        sums.h.above,
-        sums.h.below,
-        sums.m.above,
-        sums.m.below,
-        sums.plus.resisting,
-        sums.plus.overturning,
-        sums.minus.resisting,
-        sums.minus.overturning,
-        sums.winds,
-        sums.earthquakes,
-        sums.set,
+    let entry = [
+        step.n,
+        step.h,
+        step.m,
+        step.plus.resisting,
+        step.plus.overturning,
+        step.minus.resisting,
+        step.minus.overturning,
+        step.key,
     ];
-    let mut next = table;
     let mut f: usize = 0;
-    while f < 13 {
-        next[13 * j + f] = row[f];
+    while f < 8 {
+        steps[8 * place + f] = entry[f];
         f = f + 1;
     }
-    next
 }
 
-// Row j of the table.
-fn terms_at(table: &[u64; 208], j: usize) -> Sums
-    requires { ⌜ j < 16 ⌝ }
-    ensures { λ r. ⌜ r ≡ terms-at (now (table .entry)) j ⌝ }
+// The entry at a place of the table.
+pub(crate) fn step_at(steps: &[u64; 256], place: usize) -> Carried
+    requires { ⌜ place < 32 ⌝ }
+    ensures { λ r. ⌜ r ≡ step-at (now (steps .entry)) place ⌝ }
 {
-    let i = 13 * j;
-    let v = Parts {
-        above: table[i],
-        below: table[i + 1],
-    };
-    let h = Parts {
-        above: table[i + 2],
-        below: table[i + 3],
-    };
-    let m = Parts {
-        above: table[i + 4],
-        below: table[i + 5],
-    };
+    let i = 8 * place;
     let plus = Balance {
-        resisting: table[i + 6],
-        overturning: table[i + 7],
+        resisting: steps[i + 3],
+        overturning: steps[i + 4],
     };
     let minus = Balance {
-        resisting: table[i + 8],
-        overturning: table[i + 9],
+        resisting: steps[i + 5],
+        overturning: steps[i + 6],
     };
-    Sums {
-        v,
-        h,
-        m,
+    Carried {
+        n: steps[i],
+        h: steps[i + 1],
+        m: steps[i + 2],
         plus,
         minus,
-        winds: table[i + 10],
-        earthquakes: table[i + 11],
-        set: table[i + 12],
+        key: steps[i + 7],
     }
-}
-
-// The sums of a choice of rows of the table, those from a place on, added to the first sums row by row: bit j of the choice is for
-// the j-th of the rows.
-pub(crate) fn sums_at(
-    table: &[u64; 208],
-    from: usize,
-    count: usize,
-    choice: u64,
-    first: Sums,
-) -> Sums
-    requires { ⌜ from + count ≤ 16 ⌝ }
-    requires { ⌜ Room 32 first ⌝ }
-    requires { ⌜ ((j : ℕ) → j < count → Room 1 (terms-from (now table) from j)) ⌝ }
-    ensures { λ r. ⌜ r ≡ chosen first (terms-from (now (table .entry)) from) choice count ⌝ }
-{
-    let mut sums = first;
-    let mut rest = choice;
-    let mut j: usize = 0;
-    while j < count {
-        if rest % 2 == 1 {
-            let row = terms_at(table, from + j);
-            sums = sums::add_sums(sums, row);
-        }
-        rest = rest / 2;
-        j = j + 1;
-    }
-    sums
 }
 
 // The table of a combination.
 pub(crate) fn table_of(combination: Combination, width: u64, loads: Loads) -> TermTable
     requires { ⌜ width ≤ 30000 ⌝ }
     requires { ⌜ Bounded loads ⌝ }
-    ensures { λ r. ⌜ TableIs combination width loads (loads .count) r ⌝ }
+    ensures { λ r. ⌜ TableIs combination width loads r ⌝ }
 {
     let count = loads.count;
-    let mut terms = [0u64; 208];
+    let none = sums::no_sums();
+    let mut steps = [0u64; 256];
     let mut choosable: usize = 0;
-    let mut fixed = sums::no_sums();
+    let mut choices: u64 = 1;
+    let mut fixed = none;
     let mut place: u64 = 1;
     let mut i: usize = 0;
     while i < count {
@@ -141,17 +93,21 @@ pub(crate) fn table_of(combination: Combination, width: u64, loads: Loads) -> Te
                 fixed = sums::add_sums(fixed, sums);
             }
             Stance::Choosable => {
-                let next = put_terms(terms, choosable, sums);
-                terms = next;
+                let added = sums::carried::shift_of(sums, none);
+                let taken = sums::carried::shift_of(none, sums);
+                put_step(&mut steps, 2 * choosable, added);
+                put_step(&mut steps, 2 * choosable + 1, taken);
                 choosable = choosable + 1;
+                choices = 2 * choices;
             }
         }
         place = 2 * place;
         i = i + 1;
     }
+    let first = sums::carried::shift_of(fixed, none);
     TermTable {
-        terms,
-        choosable,
-        fixed,
+        steps,
+        choices,
+        first,
     }
 }

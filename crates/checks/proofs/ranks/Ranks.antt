@@ -4,7 +4,7 @@ use mathlib.Core.Logic.{inl, inr, ⊎-elim}
 use Prim.Native.Nat.{ℕ, _+_, _*_, _-_, _/_, _%_, _^_, _≤_, _<_}
 use native.Mathlib.Omega.{arith}
 use native.Mathlib.Decide.{ℕ-discrete}
-use native.Mathlib.Nat.{mul-le-mul, mul-pos, mul-comm, pos-of-ne-zero}
+use native.Mathlib.Nat.{mul-le-mul, mul-comm, pos-of-ne-zero}
 use lib.Dec.{lit<}
 use Rattle.arithmetic.proofs.Cases.{by-cases}
 use Rattle.arithmetic.specs.rounding.Least.{RoundedUp, RoundedDown}
@@ -83,16 +83,8 @@ lean-some b n m {c} k z e r = record { figure = Number c; holds = (omega arith, 
 lt-of-suc : {m n : ℕ} → m + 1 ≤ n → m < n
 lt-of-suc p = omega arith
 
-up-some : (a b : ℕ) → 0 < b → (c : ℕ) × RoundedUp a b c
+pub up-some : (a b : ℕ) → 0 < b → (c : ℕ) × RoundedUp a b c
 up-some a b h = by-cases (ℕ-discrete (a % b) 0) (λ e. (a / b, up-exact a b h e)) (λ e. (a / b + 1, up-more a b h e))
-
-pub lean-above : (b n m shown : ℕ) → m ≤ 2 ^ 40 → 0 < b → 0 < n → 0 < shown → shown < 2 ^ 24 → 1000 * m ≤ (shown - 1) * (2 * (n * b))
-    → (k : ℕ) × Ranks highest (Leans b n m) k × (2 ^ 64 - 1 - shown < k)
-lean-above b n m shown h p q z l k =
-    let y : 0 < 2 * (n * b) = mul-pos (lit< tt) (mul-pos q p) in
-    let u = up-some (1000 * m) (2 * (n * b)) y in
-    let c : u .0 ≤ shown - 1 = u .1 .least (shown - 1) k in
-    (2 ^ 64 - 1 - u .0, lean-some b n m h y (λ e. omega arith) (u .1), omega arith)
 
 pub tip-above : (r o last : ℕ) → r ≤ 2 ^ 40 → last < 2 ^ 24 → o * (last + 1) ≤ 100 * r → (n : ℕ) × Ranks lowest (Tips r o) n × (last < n)
 tip-above r o last h l k =

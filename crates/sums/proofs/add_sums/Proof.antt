@@ -60,6 +60,9 @@ add-t19 c = omega (arith, (minus (c .before .before .before .before)) .pre)
 add-t20 : tie.Need-add-t20
 add-t20 c = omega (arith, (minus (c .before .before .before .before .before .before)) .pre)
 
+add-t21 : tie.Need-add-t21
+add-t21 c = omega (arith, (minus (c .before .before .before .before .before .before .before .before)) .pre)
+
 returns : tie.Need-returns
 unfolding add parts-sum balance-sum
 returns c = refl
@@ -67,4 +70,4 @@ returns c = refl
 pub add-sums-spec : {M : Type 1} → statement M
 add-sums-spec =
     tie.close
-    (tie.spec add-t3 add-t4 add-t6 add-t7 add-t9 add-t10 add-t12 add-t13 add-t15 add-t16 add-t18 add-t19 add-t20 returns)
+    (tie.spec add-t3 add-t4 add-t6 add-t7 add-t9 add-t10 add-t12 add-t13 add-t15 add-t16 add-t18 add-t19 add-t20 add-t21 returns)

@@ -31,6 +31,7 @@ no-sums =
       minus = record { resisting = 0; overturning = 0 };
       winds = 0;
       earthquakes = 0;
+      rows = 0;
       set = 0;
     }
 
@@ -45,6 +46,7 @@ add a b =
       minus = balance-sum (a .minus) (b .minus);
       winds = a .winds + b .winds;
       earthquakes = a .earthquakes + b .earthquakes;
+      rows = a .rows + b .rows;
       set = a .set + b .set;
     }
 
@@ -83,6 +85,7 @@ terms-of width load place =
       minus = balance-of minus width load;
       winds = is-wind (load .class);
       earthquakes = is-earthquake (load .class);
+      rows = 1;
       set = place;
     }
 
@@ -122,4 +125,5 @@ pub record Room (n : ℕ) (sums : Sums) : Type 0 where
   pub overturning-minus : sums .minus .overturning ≤ n * 2 ^ 34
   pub winds : sums .winds ≤ n
   pub earthquakes : sums .earthquakes ≤ n
+  pub rows : sums .rows ≤ n
   pub set : sums .set ≤ n * 2 ^ 34

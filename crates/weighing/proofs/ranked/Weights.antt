@@ -1,16 +1,10 @@
 -- A rank and a set as one weight: which of two comes first, that the worse of a ranked set and of a set more is one, and how it is offered.
 use mathlib.Core.Path.{_≡_, refl, sym, ap₂, subst}
-use mathlib.Core.Logic.{_⊎_, inl, inr, ⊎-elim}
-use mathlib.Core.Bool.{_&&_, _||_}
+use mathlib.Core.Logic.{inl, inr, ⊎-elim}
 use Prim.Native.Nat.{ℕ, zero, suc, _+_, _*_, _≤_, _<_}
 use native.Mathlib.Omega.{arith}
-use native.Mathlib.Nat.{le-antisymm, le-refl, le-of-lt}
-use native.Mathlib.Decide.{decLe}
-use lib.Dec.{eqb, ltb}
+use native.Mathlib.Nat.{le-antisymm, le-refl}
 use lib.Count.{ones, ones-le}
-use Rattle.arithmetic.proofs.Cases.{by-cases}
-use Rattle.arithmetic.specs.decides.Decides.{Decides}
-use Rattle.arithmetic.proofs.Deciding.{decides-same, decides-both, decides-either, decides-below, decides-equal}
 use Rattle.checks.specs.declared.Figure.{Figure}
 use Rattle.checks.specs.Order.{Side}
 use Rattle.checks.specs.steps.Ranks.{Ranks}
@@ -44,48 +38,6 @@ weight-rank m n s t h p q = omega (arith, tie-order-low s p, tie-order-low t q)
 pub weight-tie-order : (m n s t : ℕ) → m ≡ n → tie-order s ≤ tie-order t → weight m s ≤ weight n t
 unfolding weight
 weight-tie-order m n s t e h = omega arith
-
--- The set s comes before t: t is none, or s has fewer rows, or as many and the smaller number.
-abbrev Before : ℕ → ℕ → Type 0
-Before s t = ((t ≡ 0) ⊎ (ones s < ones t)) ⊎ ((ones s ≡ ones t) × (s < t))
-
-module _ (s : ℕ) (p : 0 < s) (h : s < 65536) where
-  earlier : (t : ℕ) → t < 65536 → Before s t → tie-order s < tie-order t
-  earlier zero k w = omega (arith, tie-order-none, some-low s p h)
-  earlier (suc t) k (inl (inl e)) = absurd (omega arith)
-  earlier (suc t) k (inl (inr e)) = omega (arith, tie-order-some s p, tie-order-some (suc t) (omega arith))
-  earlier (suc t) k (inr e) = omega (arith, tie-order-some s p, tie-order-some (suc t) (omega arith), e .0, e .1)
-
-  before : (t : ℕ) → t < 65536 → tie-order s < tie-order t → Before s t
-  before zero k l = inl (inl refl)
-  before (suc t) k l =
-      let here = tie-order-some s p in
-      let there = tie-order-some (suc t) (omega arith) in
-      by-cases (decLe (suc (ones s)) (ones (suc t))) (λ f. inl (inr f)) (λ f. inr (omega (arith, here, there), omega (arith, here, there)))
-
-  pub before-decides : (t : ℕ) → t < 65536 → Decides ((eqb t 0 || ltb (ones s) (ones t)) || (eqb (ones s) (ones t) && ltb s t)) (tie-order s < tie-order t)
-  before-decides t k =
-      let fewer = decides-either (t ≡ 0) (ones s < ones t) (eqb t 0) (ltb (ones s) (ones t)) (decides-equal t 0) (decides-below (ones s) (ones t)) in
-      let tied = decides-both (ones s ≡ ones t) (s < t) (eqb (ones s) (ones t)) (ltb s t) (decides-equal (ones s) (ones t)) (decides-below s t) in
-      decides-same ((eqb t 0 || ltb (ones s) (ones t)) || (eqb (ones s) (ones t) && ltb s t)) (earlier t k) (before t k)
-      (decides-either ((t ≡ 0) ⊎ (ones s < ones t)) ((ones s ≡ ones t) × (s < t)) (eqb t 0 || ltb (ones s) (ones t)) (eqb (ones s) (ones t) && ltb s t) fewer tied)
-
--- The rank n with the set s comes before the rank m with the set t: by the order of the sets where the ranks are one, or by a lower rank.
-abbrev pub Leads : ℕ → ℕ → ℕ → ℕ → Type 0
-Leads n m s t = ((n ≡ m) × (tie-order s < tie-order t)) ⊎ (n < m)
-
-module _ (n m s t : ℕ) (p : s < 65536) (q : t < 65536) where
-  pub leads-weighs : Leads n m s t → weight n s ≤ weight m t
-  leads-weighs w = ⊎-elim (λ e. weight-tie-order n m s t (e .0) (le-of-lt (e .1))) (λ h. weight-rank n m s t h p q) w
-
-  pub follows-weighs : (Leads n m s t → ⊥) → weight m t ≤ weight n s
-  follows-weighs f =
-      by-cases (decLe (suc m) n) (λ h. weight-rank m n t s h q p)
-      (λ h.
-      let over : n < m → ⊥ = λ k. f (inr k) in
-      let e : n ≡ m = omega (arith, over) in
-      let later : tie-order s < tie-order t → ⊥ = λ k. f (inl (e, k)) in
-      weight-tie-order m n t s (sym e) (omega (arith, later)))
 
 -- ---- the worse of two
 pub worse-of-new : (b : RankedSet) (n s : ℕ) → weight n s ≤ weight-of b → WorseOf b n s (record { rank = n; set = s })

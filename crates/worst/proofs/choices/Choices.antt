@@ -1,20 +1,19 @@
 -- The choices among the rows are the sets whose rows may stand in them: choice k makes the set `pick`, every such set is made by a choice, and the sums of the
 -- choice are those of the set.
 use mathlib.Core.Path.{_≡_, refl, sym, _∙_, ap, ap₂, subst}
-use Prim.Native.Nat.{ℕ, zero, suc, _+_, _*_, _-_, _/_, _%_, _^_, _≤_, _<_}
+use Prim.Native.Nat.{ℕ, zero, suc, _+_, _-_, _^_, _≤_, _<_}
 use native.Mathlib.Omega.{arith}
-use native.Mathlib.Nat.{pow-suc, lt-of-lt-of-le, suc-mul, le-refl, add-zero, add-suc}
-use native.Mathlib.Numerals.{add-one}
-use lib.Pow.{shr-shr, split as parts-of}
+use native.Mathlib.Nat.{pow-suc, lt-of-lt-of-le}
+use lib.Pow.{pow-pos}
 use native.Mathlib.Decide.{decLt}
 use lib.Dec.{lit<}
 use Rattle.arithmetic.proofs.Cases.{by-cases}
 use Rattle.sets.specs.declared.Loads.{Loads}
 use Rattle.sums.specs.declared.Sums.{Sums}
 use Rattle.sets.specs.Sets.{bit, row}
-use Rattle.sums.specs.steps.Sums.{no-sums, add, add-if, terms-of, sums-to, Room}
+use Rattle.sums.specs.steps.Sums.{no-sums, add, add-if, terms-of, sums-to}
 use Rattle.sets.proofs.Bits.{bit-two, bit-above, bit-own, bit-kept}
-use Rattle.sums.proofs.Adding.{add-swap, add-if-in, add-if-out, room-more, room-if}
+use Rattle.sums.proofs.Adding.{add-swap, add-if-in, add-if-out}
 use Rattle.worst.specs.declared.choices.Stance.{Stance}
 use Rattle.worst.specs.declared.choices.Stance.the-variants.{Never, Always, Choosable}
 use Rattle.worst.specs.steps.Stance.{held-by, next, choosable, join, pick, fixed-by, fixed, chosen, row-terms}
@@ -216,57 +215,16 @@ module _ (stance : ℕ → Stance) (width : ℕ) (loads : Loads) (table : ℕ �
       nothing = refl
   pick-sums (suc n) k h = step n k (stance n) refl (λ e. h n (omega arith) e) (pick-sums n k (λ i l. h i (omega arith)))
 
--- ---- a choice, one row more
-pub chosen-none : (first : Sums) (table : ℕ → Sums) (k : ℕ) → first ≡ chosen first table k 0
+-- ---- the choice with no row
+pub chosen-nothing : (first : Sums) (table : ℕ → Sums) (m : ℕ) → chosen first table 0 m ≡ first
 unfolding chosen
-chosen-none first table k = refl
+chosen-nothing first table zero = refl
+chosen-nothing first table (suc m) = add-if-out (chosen first table 0 m) (table m) (bit-above 0 m (pow-pos m)) ∙ chosen-nothing first table m
 
-pub chosen-more : (first : Sums) (table : ℕ → Sums) (k m : ℕ) → chosen first table k (m + 1) ≡ add-if (bit k m) (chosen first table k m) (table m)
-unfolding chosen
-chosen-more first table k m = rw add-one
-
-pub chosen-room : (n : ℕ) (first : Sums) (table : ℕ → Sums) (k m : ℕ) → Room n first → ((j : ℕ) → j < m → Room 1 (table j)) → Room (n + m) (chosen first table k m)
-unfolding chosen
-chosen-room n first table k zero r h = room-more (omega arith) r
-chosen-room n first table k (suc m) r h =
-    room-more (omega arith) (room-if (bit k m) (chosen-room n first table k m r (λ j l. h j (omega arith))) (h m (omega arith)))
-
--- ---- a choice in two parts: the rows from l on first, and then those before
-add-if-swap : (x y : ℕ) (a b c : Sums) → add-if x (add-if y a b) c ≡ add-if y (add-if x a c) b
+-- ---- rows are added in any order
+pub add-if-swap : (x y : ℕ) (a b c : Sums) → add-if x (add-if y a b) c ≡ add-if y (add-if x a c) b
 unfolding add-if
 add-if-swap zero zero a b c = refl
 add-if-swap zero (suc y) a b c = refl
 add-if-swap (suc x) zero a b c = refl
 add-if-swap (suc x) (suc y) a b c = add-swap a b c
-
--- a row more before the others
-chosen-late : (held-by : ℕ) (first row : Sums) (table : ℕ → Sums) (k m : ℕ) → chosen (add-if held-by first row) table k m ≡ add-if held-by (chosen first table k m) row
-unfolding chosen
-chosen-late held-by first row table k zero = refl
-chosen-late held-by first row table k (suc m) =
-    ap (λ (s : Sums). add-if (bit k m) s (table m)) (chosen-late held-by first row table k m) ∙ add-if-swap (bit k m) held-by (chosen first table k m) row (table m)
-
-bits-low : (c h l j : ℕ) → j < l → bit (h * 2 ^ l + c) j ≡ bit c j
-bits-low c zero l j k = ap (λ (n : ℕ). bit n j) (omega arith)
-bits-low c (suc h) l j k =
-    let e : suc h * 2 ^ l + c ≡ (h * 2 ^ l + c) + 2 ^ l = omega (arith, suc-mul h (2 ^ l)) in
-    ap (λ (n : ℕ). bit n j) e ∙ bit-kept (h * 2 ^ l + c) j l k ∙ bits-low c h l j k
-
-chosen-low : (first : Sums) (table : ℕ → Sums) (k l m : ℕ) → m ≤ l → chosen first table (k % 2 ^ l) m ≡ chosen first table k m
-unfolding chosen
-chosen-low first table k l zero h = refl
-chosen-low first table k l (suc m) h =
-    let e : bit (k % 2 ^ l) m ≡ bit k m = sym (bits-low (k % 2 ^ l) (k / 2 ^ l) l m h) ∙ ap (λ (n : ℕ). bit n m) (parts-of k l) in
-    ap₂ (λ (x : ℕ) (s : Sums). add-if x s (table m)) e (chosen-low first table k l m (omega arith))
-
-bit-high : (k l j : ℕ) → bit (k / 2 ^ l) j ≡ bit k (l + j)
-unfolding bit
-bit-high k l j = ap (λ (n : ℕ). n % 2) (shr-shr k l j)
-
-pub chosen-parts : (first : Sums) (table : ℕ → Sums) (k l n : ℕ) → chosen (chosen first (λ j. table (l + j)) (k / 2 ^ l) n) table (k % 2 ^ l) l ≡ chosen first table k (l + n)
-unfolding chosen
-chosen-parts first table k l zero = chosen-low first table k l l (le-refl l) ∙ ap (chosen first table k) (sym (add-zero l))
-chosen-parts first table k l (suc n) =
-    chosen-late (bit (k / 2 ^ l) n) (chosen first (λ j. table (l + j)) (k / 2 ^ l) n) (table (l + n)) table (k % 2 ^ l) l
-    ∙ ap₂ (λ (x : ℕ) (s : Sums). add-if x s (table (l + n))) (bit-high k l n) (chosen-parts first table k l n)
-    ∙ ap (chosen first table k) (sym (add-suc l n))

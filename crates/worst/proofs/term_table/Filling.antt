@@ -1,128 +1,118 @@
--- The table row by row, and how large its rows are; and no second table is meant.
+-- The table row by row, and how large its rows are.
 use mathlib.Core.Path.{_≡_, refl, sym, _∙_, ap, ap₂, subst, subst⁻¹}
 use mathlib.Core.List.{List}
-use mathlib.Core.Logic.{inr}
-use Prim.Native.Nat.{ℕ, zero, suc, _+_, _*_, _/_, _%_, _^_, _≤_, _<_}
+use Prim.Native.Nat.{ℕ, zero, suc, _+_, _*_, _^_, _≤_, _<_}
 use native.Mathlib.Omega.{arith}
 use native.Mathlib.Numerals.{add-one}
-use native.Mathlib.Nat.{lt-of-lt-of-le, add-zero}
+use native.Mathlib.Nat.{lt-of-lt-of-le, pow-suc, mul-comm}
 use native.Mathlib.Decide.{decLt}
-use lib.ListN.{getD, length, replicate, length-replicate}
-use lib.Seq.{ext-getD}
+use lib.ListN.{length}
 use Rattle.arithmetic.proofs.Cases.{impossible, by-cases}
 use Rattle.sets.specs.declared.Combination.{Combination}
 use Rattle.sets.specs.declared.Loads.{Loads}
 use Rattle.sums.specs.declared.Sums.{Sums}
+use Rattle.sums.specs.declared.carried.Carried.{Carried}
 use Rattle.sets.specs.Sets.{row}
 use Rattle.sets.specs.Bounded.{Bounded}
 use Rattle.sums.specs.steps.Sums.{no-sums, add, Room}
+use Rattle.sums.specs.steps.Carried.{shift-by}
 use Rattle.sums.proofs.Adding.{room-none, room-add, room-more, room-row, low-place}
 use Rattle.worst.specs.declared.choices.Stance.{Stance}
 use Rattle.worst.specs.declared.choices.Stance.the-variants.{Never, Always, Choosable}
 use Rattle.worst.specs.steps.Stance.{next, choosable, fixed-by, fixed, row-terms, stance-at}
-use Rattle.worst.proofs.choices.Choices.{next-le, choosable-room}
-use Rattle.worst.specs.steps.Terms.{terms-at, cells, Puts}
+use Rattle.worst.specs.steps.Steps.{step-at, Puts}
+use Rattle.worst.proofs.choices.Choices.{next-le}
 use Rattle.worst.proofs.term_table.Rows.{puts-own, puts-others}
-use Rattle.worst.specs.declared.term_table.TermTable.{TermTable}
-use Rattle.worst.specs.steps.TermTable.{TableIs}
 
--- nothing but zeros
-zeros : (n i : ℕ) → _≡_ {A = ℕ} (getD (replicate n 0) i 0) 0
-zeros zero i = refl
-zeros (suc n) zero = refl
-zeros (suc n) (suc i) = zeros n i
-
--- ---- the table, one row more
--- r is the table with one row more
-pub record Grows (table : TermTable) (stance : Stance) (sums : Sums) (r : TermTable) : Type 0 where
-  pub count : r .choosable ≡ next stance (table .choosable)
-  pub always : r .fixed ≡ fixed-by stance (table .fixed) sums
-  pub own : stance ≡ Choosable → terms-at (r .terms) (table .choosable) ≡ sums
-  pub others : (i : ℕ) → i < table .choosable → terms-at (r .terms) i ≡ terms-at (table .terms) i
-  pub rest : (i : ℕ) → 13 * r .choosable ≤ i → getD (r .terms) i 0 ≡ getD (table .terms) i 0
-  pub size : length (r .terms) ≡ length (table .terms)
-
-never-not : _≡_ {A = Stance} Never Choosable → ⊥
-never-not q = impossible cc
-
-always-not : _≡_ {A = Stance} Always Choosable → ⊥
-always-not q = impossible cc
-
-module _ (table r : TermTable) (sums : Sums) {a : Stance} where
-  -- a row that is not choosable writes no terms
-  unwritten : (b : Stance) → (b ≡ Choosable → ⊥) → a ≡ b → r .terms ≡ table .terms → r .choosable ≡ next b (table .choosable) → r .fixed ≡ fixed-by b (table .fixed) sums → Grows table a sums r
-  unwritten b n e t f s =
-      record {
-        count = f ∙ ap (λ (k : Stance). next k (table .choosable)) (sym e);
-        always = s ∙ ap (λ (k : Stance). fixed-by k (table .fixed) sums) (sym e);
-        own = λ d. absurd (n (sym e ∙ d));
-        others = λ i h. ap (λ (l : List ℕ). terms-at l i) t;
-        rest = λ i h. ap (λ (l : List ℕ). getD l i 0) t;
-        size = ap length t;
-      }
-
-  pub grows-never : a ≡ Never → r .terms ≡ table .terms → r .choosable ≡ table .choosable → r .fixed ≡ table .fixed → Grows table a sums r
-  unfolding next fixed-by
-  grows-never = unwritten Never never-not
-
-  pub grows-always : a ≡ Always → r .terms ≡ table .terms → r .choosable ≡ table .choosable → r .fixed ≡ add (table .fixed) sums → Grows table a sums r
-  unfolding next fixed-by
-  grows-always = unwritten Always always-not
-
-  pub grows-choosable : a ≡ Choosable → Puts (table .terms) (table .choosable) sums (r .terms) → r .choosable ≡ table .choosable + 1 → r .fixed ≡ table .fixed → Grows table a sums r
-  unfolding next fixed-by
-  grows-choosable e p f s =
-      record {
-        count = f ∙ add-one _ ∙ ap (λ (k : Stance). next k (table .choosable)) (sym e);
-        always = s ∙ ap (λ (k : Stance). fixed-by k (table .fixed) sums) (sym e);
-        own = λ _. puts-own p;
-        others = puts-others p;
-        rest = λ i h. p .others i (inr (omega arith));
-        size = p .size;
-      }
+-- a choosable row comes before the number of those up to a later one
+pub choosable-step : (stance : ℕ → Stance) (i n : ℕ) → i < n → stance i ≡ Choosable → choosable stance i < choosable stance n
+unfolding choosable next
+choosable-step stance i zero h e = absurd (omega arith)
+choosable-step stance i (suc n) h e =
+    by-cases (decLt i n) (λ l. lt-of-lt-of-le (choosable-step stance i n l e) (next-le (stance n) (choosable stance n)))
+    (λ l.
+    let d : i ≡ n = omega arith in
+    let f : stance n ≡ Choosable = subst (λ (j : ℕ). stance j ≡ Choosable) d e in
+    subst (λ (j : ℕ). choosable stance j < next (stance n) (choosable stance n)) (sym d)
+    (subst⁻¹ (λ (a : Stance). choosable stance n < next a (choosable stance n)) f (omega arith)))
 
 module _ (combination : Combination) (width : ℕ) (loads : Loads) where
-  pub filled-none : (table : TermTable) → table .terms ≡ replicate 208 0 → table .choosable ≡ 0 → table .fixed ≡ no-sums → TableIs combination width loads 0 table
-  unfolding choosable fixed
-  filled-none table d e f =
-      record {
-        count = e;
-        always = f;
-        rows = λ i h. absurd (omega arith);
-        rest = λ i h. subst⁻¹ (λ (t : List ℕ). getD t i 0 ≡ 0) d (zeros 208 i);
-        size = ap length d ∙ length-replicate {A = ℕ} 208 0;
-      }
+  -- the table of the first n rows: m of them are choosable
+  pub record Filled (n : ℕ) (steps : List ℕ) (m choices : ℕ) (always : Sums) : Type 0 where
+    pub size : length steps ≡ 256
+    pub count : m ≡ choosable (stance-at combination loads) n
+    pub choices-made : choices ≡ 2 ^ m
+    pub always-there : always ≡ fixed (stance-at combination loads) (row-terms width loads) n
+    pub added : (i : ℕ) → i < n → stance-at combination loads i ≡ Choosable → step-at steps (2 * choosable (stance-at combination loads) i) ≡ shift-by (row-terms width loads i) no-sums
+    pub taken : (i : ℕ) → i < n → stance-at combination loads i ≡ Choosable → step-at steps (2 * choosable (stance-at combination loads) i + 1) ≡ shift-by no-sums (row-terms width loads i)
 
-  choosable-step : (i n : ℕ) → i < n → stance-at combination loads i ≡ Choosable → choosable (stance-at combination loads) i < choosable (stance-at combination loads) n
-  unfolding choosable next
-  choosable-step i zero h e = absurd (omega arith)
-  choosable-step i (suc n) h e =
-      by-cases (decLt i n) (λ l. lt-of-lt-of-le (choosable-step i n l e) (next-le (stance-at combination loads n) (choosable (stance-at combination loads) n)))
-      (λ l.
-      let d : i ≡ n = omega arith in
-      let f : stance-at combination loads n ≡ Choosable = subst (λ (j : ℕ). stance-at combination loads j ≡ Choosable) d e in
-      subst (λ (j : ℕ). choosable (stance-at combination loads) j < next (stance-at combination loads n) (choosable (stance-at combination loads) n)) (sym d)
-      (subst⁻¹ (λ (a : Stance). choosable (stance-at combination loads) n < next a (choosable (stance-at combination loads) n)) f (omega arith)))
-
-  pub filled-more : (n : ℕ) {table r : TermTable} {a : Stance} {sums : Sums} → TableIs combination width loads n table → a ≡ stance-at combination loads n → sums ≡ row-terms width loads n
-      → Grows table a sums r → TableIs combination width loads (n + 1) r
+  pub filled-none : (steps : List ℕ) {always : Sums} → length steps ≡ 256 → always ≡ no-sums → Filled 0 steps 0 1 always
   unfolding choosable fixed
-  filled-more n {table} {r} {a} {sums} f e d g =
-      subst⁻¹ (λ (m : ℕ). TableIs combination width loads m r) (add-one n)
-      (record {
-        count = g .count ∙ ap₂ next e (f .count);
-        always = g .always ∙ (λ i. fixed-by (e i) (f .always i) (d i));
-        rows = λ i h s. go i s (decLt i n) (omega arith);
-        rest = λ i h. g .rest i h ∙ f .rest i (omega (arith, h, g .count, next-le a (table .choosable)));
-        size = g .size ∙ f .size;
-      })
-    where
-      go : (i : ℕ) → stance-at combination loads i ≡ Choosable → Dec (i < n) → i ≤ n → terms-at (r .terms) (choosable (stance-at combination loads) i) ≡ row-terms width loads i
-      go i s (yes l) h = g .others (choosable (stance-at combination loads) i) (subst (λ (m : ℕ). choosable (stance-at combination loads) i < m) (sym (f .count)) (choosable-step i n l s)) ∙ f .rows i l s
-      go i s (no l) h =
-          let k : i ≡ n = omega arith in
-          subst (λ (j : ℕ). terms-at (r .terms) (choosable (stance-at combination loads) j) ≡ row-terms width loads j) (sym k)
-          (ap (terms-at (r .terms)) (sym (f .count)) ∙ g .own (e ∙ subst (λ (j : ℕ). stance-at combination loads j ≡ Choosable) k s) ∙ d)
+  filled-none steps l e =
+      record { size = l; count = refl; choices-made = refl; always-there = e; added = λ i h. absurd (omega arith); taken = λ i h. absurd (omega arith) }
+
+  pub filled-as : (n : ℕ) {steps steps' : List ℕ} {m m' choices choices' : ℕ} {always always' : Sums} → Filled n steps m choices always
+      → steps' ≡ steps → m' ≡ m → choices' ≡ choices → always' ≡ always → Filled n steps' m' choices' always'
+  filled-as n f p q r t = rw (p, q, r, t) f
+
+  -- ---- one row more
+  module _ (n : ℕ) {steps : List ℕ} {m choices : ℕ} {always : Sums} (f : Filled n steps m choices always) where
+    -- one that is not choosable is written nowhere
+    unwritten : (a : Stance) → stance-at combination loads n ≡ a → (a ≡ Choosable → ⊥) → {sums : Sums} → next a m ≡ m → sums ≡ fixed-by a always (row-terms width loads n)
+        → Filled (n + 1) steps m choices sums
+    unfolding choosable fixed
+    unwritten a e not {sums} same s =
+        subst⁻¹ (λ (k : ℕ). Filled k steps m choices sums) (add-one n)
+        (record {
+          size = f .size;
+          count = sym same ∙ ap₂ next (sym e) (f .count);
+          choices-made = f .choices-made;
+          always-there = s ∙ ap₂ (λ (k : Stance) (x : Sums). fixed-by k x (row-terms width loads n)) (sym e) (f .always-there);
+          added = λ i h c. f .added i (below i c h) c;
+          taken = λ i h c. f .taken i (below i c h) c;
+        })
+      where
+        below : (i : ℕ) → stance-at combination loads i ≡ Choosable → i < suc n → i < n
+        below i c h =
+            by-cases (decLt i n) (λ l. l)
+            (λ l. let d : i ≡ n = omega arith in absurd (not (sym e ∙ sym (ap (stance-at combination loads) d) ∙ c)))
+
+    pub more-never : stance-at combination loads n ≡ Never → Filled (n + 1) steps m choices always
+    unfolding next fixed-by
+    more-never e = unwritten Never e (λ q. impossible cc) refl refl
+
+    pub more-always : stance-at combination loads n ≡ Always → {sums : Sums} → sums ≡ add always (row-terms width loads n) → Filled (n + 1) steps m choices sums
+    unfolding next fixed-by
+    more-always e s = unwritten Always e (λ q. impossible cc) refl s
+
+    -- one that is choosable is written behind those before it, which stay
+    pub more-choosable : stance-at combination loads n ≡ Choosable → {mid after : List ℕ} {x y : Carried} → x ≡ shift-by (row-terms width loads n) no-sums → y ≡ shift-by no-sums (row-terms width loads n)
+        → Puts steps (2 * m) x mid → Puts mid (2 * m + 1) y after → Filled (n + 1) after (m + 1) (2 * choices) always
+    unfolding choosable fixed next fixed-by
+    more-choosable e {mid} {after} {x} {y} by-x by-y p q =
+        subst⁻¹ (λ (k : ℕ). Filled k after (m + 1) (2 * choices) always) (add-one n)
+        (record {
+          size = q .size ∙ p .size ∙ f .size;
+          count = add-one m ∙ ap₂ next (sym e) (f .count);
+          choices-made = ap (λ (k : ℕ). 2 * k) (f .choices-made) ∙ sym (ap (λ (k : ℕ). 2 ^ k) (add-one m) ∙ pow-suc 2 m ∙ mul-comm (2 ^ m) 2);
+          always-there = f .always-there ∙ ap (λ (k : Stance). fixed-by k (fixed (stance-at combination loads) (row-terms width loads) n) (row-terms width loads n)) (sym e);
+          added = λ i h c. by-cases (decLt i n) (λ l. earlier (2 * choosable (stance-at combination loads) i) (omega (arith, place i l c)) ∙ f .added i l c)
+              (λ l. own i (omega arith) (puts-others q (2 * m) (omega arith) ∙ puts-own p ∙ by-x));
+          taken = λ i h c. by-cases (decLt i n) (λ l. earlier (2 * choosable (stance-at combination loads) i + 1) (omega (arith, place i l c)) ∙ f .taken i l c)
+              (λ l. own-taken i (omega arith) (puts-own q ∙ by-y));
+        })
+      where
+        place : (i : ℕ) → i < n → stance-at combination loads i ≡ Choosable → choosable (stance-at combination loads) i < m
+        place i l c = subst⁻¹ (λ (k : ℕ). choosable (stance-at combination loads) i < k) (f .count) (choosable-step (stance-at combination loads) i n l c)
+
+        earlier : (k : ℕ) → k < 2 * m → step-at after k ≡ step-at steps k
+        earlier k h = puts-others q k (omega arith) ∙ puts-others p k h
+
+        own : (i : ℕ) → i ≡ n → step-at after (2 * m) ≡ shift-by (row-terms width loads n) no-sums → step-at after (2 * choosable (stance-at combination loads) i) ≡ shift-by (row-terms width loads i) no-sums
+        own i d w = rw (d, ← f .count) w
+
+        own-taken : (i : ℕ) → i ≡ n → step-at after (2 * m + 1) ≡ shift-by no-sums (row-terms width loads n) → step-at after (2 * choosable (stance-at combination loads) i + 1) ≡ shift-by no-sums (row-terms width loads i)
+        own-taken i d w = rw (d, ← f .count) w
 
   -- ---- sizes
   module _ (wide : width ≤ 30000) (b : Bounded loads) where
@@ -143,7 +133,7 @@ module _ (combination : Combination) (width : ℕ) (loads : Loads) where
         fixed-room-by (stance-at combination loads n) n _ _ (fixed-room n (omega arith)) (terms-room n (omega arith))
 
 -- every place of the table that is in use is that of a choosable row
-choosable-onto : (stance : ℕ → Stance) (n j : ℕ) → j < choosable stance n → (i : ℕ) × (i < n) × (stance i ≡ Choosable) × (choosable stance i ≡ j)
+pub choosable-onto : (stance : ℕ → Stance) (n j : ℕ) → j < choosable stance n → (i : ℕ) × (i < n) × (stance i ≡ Choosable) × (choosable stance i ≡ j)
 unfolding choosable next
 choosable-onto stance zero j h = absurd (omega arith)
 choosable-onto stance (suc n) j h = go (stance n) refl (λ l. choosable-onto stance n j l) h
@@ -158,58 +148,3 @@ choosable-onto stance (suc n) j h = go (stance n) refl (λ l. choosable-onto sta
     go Never e before l = below (before l)
     go Always e before l = below (before l)
     go Choosable e before l = by-cases (decLt j (choosable stance n)) (λ k. below (before k)) (λ k. (n, omega arith, e, omega arith))
-
-pub filled-room : (combination : Combination) (width : ℕ) (loads : Loads) (table : TermTable) → width ≤ 30000 → Bounded loads → TableIs combination width loads (loads .count) table
-    → (j : ℕ) → j < table .choosable → Room 1 (terms-at (table .terms) j)
-filled-room combination width loads table w b f j h =
-    let i = choosable-onto (stance-at combination loads) (loads .count) j (subst (λ (m : ℕ). j < m) (f .count) h) in
-    subst (λ (x : ℕ). Room 1 (terms-at (table .terms) x)) (i .3) (subst⁻¹ (Room 1) (f .rows (i .0) (i .1) (i .2)) (terms-room combination width loads w b (i .0) (i .1)))
-
-pub filled-few : (combination : Combination) (width : ℕ) (loads : Loads) (table : TermTable) → Bounded loads → TableIs combination width loads (loads .count) table → table .choosable ≤ 16
-filled-few combination width loads table b f = omega (arith, f .count, choosable-room (stance-at combination loads) (loads .count), b .count)
-
--- ---- no second table meets the promise of `table_of`
-
--- the numbers of a row are read from its place
-row-cells : (t : List ℕ) (j g : ℕ) → g < 13 → getD t (13 * j + g) 0 ≡ getD (cells (terms-at t j)) g 0
-unfolding cells terms-at
-row-cells t j zero h = ap (λ (n : ℕ). getD t n 0) (add-zero (13 * j))
-row-cells t j (suc zero) h = refl
-row-cells t j (suc (suc zero)) h = refl
-row-cells t j (suc (suc (suc zero))) h = refl
-row-cells t j (suc (suc (suc (suc zero)))) h = refl
-row-cells t j (suc (suc (suc (suc (suc zero))))) h = refl
-row-cells t j (suc (suc (suc (suc (suc (suc zero)))))) h = refl
-row-cells t j (suc (suc (suc (suc (suc (suc (suc zero))))))) h = refl
-row-cells t j (suc (suc (suc (suc (suc (suc (suc (suc zero)))))))) h = refl
-row-cells t j (suc (suc (suc (suc (suc (suc (suc (suc (suc zero))))))))) h = refl
-row-cells t j (suc (suc (suc (suc (suc (suc (suc (suc (suc (suc zero)))))))))) h = refl
-row-cells t j (suc (suc (suc (suc (suc (suc (suc (suc (suc (suc (suc zero))))))))))) h = refl
-row-cells t j (suc (suc (suc (suc (suc (suc (suc (suc (suc (suc (suc (suc zero)))))))))))) h = refl
-row-cells t j (suc (suc (suc (suc (suc (suc (suc (suc (suc (suc (suc (suc (suc g))))))))))))) h = absurd (omega arith)
-
-module _ (combination : Combination) (width : ℕ) (loads : Loads) (n : ℕ) {s t : TermTable} (p : TableIs combination width loads n s) (q : TableIs combination width loads n t) where
-  as-many : s .choosable ≡ t .choosable
-  as-many = p .count ∙ sym (q .count)
-
-  same-row : (j : ℕ) → j < s .choosable → terms-at (s .terms) j ≡ terms-at (t .terms) j
-  same-row j h =
-      let i = choosable-onto (stance-at combination loads) n j (subst (λ (m : ℕ). j < m) (p .count) h) in
-      subst (λ (x : ℕ). terms-at (s .terms) x ≡ terms-at (t .terms) x) (i .3) (p .rows (i .0) (i .1) (i .2) ∙ sym (q .rows (i .0) (i .1) (i .2)))
-
-  same-number : (i : ℕ) → Dec (i < 13 * s .choosable) → getD (s .terms) i 0 ≡ getD (t .terms) i 0
-  same-number i (no h) = p .rest i (omega arith) ∙ sym (q .rest i (omega (arith, as-many)))
-  same-number i (yes h) =
-      let e : 13 * (i / 13) + i % 13 ≡ i = omega arith in
-      subst (λ (m : ℕ). getD (s .terms) m 0 ≡ getD (t .terms) m 0) e
-      (row-cells (s .terms) (i / 13) (i % 13) (omega arith)
-      ∙ ap (λ (r : Sums). getD (cells r) (i % 13) 0) (same-row (i / 13) (omega arith))
-      ∙ sym (row-cells (t .terms) (i / 13) (i % 13) (omega arith)))
-
-  pub filled-one : s ≡ t
-  filled-one =
-      λ i. record {
-        terms = ext-getD 0 (s .terms) (t .terms) (p .size ∙ sym (q .size)) (λ k _. same-number k (decLt k (13 * s .choosable))) i;
-        choosable = as-many i;
-        fixed = (p .always ∙ sym (q .always)) i;
-      }

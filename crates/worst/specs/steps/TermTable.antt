@@ -1,18 +1,18 @@
--- What `table_of` answers: the table of a combination's rows, as the program holds it: 13 numbers for each choosable row, and the sums of the rows in every set.
+-- What `table_of` answers: the table of a combination's rows, as the program holds it: what each choosable row adds and takes away, and the sums of the rows in every set.
 use mathlib.Core.Path.{_≡_}
-use Prim.Native.Nat.{ℕ, _*_, _≤_, _<_}
-use lib.ListN.{getD, length}
+use Prim.Native.Nat.{ℕ, _+_, _*_, _^_, _<_}
 use Rattle.sets.specs.declared.Combination.{Combination}
 use Rattle.sets.specs.declared.Loads.{Loads}
+use Rattle.sums.specs.steps.Sums.{no-sums}
+use Rattle.sums.specs.steps.Carried.{shift-by}
 use Rattle.worst.specs.declared.choices.Stance.the-variants.{Choosable}
 use Rattle.worst.specs.steps.Stance.{choosable, fixed, row-terms, stance-at}
-use Rattle.worst.specs.steps.Terms.{terms-at}
+use Rattle.worst.specs.steps.Steps.{step-at}
 use Rattle.worst.specs.declared.term_table.TermTable.{TermTable}
 
--- the table of the first n rows: each choosable one at the place that is the number of choosable rows before it, and 0 past the last
-pub record TableIs (combination : Combination) (width : ℕ) (loads : Loads) (n : ℕ) (table : TermTable) : Type 0 where
-  pub count : table .choosable ≡ choosable (stance-at combination loads) n
-  pub always : table .fixed ≡ fixed (stance-at combination loads) (row-terms width loads) n
-  pub rows : (i : ℕ) → i < n → stance-at combination loads i ≡ Choosable → terms-at (table .terms) (choosable (stance-at combination loads) i) ≡ row-terms width loads i
-  pub rest : (i : ℕ) → 13 * table .choosable ≤ i → getD (table .terms) i 0 ≡ 0
-  pub size : length (table .terms) ≡ 208
+-- each choosable row at the place that is the number of choosable rows before it: an entry for each way
+pub record TableIs (combination : Combination) (width : ℕ) (loads : Loads) (table : TermTable) : Type 0 where
+  pub choices : table .choices ≡ 2 ^ choosable (stance-at combination loads) (loads .count)
+  pub first : table .first ≡ shift-by (fixed (stance-at combination loads) (row-terms width loads) (loads .count)) no-sums
+  pub added : (i : ℕ) → i < loads .count → stance-at combination loads i ≡ Choosable → step-at (table .steps) (2 * choosable (stance-at combination loads) i) ≡ shift-by (row-terms width loads i) no-sums
+  pub taken : (i : ℕ) → i < loads .count → stance-at combination loads i ≡ Choosable → step-at (table .steps) (2 * choosable (stance-at combination loads) i + 1) ≡ shift-by no-sums (row-terms width loads i)

@@ -163,6 +163,7 @@ returns c =
       minus = minus-is d;
       winds = winds-is (c .before .before);
       earthquakes = sym (ap is-earthquake (c .enum-told2 .given .1));
+      rows = refl;
       set = refl;
     })
 
@@ -178,6 +179,7 @@ returns-2 c =
       minus = minus-is d;
       winds = winds-is (c .before);
       earthquakes = earthquakeless (load d .class) (c .match2 .keys2);
+      rows = refl;
       set = refl;
     })
 

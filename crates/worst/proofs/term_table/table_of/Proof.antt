@@ -2,66 +2,70 @@
 -- behind the choosable rows before it, which stay.
 use borrow.Author.Needs.{needs}
 use native.Mathlib.Omega.{arith}
-use mathlib.Core.Path.{_≡_, refl, _∙_, ap, subst, subst⁻¹}
+use mathlib.Core.Path.{_≡_, sym, _∙_, ap, ap₂, subst, subst⁻¹}
 use mathlib.Core.Logic.{⊎-elim}
 use native.Mathlib.Nat.{le-antisymm}
-use Prim.Native.Nat.{ℕ, _-_, _^_, _≤_, _<_}
+use lib.ListN.{length-replicate}
+use Prim.Native.Nat.{ℕ, _+_, _-_, _^_, _≤_, _<_}
 use Rattle.sets.specs.Sets.{row}
-use Rattle.sums.specs.steps.Sums.{terms-of, Room}
+use Rattle.sums.specs.steps.Sums.{no-sums, add, terms-of, Room}
+use Rattle.sums.specs.steps.Carried.{shift-by}
 use Rattle.sets.proofs.Bits.{next-place}
-use Rattle.sums.proofs.Adding.{room-more, low-place}
+use Rattle.sums.proofs.Adding.{room-none, room-more, low-place}
 use Rattle.worst.specs.steps.Stance.{stance-at, row-terms}
-use Rattle.worst.specs.steps.Terms.{Puts}
-use Rattle.worst.specs.steps.TermTable.{TableIs}
 use Rattle.worst.proofs.choices.Choices.{choosable-room}
-use Rattle.worst.proofs.term_table.Filling.{Grows, filled-none, filled-more, grows-never, grows-always, grows-choosable, terms-room, fixed-room}
+use Rattle.worst.proofs.term_table.Filling.{Filled, filled-none, filled-as, more-never, more-always, more-choosable, terms-room, fixed-room}
 use Rattle.worst.proofs.term_table.table_of.Statement.{statement}
 use Rattle.worst.proofs.term_table.table_of.Tie as tie
 
 abbrev Inv-loop : tie.InvT-loop
-Inv-loop combination width loads count terms₀ choosable₀ fixed₀ place₀ i₀ terms choosable fixed place i = (i ≤ count) × (place ≡ 2 ^ i)
-    × TableIs combination width loads i (record { terms = terms; choosable = choosable; fixed = fixed })
+Inv-loop combination width loads count none steps₀ choosable₀ choices₀ fixed₀ place₀ i₀ steps choosable choices fixed place i = (i ≤ count) × (place ≡ 2 ^ i)
+    × Filled combination width loads i steps choosable choices fixed
 
 abbrev μ-loop : tie.MeasureT-loop
-μ-loop combination width loads count terms₀ choosable₀ fixed₀ place₀ i₀ terms choosable fixed place i = count - i
+μ-loop combination width loads count none steps₀ choosable₀ choices₀ fixed₀ place₀ i₀ steps choosable choices fixed place i = count - i
 
--- there is room for one row more
+none-room : (c : tie.After-no-sums Inv-loop μ-loop) → Room 16 (c .no-sums .result)
+none-room c = subst⁻¹ (Room 16) (c .no-sums .ensures) (room-none 16)
+
 module _ (c : tie.After-terms-of Inv-loop μ-loop) where
-  unfilled : c .before .before .before .before .loop .choosable < 16
+  abbrev start : tie.Start Inv-loop μ-loop
+  start = c .before .before .before .before .before .before
+
+  abbrev turn : tie.At-loop Inv-loop μ-loop
+  turn = c .before .before .before .before
+
+  -- there is room for one row more
+  unfilled : turn .loop .choosable < 16
   unfilled =
-      let e = c .before .before .before .before .before .before in
-      let i = c .before .before .before .before .loop .i in
-      omega (arith, e .pre .1 .count, c .before .before .before .loop-test .taken, c .before .before .before .before .loop .inv .2 .count, choosable-room (stance-at (e .args .combination) (e .args .t3)) i)
+      omega (arith, start .pre .1 .count, c .before .before .before .loop-test .taken, turn .loop .inv .2 .count, choosable-room (stance-at (start .args .combination) (start .args .t3)) (turn .loop .i))
 
-  fixed-fits : Room 64 (c .before .before .before .before .loop .fixed)
-  fixed-fits =
-      let e = c .before .before .before .before .before .before in
-      let inv = c .before .before .before .before .loop .inv in
-      let n : c .before .before .before .before .loop .i ≤ 15 = omega (arith, e .pre .1 .count, c .before .before .before .loop-test .taken) in
-      subst⁻¹ (Room 64) (inv .2 .always) (room-more (omega arith) (fixed-room _ _ _ (e .pre .0) (e .pre .1) _ (inv .0)))
+  low : turn .loop .i ≤ 15
+  low = omega (arith, start .pre .1 .count, c .before .before .before .loop-test .taken)
 
-  sums-fit : Room 64 (c .terms-of .result)
+  fixed-fits : Room 64 (turn .loop .fixed)
+  fixed-fits = subst⁻¹ (Room 64) (turn .loop .inv .2 .always-there) (room-more (omega (arith, low)) (fixed-room _ _ _ (start .pre .0) (start .pre .1) _ (turn .loop .inv .0)))
+
+  -- what the row gives, and what it is to the sets
+  row-is : c .terms-of .result ≡ row-terms (start .args .width) (start .args .t3) (turn .loop .i)
   unfolding row row-terms
-  sums-fit =
-      let e = c .before .before .before .before .before .before in
-      let inv = c .before .before .before .before .loop .inv in
-      subst⁻¹ (Room 64) (c .terms-of .ensures ∙ ap (terms-of _ _) (inv .1)) (room-more (omega arith) (terms-room (e .args .combination) _ _ (e .pre .0) (e .pre .1) _ (c .before .before .before .loop-test .taken)))
+  row-is = c .terms-of .ensures ∙ ap (terms-of _ _) (turn .loop .inv .1)
 
--- the table with the row, whichever way it stands
-grows : (c : tie.At-match-came Inv-loop μ-loop)
-    → let l = c .before .before .before .before .before .loop in
-    Grows (record { terms = l .terms; choosable = l .choosable; fixed = l .fixed }) (c .before .before .stance-of .result) (c .before .terms-of .result) (record { terms = c .match .terms; choosable = c .match .choosable; fixed = c .match .fixed })
-grows c =
-    let l = c .before .before .before .before .before .loop in
-    ⊎-elim (λ w. grows-never _ _ _ (w .1 .given .1) (w .2) (w .3) (w .4))
-    (⊎-elim (λ w. grows-always _ _ _ (w .1 .given .1) (w .3) (w .4) (w .5 ∙ w .2 .ensures))
-    (λ w. grows-choosable _ _ _ (w .1 .given .1) (subst⁻¹ (Puts (l .terms) (l .choosable) (c .before .terms-of .result)) (w .3) (w .2 .ensures)) (w .4) (w .5))) (c .match .came)
+  stance-is : c .before .stance-of .result ≡ stance-at (start .args .combination) (start .args .t3) (turn .loop .i)
+  unfolding row stance-at
+  stance-is = c .before .stance-of .ensures
+
+  row-room : Room 1 (c .terms-of .result)
+  row-room = subst⁻¹ (Room 1) row-is (terms-room (start .args .combination) _ _ (start .pre .0) (start .pre .1) _ (c .before .before .before .loop-test .taken))
+
+  row-fits : Room 16 (c .terms-of .result)
+  row-fits = room-more (omega arith) row-room
 
 no-sums-requires : tie.Need-no-sums-requires Inv-loop μ-loop
 no-sums-requires c κs = search needs
 
 loop-holds : tie.Need-loop-holds Inv-loop μ-loop
-loop-holds c = (search needs, omega arith, filled-none _ _ _ _ refl refl (c .no-sums .ensures))
+loop-holds c = (search needs, omega arith, filled-none _ _ _ _ (length-replicate {A = ℕ} 256 0) (c .no-sums .ensures))
 
 mul-load : tie.Need-mul-load Inv-loop μ-loop
 mul-load c = omega (arith, c .before .before .before .pre .1 .count)
@@ -85,43 +89,89 @@ enum-told-2 : tie.Need-enum-told-2 Inv-loop μ-loop
 enum-told-2 c = search needs
 
 add-sums-requires : tie.Need-add-sums-requires Inv-loop μ-loop
-add-sums-requires c κs = (fixed-fits (c .before .before), sums-fit (c .before .before))
+add-sums-requires c κs = (fixed-fits (c .before .before), room-more (omega arith) (row-room (c .before .before)))
 
 enum-told-3 : tie.Need-enum-told-3 Inv-loop μ-loop
 enum-told-3 c = search needs
 
-put-terms-requires : tie.Need-put-terms-requires Inv-loop μ-loop
-put-terms-requires c κs = unfilled (c .before .before)
+shift-of-requires : tie.Need-shift-of-requires Inv-loop μ-loop
+shift-of-requires c κs = let d = c .before .before in search (row-fits d, none-room ((turn d) .before))
+
+shift-of-requires-2 : tie.Need-shift-of-requires-2 Inv-loop μ-loop
+shift-of-requires-2 c κs = let d = c .before .before .before in search (row-fits d, none-room ((turn d) .before))
+
+mul-put-step : tie.Need-mul-put-step Inv-loop μ-loop
+mul-put-step c = omega (arith, unfilled (c .before .before .before .before .before))
+
+put-step-requires : tie.Need-put-step-requires Inv-loop μ-loop
+put-step-requires c κs = let d = c .before .before .before .before .before in (omega (arith, unfilled d), (turn d) .loop .inv .2 .size)
+
+mul-put-step-2 : tie.Need-mul-put-step-2 Inv-loop μ-loop
+mul-put-step-2 c = omega (arith, unfilled (c .before .before .before .before .before .before .before))
+
+add-put-step : tie.Need-add-put-step Inv-loop μ-loop
+add-put-step c = omega (arith, unfilled (c .before .before .before .before .before .before .before))
+
+put-step-requires-2 : tie.Need-put-step-requires-2 Inv-loop μ-loop
+put-step-requires-2 c κs =
+    let d = c .before .before .before .before .before .before .before in
+    (omega (arith, unfilled d), c .before .put-step .ensures .size ∙ (turn d) .loop .inv .2 .size)
 
 add-choosable : tie.Need-add-choosable Inv-loop μ-loop
-add-choosable c = omega (arith, unfilled (c .before .before .before))
+add-choosable c = omega (arith, unfilled (c .before .before .before .before .before .before .before .before))
+
+mul-choices : tie.Need-mul-choices Inv-loop μ-loop
+mul-choices c =
+    let d = c .before .before .before .before .before .before .before .before in
+    let f = (turn d) .loop .inv .2 in
+    omega (arith, f .choices-made, low-place ((turn d) .loop .choosable) (omega (arith, unfilled d)))
 
 mul-place : tie.Need-mul-place Inv-loop μ-loop
 mul-place c =
-    let l = c .before .before .before .before .before .loop in
-    let n : l .i ≤ 16 = omega (arith, c .before .before .before .before .before .before .before .pre .1 .count, c .before .before .before .before .loop-test .taken) in
-    omega (arith, l .inv .1, low-place (l .i) n)
+    let d = c .before in
+    omega (arith, (turn d) .loop .inv .1, low-place ((turn d) .loop .i) (omega (arith, low d)))
 
 add-i : tie.Need-add-i Inv-loop μ-loop
-add-i c = omega (arith, c .before .before .before .before .before .before .before .pre .1 .count)
+add-i c = omega (arith, low (c .before))
 
 loop-less : tie.Need-loop-less Inv-loop μ-loop
 loop-less c = omega arith
 
+-- the table with the row, whichever way it stands
+grows : (c : tie.At-match-came Inv-loop μ-loop) → let d = c .before in
+    Filled ((start d) .args .combination) ((start d) .args .width) ((start d) .args .t3) ((turn d) .loop .i + 1) (c .match .steps) (c .match .choosable) (c .match .choices) (c .match .fixed)
+grows c =
+    let d = c .before in
+    let f = (turn d) .loop .inv .2 in
+    let none-is = (turn d) .before .no-sums .ensures in
+    ⊎-elim (λ w. filled-as _ _ _ _ (more-never _ _ _ _ f (sym (stance-is d) ∙ w .1 .given .1)) (w .2) (w .3) (w .4) (w .5))
+    (⊎-elim (λ w. filled-as _ _ _ _ (more-always _ _ _ _ f (sym (stance-is d) ∙ w .1 .given .1) (w .2 .ensures ∙ ap (add _) (row-is d))) (w .3) (w .4) (w .5) (w .6))
+    (λ w.
+    filled-as _ _ _ _
+    (more-choosable _ _ _ _ f (sym (stance-is d) ∙ w .1 .given .1) (w .2 .ensures ∙ ap₂ shift-by (row-is d) none-is) (w .3 .ensures ∙ ap₂ shift-by none-is (row-is d)) (w .5 .ensures) (w .7 .ensures))
+    (w .8) (w .9) (w .10) (w .11))) (c .match .came)
+
 loop-again : tie.Need-loop-again Inv-loop μ-loop
-unfolding row stance-at row-terms
-loop-again c =
-    let inv = c .before .before .before .before .before .loop .inv in (
-      omega arith,
-      next-place _ _ (inv .1),
-      filled-more _ _ _ _ (inv .2) (c .before .before .stance-of .ensures) (c .before .terms-of .ensures ∙ ap (terms-of _ _) (inv .1)) (grows c),
-    )
+loop-again c = (omega arith, next-place _ _ ((turn (c .before)) .loop .inv .1), grows c)
+
+shift-of-requires-3 : tie.Need-shift-of-requires-3 Inv-loop μ-loop
+shift-of-requires-3 c κs =
+    let e = c .before .before .before in
+    let f = c .before .loop .inv in
+    (subst⁻¹ (Room 16) (f .2 .always-there) (room-more (omega (arith, e .pre .1 .count, f .0)) (fixed-room _ _ _ (e .pre .0) (e .pre .1) _ (f .0))), none-room (c .before .before))
 
 returns : tie.Need-returns Inv-loop μ-loop
 returns c =
-    let l = c .before .loop in
-    let e = c .before .before .before .args in
-    subst (λ (n : ℕ). TableIs (e .combination) (e .width) (e .t3) n (record { terms = l .terms; choosable = l .choosable; fixed = l .fixed })) (le-antisymm (l .inv .0) (c .loop-test .left)) (l .inv .2)
+    let d = c .before in
+    let e = d .before .before .before in
+    let f = subst (λ (n : ℕ). Filled (e .args .combination) (e .args .width) (e .args .t3) n (d .before .loop .steps) (d .before .loop .choosable) (d .before .loop .choices) (d .before .loop .fixed))
+    (le-antisymm (d .before .loop .inv .0) (d .loop-test .left)) (d .before .loop .inv .2) in
+    record {
+      choices = f .choices-made ∙ ap (λ (n : ℕ). 2 ^ n) (f .count);
+      first = c .shift-of3 .ensures ∙ ap₂ shift-by (f .always-there) (d .before .before .no-sums .ensures);
+      added = f .added;
+      taken = f .taken;
+    }
 
 pub table-of-spec : {M : Type 1} → statement M
 table-of-spec =
@@ -139,10 +189,18 @@ table-of-spec =
     enum-told-2
     add-sums-requires
     enum-told-3
-    put-terms-requires
+    shift-of-requires
+    shift-of-requires-2
+    mul-put-step
+    put-step-requires
+    mul-put-step-2
+    add-put-step
+    put-step-requires-2
     add-choosable
+    mul-choices
     mul-place
     add-i
     loop-less
     loop-again
+    shift-of-requires-3
     returns)

@@ -1,0 +1,2 @@
+-- The laws of bounds. Other crates' proofs cite them.
+pub mod Bounding

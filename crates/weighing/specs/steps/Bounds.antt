@@ -1,0 +1,58 @@
+-- What the functions of `bounds` answer: the bounds of the worst so far, and which sets are within them.
+use mathlib.Core.Bool.{Bool, true, false, cond}
+use Prim.Native.Nat.{ℕ, _+_, _*_, _-_, _/_, _^_, _≤_, _<_}
+use lib.Dec.{ltb}
+use Rattle.sums.specs.declared.carried.Carried.{Carried}
+use Rattle.sums.specs.steps.Carried.{over-zero, size}
+use Rattle.checks.specs.declared.Base.{Base}
+use Rattle.weighing.specs.declared.ranked.RankedSet.{RankedSet}
+use Rattle.weighing.specs.declared.bounds.Bound.{Bound}
+use Rattle.weighing.specs.declared.bounds.Bounds.{Bounds}
+use Rattle.weighing.specs.declared.Worst.{Worst}
+use Rattle.weighing.specs.steps.Ranked.{tie-order}
+
+unfoldable pub later : ℕ → ℕ → ℕ
+later a b = cond (ltb a b) b a
+
+unfoldable pub bound-of : Bool → ℕ → ℕ → ℕ → Bound
+bound-of false by of rank = record { by = 0; of = 0 }
+bound-of true by of rank = cond (ltb rank 16777216) (record { by = by * (rank + 1); of = of }) (record { by = 1; of = 0 })
+
+unfoldable pub tied-from : Bool → RankedSet → ℕ
+tied-from false worst = 0
+tied-from true worst = cond (ltb (worst .rank) (2 ^ 64 - 1)) 0 (65536 * tie-order (worst .set))
+
+unfoldable pub number-below : ℕ → ℕ → ℕ
+number-below most rank = cond (ltb most (2 ^ 64 - 1 - rank)) most (2 ^ 64 - 1 - rank - 1)
+
+unfoldable pub lean-of : Bool → ℕ → ℕ
+lean-of false rank = 332
+lean-of true rank = 2 * number-below 166 rank
+
+unfoldable pub bounds-of : Bool → Base → Worst → Bounds
+bounds-of serves base worst =
+    record {
+      op = bound-of serves 1 100 (worst .op .rank);
+      om = bound-of serves 1 100 (worst .om .rank);
+      sl = bound-of serves 10 (base .friction) (worst .sl .rank);
+      press = number-below 262144 (worst .pr .rank) * (base .width * base .width * base .length) / 1000000;
+      lean = lean-of (base .rock) (worst .rk .rank);
+      first = later (later (tied-from serves (worst .op)) (tied-from serves (worst .om))) (later (tied-from serves (worst .sl)) (tied-from (base .rock) (worst .rk)));
+    }
+
+-- a set is within the bounds
+pub record Within (width : ℕ) (bounds : Bounds) (c : Carried) : Type 0 where
+  pub n : 0 < over-zero (c .n)
+  pub lean : 1000 * size (c .m) ≤ bounds .lean * (over-zero (c .n) * width)
+  pub press : over-zero (c .n) * width + 3 * size (c .m) ≤ bounds .press
+  pub sl : bounds .sl .by * size (c .h) ≤ bounds .sl .of * over-zero (c .n)
+  pub op : bounds .op .by * c .plus .overturning ≤ bounds .op .of * c .plus .resisting
+  pub om : bounds .om .by * c .minus .overturning ≤ bounds .om .of * c .minus .resisting
+  pub first : bounds .first ≤ c .key
+
+-- bounds by which every product fits a word
+pub record Fitting (bounds : Bounds) : Type 0 where
+  pub op : (bounds .op .by ≤ 2 ^ 24) × (bounds .op .of ≤ 1000)
+  pub om : (bounds .om .by ≤ 2 ^ 24) × (bounds .om .of ≤ 1000)
+  pub sl : (bounds .sl .by ≤ 10 * 2 ^ 24) × (bounds .sl .of ≤ 1000)
+  pub lean : bounds .lean ≤ 332

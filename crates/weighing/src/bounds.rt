@@ -1,0 +1,157 @@
+// The bounds within which a set is no worse than the worst so far in any check (document 01, Load sets).
+//
+// Nearly every set of a search is plainly no worse, and is seen to be so by a few products: what it is to be worse is multiplied out once
+// for each worst so far, and not divided for each set. What is hard is that a set within the bounds is never one that a line would name:
+// neither a worse figure nor the first of a tie.
+use crate::Worst;
+use crate::ranked;
+use crate::ranked::RankedSet;
+use checks::Base;
+use checks::TOP;
+use sums::carried::Carried;
+ghost use mathlib.Core.Path.{_≡_};
+ghost use Prim.Native.Nat.{_≤_, _<_};
+ghost use Rattle.arithmetic.specs.decides.Decides.{Decides};
+ghost use Rattle.checks.specs.Sized.{Sized};
+ghost use Rattle.weighing.specs.steps.Weighs.{Low, Light};
+ghost use Rattle.weighing.specs.steps.Bounds.{later, bound-of, tied-from, number-below, lean-of, bounds-of, Fitting, Within};
+
+// A set is within a bound where `by` times what counts against it is at most `of` times what counts for it.
+pub struct Bound {
+    pub by: u64,
+    pub of: u64,
+}
+
+// The bounds of each check, and the key from which on a set that ties comes no earlier than the worst so far.
+pub struct Bounds {
+    pub op: Bound,
+    pub om: Bound,
+    pub sl: Bound,
+    pub press: u64,
+    pub lean: u64,
+    pub first: u64,
+}
+
+// Up to here a figure so far of OP, OM or SL is multiplied out; one past it is a bound for "none" alone.
+const MULTIPLIED_OUT: u64 = 16_777_216;
+
+// Up to here a figure so far of PR is multiplied out, in kN/m²; one past it bounds as this does.
+const MOST_PRESSED: u64 = 262_144;
+
+// Up to here one of RK, in thousandths: a base that leans no more is pressed whole, whose rule of PR is the one that is multiplied out.
+const MOST_LEANED: u64 = 166;
+
+// The mm² of 1 m²: lengths are in mm, and the pressure in kN/m².
+const SQUARE_METRE: u64 = 1_000_000;
+
+// The greater of two.
+fn later(a: u64, b: u64) -> u64
+    ensures { λ r. ⌜ r ≡ later a b ⌝ }
+{
+    if a < b { b } else { a }
+}
+
+// The bound of a check whose lowest figure is the worst, where it is weighed: a figure of so many times by over of.
+fn bound_of(weighed: bool, by: u64, of: u64, rank: u64) -> Bound
+    requires { ⌜ by ≤ 10 ⌝ }
+    ensures { λ r. ⌜ r ≡ bound-of weighed by of rank ⌝ }
+{
+    if !weighed {
+        return Bound { by: 0, of: 0 };
+    }
+    if rank < MULTIPLIED_OUT {
+        return Bound {
+            by: by * (rank + 1),
+            of,
+        };
+    }
+    Bound { by: 1, of: 0 }
+}
+
+// The key from which on a set that shows the same comes no earlier, where that is a figure within the bounds: the last of all ranks.
+fn tied_from(weighed: bool, worst: RankedSet) -> u64
+    requires { ⌜ worst .set < 65536 ⌝ }
+    ensures { λ r. ⌜ r ≡ tied-from weighed worst ⌝ }
+{
+    if !weighed {
+        return 0;
+    }
+    if worst.rank < TOP {
+        return 0;
+    }
+    65536 * ranked::tie_order(worst.set)
+}
+
+// The number below the figure of a rank of PR or RK, and at most this.
+fn number_below(most: u64, rank: u64) -> u64
+    ensures { λ r. ⌜ r ≡ number-below most rank ⌝ }
+{
+    let shown = TOP - rank;
+    if most < shown {
+        return most;
+    }
+    arithmetic::signed::excess(shown, 1)
+}
+
+// The bound of RK, in half thousandths.
+fn lean_of(rock: bool, rank: u64) -> u64
+    ensures { λ r. ⌜ r ≡ lean-of rock rank ⌝ }
+{
+    if rock {
+        return 2 * number_below(MOST_LEANED, rank);
+    }
+    2 * MOST_LEANED
+}
+
+// The bounds of the worst so far.
+pub fn bounds_of(serves: bool, base: Base, worst: Worst) -> Bounds
+    requires { ⌜ Sized base ⌝ }
+    requires { ⌜ Low worst ⌝ }
+    ensures { λ r. ⌜ r ≡ bounds-of serves base worst ⌝ }
+{
+    let width = base.width;
+    let rock = base.rock;
+    let pressed = number_below(MOST_PRESSED, worst.pr.rank);
+    let turned = later(tied_from(serves, worst.op), tied_from(serves, worst.om));
+    let moved = later(tied_from(serves, worst.sl), tied_from(rock, worst.rk));
+    Bounds {
+        op: bound_of(serves, 1, 100, worst.op.rank),
+        om: bound_of(serves, 1, 100, worst.om.rank),
+        sl: bound_of(serves, 10, base.friction, worst.sl.rank),
+        press: pressed * (width * width * base.length) / SQUARE_METRE,
+        lean: lean_of(rock, worst.rk.rank),
+        first: later(turned, moved),
+    }
+}
+
+// Whether a set is within the bounds: N is above zero, RK, PR, SL, OP and OM are within theirs, and it comes no earlier where it ties.
+pub fn within(width: u64, bounds: Bounds, c: Carried) -> bool
+    requires { ⌜ width ≤ 30000 ⌝ }
+    requires { ⌜ Fitting bounds ⌝ }
+    requires { ⌜ Light c ⌝ }
+    ensures { λ r. ⌜ Decides r (Within width bounds c) ⌝ }
+{
+    let n = sums::carried::over_zero(c.n);
+    if n == 0 {
+        return false;
+    }
+    let m = sums::carried::size_of(c.m);
+    let full = n * width;
+    if bounds.lean * full < 1000 * m {
+        return false;
+    }
+    if bounds.press < full + 3 * m {
+        return false;
+    }
+    let h = sums::carried::size_of(c.h);
+    if bounds.sl.of * n < bounds.sl.by * h {
+        return false;
+    }
+    if bounds.op.of * c.plus.resisting < bounds.op.by * c.plus.overturning {
+        return false;
+    }
+    if bounds.om.of * c.minus.resisting < bounds.om.by * c.minus.overturning {
+        return false;
+    }
+    bounds.first <= c.key
+}
