@@ -10,11 +10,11 @@ use checks::Base;
 use checks::TOP;
 use sums::carried::Carried;
 ghost use mathlib.Core.Path.{_≡_};
-ghost use Prim.Native.Nat.{_≤_, _<_};
+ghost use Prim.Native.Nat.{_^_, _≤_, _<_};
 ghost use Rattle.arithmetic.specs.decides.Decides.{Decides};
 ghost use Rattle.checks.specs.Sized.{Sized};
 ghost use Rattle.weighing.specs.steps.Weighs.{Low, Light};
-ghost use Rattle.weighing.specs.steps.Bounds.{later, bound-of, tied-from, number-below, lean-of, bounds-of, Fitting, Within};
+ghost use Rattle.weighing.specs.steps.Bounds.{later, bound-of, tied-from, number-below, lean-of, bounds-of, Fitting, PressedWithin, Within};
 
 // A set is within a bound where `by` times what counts against it is at most `of` times what counts for it.
 pub struct Bound {
@@ -27,7 +27,8 @@ pub struct Bounds {
     pub op: Bound,
     pub om: Bound,
     pub sl: Bound,
-    pub press: u64,
+    pub whole: u64,
+    pub part: u64,
     pub lean: u64,
     pub first: u64,
 }
@@ -38,8 +39,8 @@ const MULTIPLIED_OUT: u64 = 16_777_216;
 // Up to here a figure so far of PR is multiplied out, in kN/m²; one past it bounds as this does.
 const MOST_PRESSED: u64 = 262_144;
 
-// Up to here one of RK, in thousandths: a base that leans no more is pressed whole, whose rule of PR is the one that is multiplied out.
-const MOST_LEANED: u64 = 166;
+// Up to here one of RK, in thousandths: where a base leans no more, |M| is below NB, and PR is not "off".
+const MOST_LEANED: u64 = 499;
 
 // The mm² of 1 m²: lengths are in mm, and the pressure in kN/m².
 const SQUARE_METRE: u64 = 1_000_000;
@@ -118,10 +119,23 @@ pub fn bounds_of(serves: bool, base: Base, worst: Worst) -> Bounds
         op: bound_of(serves, 1, 100, worst.op.rank),
         om: bound_of(serves, 1, 100, worst.om.rank),
         sl: bound_of(serves, 10, base.friction, worst.sl.rank),
-        press: pressed * (width * width * base.length) / SQUARE_METRE,
+        whole: pressed * (width * width * base.length) / SQUARE_METRE,
+        part: pressed * (3 * base.length) / 1000,
         lean: lean_of(rock, worst.rk.rank),
         first: later(turned, moved),
     }
+}
+
+// Whether PR is within its bounds, by the rule of a base that is pressed whole or of one that is pressed in part.
+fn pressed_within(bounds: Bounds, full: u64, n: u64, m: u64) -> bool
+    requires { ⌜ Fitting bounds ⌝ }
+    requires { ⌜ (full ≤ 2 ^ 35) × (n ≤ 2 ^ 20) × (m ≤ full) ⌝ }
+    ensures { λ r. ⌜ Decides r (PressedWithin bounds full n m) ⌝ }
+{
+    if 3 * m <= full {
+        return full + 3 * m <= bounds.whole;
+    }
+    4000 * (n * n) <= bounds.part * (full - m)
 }
 
 // Whether a set is within the bounds: N is above zero, RK, PR, SL, OP and OM are within theirs, and it comes no earlier where it ties.
@@ -140,7 +154,7 @@ pub fn within(width: u64, bounds: Bounds, c: Carried) -> bool
     if bounds.lean * full < 1000 * m {
         return false;
     }
-    if bounds.press < full + 3 * m {
+    if !pressed_within(bounds, full, n, m) {
         return false;
     }
     let h = sums::carried::size_of(c.h);

@@ -1,13 +1,14 @@
 -- A set within the bounds of the worst so far leaves it as it is, in every check: its rank is above, or the last of all and the set no earlier.
-use mathlib.Core.Path.{_≡_, refl, subst⁻¹}
+use mathlib.Core.Path.{_≡_, refl, _∙_, ap, subst, subst⁻¹}
 use mathlib.Core.Logic.{_⊎_, inl, inr, ⊎-elim}
 use mathlib.Core.Bool.{Bool, true, false}
 use Prim.Native.Nat.{ℕ, zero, suc, _+_, _*_, _-_, _/_, _^_, _≤_, _<_}
 use native.Mathlib.Omega.{arith}
-use native.Mathlib.Decide.{decLt, ℕ-discrete, map-dec}
-use native.Mathlib.Nat.{le-refl, le-trans, mul-le-mul, mul-pos, mod-lt}
+use native.Mathlib.Decide.{decLt, decLe, ℕ-discrete, map-dec}
+use native.Mathlib.Nat.{le-refl, le-trans, mul-le-mul, mul-pos, mul-comm, mul-assoc, mod-lt}
 use lib.Dec.{lit<}
 use borrow.Author.Tests.{lt-ltb, le-ltb}
+use Rattle.arithmetic.specs.rounding.Least.{RoundedUp}
 use Rattle.arithmetic.proofs.Cases.{by-cases}
 use Rattle.sets.specs.declared.Combination.{Combination}
 use Rattle.sets.specs.declared.Combination.the-variants.{I, II, III, IV}
@@ -23,13 +24,14 @@ use Rattle.checks.specs.Sized.{Sized}
 use Rattle.checks.specs.ranks.Figures.{Tips, Slides, Presses, Leans}
 use Rattle.checks.specs.steps.Ranks.{Ranks}
 use Rattle.checks.proofs.Ranking.{rank-low}
-use Rattle.checks.proofs.ranks.Pressing.{press-full}
+use Rattle.checks.proofs.ranks.Pressing.{press-full, press-part}
 use Rattle.checks.proofs.ranks.Ranks.{tip-above, tip-none, slide-above, slide-none, lean-some, up-some}
 use Rattle.weighing.specs.declared.ranked.RankedSet.{RankedSet}
+use Rattle.weighing.specs.declared.bounds.Bounds.{Bounds}
 use Rattle.weighing.specs.declared.Worst.{Worst}
 use Rattle.weighing.specs.steps.Ranked.{tie-order, weight-of, Offered}
 use Rattle.weighing.specs.steps.Weighs.{set-in, winds-in, earthquakes-in, ShowsCarried, Light, ranked-of, Weighed, Low, Visits}
-use Rattle.weighing.specs.steps.Bounds.{later, bound-of, tied-from, number-below, lean-of, bounds-of, Within, Fitting}
+use Rattle.weighing.specs.steps.Bounds.{later, bound-of, tied-from, number-below, lean-of, bounds-of, PressedWithin, Within, Fitting}
 use Rattle.weighing.proofs.Weighing.{weighed-or-not}
 use Rattle.weighing.proofs.ranked.Weights.{weight-tie-order, worse-of-old, offered-old}
 
@@ -74,11 +76,11 @@ pub below-shown : (most rank : ℕ) → 2 ^ 64 - 1 - rank ≤ most → number-be
 unfolding number-below
 below-shown most rank h = rw (le-ltb most (2 ^ 64 - 1 - rank) h)
 
-pub lean-on-rock : (rock : Bool) (rank : ℕ) → rock ≡ true → lean-of rock rank ≡ 2 * number-below 166 rank
+pub lean-on-rock : (rock : Bool) (rank : ℕ) → rock ≡ true → lean-of rock rank ≡ 2 * number-below 499 rank
 unfolding lean-of
 lean-on-rock rock rank e = rw e
 
-pub lean-on-soil : (rock : Bool) (rank : ℕ) → rock ≡ false → lean-of rock rank ≡ 332
+pub lean-on-soil : (rock : Bool) (rank : ℕ) → rock ≡ false → lean-of rock rank ≡ 998
 unfolding lean-of
 lean-on-soil rock rank e = rw e
 
@@ -99,10 +101,10 @@ number-under : (most rank : ℕ) → number-below most rank ≤ 2 ^ 64 - 1 - ran
 number-under most rank =
     by-cases (decLt most (2 ^ 64 - 1 - rank)) (λ h. omega (arith, below-most most rank h)) (λ h. omega (arith, below-shown most rank (omega arith)))
 
-lean-most : (rock : Bool) (rank : ℕ) → lean-of rock rank ≤ 332
+lean-most : (rock : Bool) (rank : ℕ) → lean-of rock rank ≤ 998
 unfolding lean-of
-lean-most true rank = omega (arith, number-most 166 rank)
-lean-most false rank = le-refl 332
+lean-most true rank = omega (arith, number-most 499 rank)
+lean-most false rank = le-refl 998
 
 -- every product fits a word
 bound-fits : (weighed : Bool) (by of rank : ℕ) → of ≤ 1000 → 0 < by → (bound-of weighed by of rank .by ≤ by * 2 ^ 24) × (bound-of weighed by of rank .of ≤ 1000)
@@ -112,6 +114,9 @@ bound-fits true by of rank h p =
     (λ l. rw (bound-none true by of rank refl (omega arith)) (omega arith, omega arith))
 bound-fits false by of rank h p = rw (bound-free false by of rank refl) (omega arith, omega arith)
 
+part-fits : (number length : ℕ) → number ≤ 262144 → length ≤ 60000 → number * (3 * length) / 1000 ≤ 2 ^ 26
+part-fits number length p q = let h : number * (3 * length) ≤ 262144 * (3 * 60000) = mul-le-mul p (mul-le-mul (le-refl 3) q) in omega (arith, h)
+
 pub bounds-fit : (serves : Bool) (base : Base) (worst : Worst) → Sized base → Fitting (bounds-of serves base worst)
 unfolding bounds-of
 bounds-fit serves base worst sized =
@@ -119,6 +124,7 @@ bounds-fit serves base worst sized =
       op = bound-fits serves 1 100 (worst .op .rank) (omega arith) (lit< tt);
       om = bound-fits serves 1 100 (worst .om .rank) (omega arith) (lit< tt);
       sl = bound-fits serves 10 (base .friction) (worst .sl .rank) (sized .friction) (lit< tt);
+      part = part-fits (number-below 262144 (worst .pr .rank)) (base .length) (number-most 262144 (worst .pr .rank)) (sized .length);
       lean = lean-most (base .rock) (worst .rk .rank);
     }
 
@@ -163,9 +169,9 @@ module _ (weighed : Bool) (b : RankedSet) (key set : ℕ) (on : weighed ≡ true
   leaned width n m small wide some bound =
       let full : 0 < 2 * (n * width) = mul-pos (lit< tt) (mul-pos some wide) in
       let up = up-some (1000 * m) (2 * (n * width)) full in
-      let number = number-below 166 (b .rank) in
+      let number = number-below 499 (b .rank) in
       let most : up .0 ≤ number = up .1 .least number (omega (arith, rw (lean-on-rock weighed (b .rank) on) at bound)) in
-      let under = number-under 166 (b .rank) in
+      let under = number-under 499 (b .rank) in
       let ranks = lean-some width n m small full (λ e. omega arith) (up .1) in
       no-worse highest (Leans width n m) (2 ^ 64 - 1 - up .0) ranks (λ h. omega (arith, most, under)) (λ h. omega (arith, most, under))
 
@@ -173,21 +179,53 @@ factor-some : (a b : ℕ) → 0 < a * b → 0 < a
 factor-some zero b h = absurd (omega arith)
 factor-some (suc a) b h = omega arith
 
--- a base that leans no more than RK's bound is pressed whole
-pressed : (b : RankedSet) (set width length n m lean : ℕ) → b .set < 65536 → set < 65536 → 0 < width → width ≤ 30000 → 0 < length → n ≤ 2 ^ 20 → 0 < n
-    → lean ≤ 332 → 1000 * m ≤ lean * (n * width) → n * width + 3 * m ≤ number-below 262144 (b .rank) * (width * width * length) / 1000000
-    → Offered highest (Presses width length n m) b set b
-pressed b set width length n m lean low few wide narrow long small some most leans presses =
-    let number = number-below 262144 (b .rank) in
+-- a bound that was rounded down, taken times something
+rounded-times : (number l x y : ℕ) → y ≤ number * l / 1000 * x → 1000 * y ≤ number * (l * x)
+rounded-times number l x y h =
+    let r : number * l / 1000 * 1000 ≤ number * l = omega arith in
+    let q : number * l / 1000 * 1000 * x ≤ number * l * x = mul-le-mul r (le-refl x) in
+    let e : number * l / 1000 * 1000 * x ≡ 1000 * (number * l / 1000 * x) = ap (λ (z : ℕ). z * x) (mul-comm (number * l / 1000) 1000) ∙ mul-assoc 1000 (number * l / 1000) x in
+    omega (arith, h, q, e, mul-assoc number l x)
+
+-- PR by whichever of its rules
+module _ (b : RankedSet) (set width length n m : ℕ) (low : b .set < 65536) (few : set < 65536) (wide : 0 < width) (narrow : width ≤ 30000) (long : 0 < length) (small : n ≤ 2 ^ 20) (some : 0 < n)
+    (below : m < n * width) where
+  number : ℕ
+  number = number-below 262144 (b .rank)
+
+  -- a figure that is at most the number below the one so far
+  no-more : (a d : ℕ) → 0 < a → a ≤ number * d → (up : (v : ℕ) × RoundedUp a d v) → Ranks highest (Presses width length n m) (2 ^ 64 - 1 - up .0) → Offered highest (Presses width length n m) b set b
+  unfolding number
+  no-more a d p h up ranks =
+      let most : up .0 ≤ number = up .1 .least number h in
+      let left : 0 < number = factor-some number d (omega (arith, p, h)) in
+      offered-old highest (Presses width length n m) b set (2 ^ 64 - 1 - up .0) ranks (omega (arith, most, left, number-under 262144 (b .rank))) low few
+
+  pressed-whole : 3 * m ≤ n * width → n * width + 3 * m ≤ number * (width * width * length) / 1000000 → Offered highest (Presses width length n m) b set b
+  pressed-whole h w =
+      let area : 0 < width * width * length = mul-pos (mul-pos wide wide) long in
+      let up = up-some (1000000 * (n * width + 3 * m)) (width * width * length) area in
+      no-more (1000000 * (n * width + 3 * m)) (width * width * length) (omega (arith, below)) (omega (arith, w)) up (press-full width length n m narrow small area below h (up .1))
+
+  pressed-part : n * width < 3 * m → 4000 * (n * n) ≤ number * (3 * length) / 1000 * (n * width - m) → Offered highest (Presses width length n m) b set b
+  pressed-part h w =
+      let rest : 0 < 3 * length * (n * width - m) = mul-pos (omega arith) (omega (arith, below)) in
+      let up = up-some (4000000 * (n * n)) (3 * length * (n * width - m)) rest in
+      let bound : 1000 * (4000 * (n * n)) ≤ number * (3 * length * (n * width - m)) = rounded-times number (3 * length) (n * width - m) (4000 * (n * n)) w in
+      no-more (4000000 * (n * n)) (3 * length * (n * width - m)) (omega (arith, mul-pos some some)) (omega (arith, bound)) up (press-part width length n m small rest below h (up .1))
+
+pressed : (b : RankedSet) (set width length n m lean : ℕ) {bounds : Bounds} → b .set < 65536 → set < 65536 → 0 < width → width ≤ 30000 → 0 < length → n ≤ 2 ^ 20 → 0 < n
+    → lean ≤ 998 → 1000 * m ≤ lean * (n * width) → bounds .whole ≡ number-below 262144 (b .rank) * (width * width * length) / 1000000 → bounds .part ≡ number-below 262144 (b .rank) * (3 * length) / 1000
+    → PressedWithin bounds (n * width) n m → Offered highest (Presses width length n m) b set b
+unfolding number
+pressed b set width length n m lean low few wide narrow long small some most leans whole part within =
     let full : 0 < n * width = mul-pos some wide in
-    let whole : 0 < width * width * length = mul-pos (mul-pos wide wide) long in
-    let within : 1000 * m ≤ 332 * (n * width) = le-trans leans (mul-le-mul most (le-refl _)) in
-    let bound : 1000000 * (n * width + 3 * m) ≤ number * (width * width * length) = omega (arith, presses) in
-    let up = up-some (1000000 * (n * width + 3 * m)) (width * width * length) whole in
-    let no-more : up .0 ≤ number = up .1 .least number bound in
-    let some-number : 0 < number = factor-some number (width * width * length) (omega (arith, full, bound)) in
-    let ranks = press-full width length n m narrow small whole (omega (arith, full, within)) (omega (arith, within)) (up .1) in
-    offered-old highest (Presses width length n m) b set (2 ^ 64 - 1 - up .0) ranks (omega (arith, no-more, some-number, number-under 262144 (b .rank))) low few
+    let near : 1000 * m ≤ 998 * (n * width) = le-trans leans (mul-le-mul most (le-refl _)) in
+    let below : m < n * width = omega (arith, full, near) in
+    by-cases (decLe (3 * m) (n * width)) (λ h. pressed-whole b set width length n m low few wide narrow long small some below h (omega (arith, within .whole h, whole)))
+    (λ h.
+    pressed-part b set width length n m low few wide narrow long small some below (omega arith)
+    (subst (λ (k : ℕ). 4000 * (n * n) ≤ k * (n * width - m)) part (within .part (omega arith))))
 
 -- ---- a set within the bounds leaves the worst so far as it is
 -- every rank of the worst so far is a word
@@ -222,7 +260,7 @@ module _ (serves : Bool) (base : Base) (worst : Worst) (c : Carried) (sized : Si
       (base .friction) (over-zero (c .n)) (size (c .h)) (sized .friction) (light .n) (within .n) (within .sl)
   kept PR on =
       pressed (worst .pr) (set-in c) (base .width) (base .length) (over-zero (c .n)) (size (c .m)) (lean-of (base .rock) (worst .rk .rank)) (low PR) few
-      (sized .wide) (sized .width) (sized .long) (light .n) (within .n) (lean-most (base .rock) (worst .rk .rank)) (within .lean) (within .press)
+      (sized .wide) (sized .width) (sized .long) (light .n) (within .n) (lean-most (base .rock) (worst .rk .rank)) (within .lean) refl refl (within .press)
   kept RK on =
       leaned (base .rock) (worst .rk) (c .key) (set-in c) on (words RK) (low RK) few keyed (le-trans (later-over-second _ _) moved)
       (base .width) (over-zero (c .n)) (size (c .m)) (light .m) (sized .wide) (within .n) (within .lean)

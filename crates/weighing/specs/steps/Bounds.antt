@@ -26,8 +26,8 @@ unfoldable pub number-below : ℕ → ℕ → ℕ
 number-below most rank = cond (ltb most (2 ^ 64 - 1 - rank)) most (2 ^ 64 - 1 - rank - 1)
 
 unfoldable pub lean-of : Bool → ℕ → ℕ
-lean-of false rank = 332
-lean-of true rank = 2 * number-below 166 rank
+lean-of false rank = 998
+lean-of true rank = 2 * number-below 499 rank
 
 unfoldable pub bounds-of : Bool → Base → Worst → Bounds
 bounds-of serves base worst =
@@ -35,16 +35,22 @@ bounds-of serves base worst =
       op = bound-of serves 1 100 (worst .op .rank);
       om = bound-of serves 1 100 (worst .om .rank);
       sl = bound-of serves 10 (base .friction) (worst .sl .rank);
-      press = number-below 262144 (worst .pr .rank) * (base .width * base .width * base .length) / 1000000;
+      whole = number-below 262144 (worst .pr .rank) * (base .width * base .width * base .length) / 1000000;
+      part = number-below 262144 (worst .pr .rank) * (3 * base .length) / 1000;
       lean = lean-of (base .rock) (worst .rk .rank);
       first = later (later (tied-from serves (worst .op)) (tied-from serves (worst .om))) (later (tied-from serves (worst .sl)) (tied-from (base .rock) (worst .rk)));
     }
+
+-- PR is within its bounds: that of the rule for a base that is pressed whole, or of the one for a part
+pub record PressedWithin (bounds : Bounds) (full n m : ℕ) : Type 0 where
+  pub whole : 3 * m ≤ full → full + 3 * m ≤ bounds .whole
+  pub part : full < 3 * m → 4000 * (n * n) ≤ bounds .part * (full - m)
 
 -- a set is within the bounds
 pub record Within (width : ℕ) (bounds : Bounds) (c : Carried) : Type 0 where
   pub n : 0 < over-zero (c .n)
   pub lean : 1000 * size (c .m) ≤ bounds .lean * (over-zero (c .n) * width)
-  pub press : over-zero (c .n) * width + 3 * size (c .m) ≤ bounds .press
+  pub press : PressedWithin bounds (over-zero (c .n) * width) (over-zero (c .n)) (size (c .m))
   pub sl : bounds .sl .by * size (c .h) ≤ bounds .sl .of * over-zero (c .n)
   pub op : bounds .op .by * c .plus .overturning ≤ bounds .op .of * c .plus .resisting
   pub om : bounds .om .by * c .minus .overturning ≤ bounds .om .of * c .minus .resisting
@@ -55,4 +61,5 @@ pub record Fitting (bounds : Bounds) : Type 0 where
   pub op : (bounds .op .by ≤ 2 ^ 24) × (bounds .op .of ≤ 1000)
   pub om : (bounds .om .by ≤ 2 ^ 24) × (bounds .om .of ≤ 1000)
   pub sl : (bounds .sl .by ≤ 10 * 2 ^ 24) × (bounds .sl .of ≤ 1000)
-  pub lean : bounds .lean ≤ 332
+  pub part : bounds .part ≤ 2 ^ 26
+  pub lean : bounds .lean ≤ 998

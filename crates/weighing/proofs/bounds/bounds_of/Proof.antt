@@ -1,8 +1,8 @@
--- Each bound is the definition's; the product of PR fits a word since the number below its figure is cut off.
+-- Each bound is the definition's; the products of PR fit a word since the number below its figure is cut off.
 use borrow.Author.Needs.{needs}
 use mathlib.Core.Path.{_∙_, ap, ap₂}
 use Prim.Native.Nat.{ℕ, _*_, _/_, _≤_}
-use native.Mathlib.Nat.{mul-le-mul}
+use native.Mathlib.Nat.{le-refl, mul-le-mul}
 use native.Mathlib.Omega.{arith}
 use Rattle.checks.specs.declared.Base.{Base}
 use Rattle.checks.specs.declared.Check.the-variants.{OP, OM, SL, RK}
@@ -76,6 +76,14 @@ mul-t10 c = omega (arith, cube-low ((pressed (c .before)) .before .pre .0))
 mul-t14 : tie.Need-mul-t14
 mul-t14 c = let d = pressed (c .before) in omega (arith, mul-le-mul (number-low d) (cube-low (d .before .pre .0)))
 
+mul-t16 : tie.Need-mul-t16
+mul-t16 c = omega (arith, (pressed (c .before .before)) .before .pre .0 .length)
+
+mul-t17 : tie.Need-mul-t17
+mul-t17 c =
+    let d = pressed (c .before .before) in
+    omega (arith, mul-le-mul (number-low d) (mul-le-mul (le-refl 3) (d .before .pre .0 .length)))
+
 lean-of-requires : tie.Need-lean-of-requires
 lean-of-requires c κs = search needs
 
@@ -85,7 +93,7 @@ later-requires-3 c κs = search needs
 returns : tie.Need-returns
 unfolding bounds-of
 returns c =
-    let d = c .before .before .before in
+    let d = c .before .before .before .before in
     let base = (pressed d) .before .args .base in
     let first = (turned d) .later .ensures ∙ ap₂ later ((turned d) .before .before .tied-from .ensures) ((turned d) .before .tied-from2 .ensures) in
     let second = (moved d) .later2 .ensures ∙ ap₂ later ((moved d) .before .before .tied-from3 .ensures) ((moved d) .before .tied-from4 .ensures) in
@@ -93,7 +101,8 @@ returns c =
       op = d .before .before .bound-of .ensures i;
       om = d .before .bound-of2 .ensures i;
       sl = d .bound-of3 .ensures i;
-      press = ap (λ (n : ℕ). n * (base .width * base .width * base .length) / 1000000) ((pressed d) .number-below .ensures) i;
+      whole = ap (λ (n : ℕ). n * (base .width * base .width * base .length) / 1000000) ((pressed d) .number-below .ensures) i;
+      part = ap (λ (n : ℕ). n * (3 * base .length) / 1000) ((pressed d) .number-below .ensures) i;
       lean = c .before .lean-of .ensures i;
       first = (c .later3 .ensures ∙ ap₂ later first second) i;
     }
@@ -115,6 +124,8 @@ bounds-of-spec =
     mul-t9
     mul-t10
     mul-t14
+    mul-t16
+    mul-t17
     lean-of-requires
     later-requires-3
     returns)

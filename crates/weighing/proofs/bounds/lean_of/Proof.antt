@@ -11,7 +11,7 @@ number-below-requires : tie.Need-number-below-requires
 number-below-requires c κs = search needs
 
 mul-result : tie.Need-mul-result
-mul-result c = omega (arith, c .number-below .ensures, number-most 166 (c .before .before .args .rank))
+mul-result c = omega (arith, c .number-below .ensures, number-most 499 (c .before .before .args .rank))
 
 returns : tie.Need-returns
 returns c = let a = c .before .before .args in ap (λ (n : ℕ). 2 * n) (c .number-below .ensures) ∙ sym (lean-on-rock (a .rock) (a .rank) (c .before .if1 .taken))

@@ -1,11 +1,13 @@
 -- Each test decides one field of `Within`, by what is read of the sums; the products fit a word since the bounds and the sums are small.
 use borrow.Author.Needs.{needs}
-use mathlib.Core.Path.{subst₂}
+use borrow.Author.Tests.{not-true, not-false}
+use mathlib.Core.Path.{sym, subst₂}
 use Prim.Native.Nat.{ℕ, _+_, _*_, _^_, _≤_}
-use native.Mathlib.Nat.{mul-le-mul}
+use native.Mathlib.Nat.{le-refl, mul-le-mul}
 use native.Mathlib.Omega.{arith}
 use lib.Dec.{leb}
-use Rattle.arithmetic.proofs.Deciding.{decides-same, decides-at-most}
+use Rattle.arithmetic.proofs.Deciding.{decided, refuted, decides-same, decides-at-most}
+use Rattle.weighing.specs.steps.Bounds.{PressedWithin}
 use Rattle.weighing.proofs.bounds.within.Statement.{statement}
 use Rattle.weighing.proofs.bounds.within.Tie as tie
 
@@ -53,16 +55,19 @@ mul-if2-2 c = search needs
 returns-2 : tie.Need-returns-2
 returns-2 c = let d = c .before .before in λ w. omega (arith, w .lean, rw (d .before .before .over-zero .ensures, d .size-of .ensures) at (c .if2 .taken))
 
-mul-if3 : tie.Need-mul-if3
-mul-if3 c = search needs
-
-add-if3 : tie.Need-add-if3
-add-if3 c = let d = c .before .before in omega (arith, full-low d, m-low d)
+pressed-within-requires : tie.Need-pressed-within-requires
+pressed-within-requires c κs =
+    let d = c .before .before in
+    let given = d .before .before .before .pre .1 .0 in
+    (given, (omega (arith, full-low d), n-low (d .before .before), omega (arith, c .if2 .left, mul-le-mul (given .lean) (le-refl (d .before .before .over-zero .result * d .before .before .before .args .width)))))
 
 returns-3 : tie.Need-returns-3
 returns-3 c =
+    let p = c .before .pressed-within in
     let d = c .before .before .before .before in
-    λ w. omega (arith, w .press, rw (d .before .before .over-zero .ensures, d .size-of .ensures) at (c .if3 .taken))
+    let a = d .before .before .before .args in
+    λ w. refuted (p .result) (not-true (p .result) (c .if3 .taken)) (p .ensures)
+    (subst₂ (λ (x y : ℕ). PressedWithin (a .bounds) (x * a .width) x y) (sym (d .before .before .over-zero .ensures)) (sym (d .size-of .ensures)) (w .press))
 
 size-of-requires-2 : tie.Need-size-of-requires-2
 size-of-requires-2 c κs = search needs
@@ -107,6 +112,7 @@ returns-7 c =
     let slid = turned .before .before .before .before .before in
     let pressed = (at-h slid) .before in
     let leaned = pressed .before .before in
+    let p = pressed .before .pressed-within in
     let above = (at-m pressed) .before in
     let a = (start slid) .args in
     let n = above .before .over-zero .ensures in
@@ -116,7 +122,7 @@ returns-7 c =
     (λ f. record {
       n = omega (arith, n, above .if1 .left);
       lean = subst₂ (λ (x y : ℕ). 1000 * y ≤ a .bounds .lean * (x * a .width)) n m (leaned .if2 .left);
-      press = subst₂ (λ (x y : ℕ). x * a .width + 3 * y ≤ a .bounds .press) n m (pressed .if3 .left);
+      press = subst₂ (λ (x y : ℕ). PressedWithin (a .bounds) (x * a .width) x y) n m (decided (p .result) (not-false (p .result) (pressed .if3 .left)) (p .ensures));
       sl = subst₂ (λ (x y : ℕ). a .bounds .sl .by * y ≤ a .bounds .sl .of * x) n h (slid .if4 .left);
       op = turned .if5 .left;
       om = last .if6 .left;
@@ -135,8 +141,7 @@ within-spec =
     mul-if2
     mul-if2-2
     returns-2
-    mul-if3
-    add-if3
+    pressed-within-requires
     returns-3
     size-of-requires-2
     mul-if4
