@@ -7,10 +7,10 @@ use crate::Balance;
 use crate::Sums;
 ghost use mathlib.Core.Path.{_≡_};
 ghost use Rattle.sums.specs.steps.Sums.{Room};
-ghost use Rattle.sums.specs.steps.Carried.{wrap, key-of, shift-by, moved-by, over-zero, size};
+ghost use Rattle.sums.specs.steps.Carried.{wrap, key-of, shift-by, moved-by, over-zero, from-zero, winds-in, earthquakes-in, set-in};
 
-// N, the sum of H, M, the balance at the edges at +x and at -x, and the set's key: from its lowest bits up 8 for the number of wind rows,
-// 8 for that of earthquake rows, 16 for the set's number, and then how many rows it has.
+// N, the sum of H, M, the balance at the edges at +x and at -x, and the set's key: from its lowest bits up 8 for the number of wind rows, 8
+// for that of earthquake rows, 16 for the set's number, and then how many rows it has.
 pub struct Carried {
     pub n: u64,
     pub h: u64,
@@ -23,18 +23,28 @@ pub struct Carried {
 // The first number that stands for one below zero.
 const BELOW_ZERO: u64 = 9_223_372_036_854_775_808;
 
-// What a is more than b.
+// The numbers of wind and of earthquake rows are each below this.
+const ROWS: u64 = 256;
+
+// A key's marks, the numbers of wind and earthquake rows together, are below this.
+const MARKS: u64 = 65_536;
+
+// The sets of 16 rows.
+const SETS: u64 = 65_536;
+
+// By how much a is more than b, modulo 2^64.
 fn wrapped(a: u64, b: u64) -> u64
     ensures { λ r. ⌜ r ≡ wrap a b ⌝ }
 {
     std::num::wrapping_sub_u64(a, b)
 }
 
+// The key of a set with these sums.
 fn key_of(sums: Sums) -> u64
     requires { ⌜ Room 16 sums ⌝ }
     ensures { λ r. ⌜ r ≡ key-of sums ⌝ }
 {
-    sums.winds + 256 * sums.earthquakes + 65536 * (sums.set + 65536 * sums.rows)
+    sums.winds + ROWS * sums.earthquakes + MARKS * (sums.set + SETS * sums.rows)
 }
 
 // What leads from the sums of a set to those of another, which has the rows of `up` more and those of `down` less.
@@ -87,8 +97,29 @@ pub fn over_zero(x: u64) -> u64
 }
 
 // How far a carried number is from zero.
-pub fn size_of(x: u64) -> u64
-    ensures { λ r. ⌜ r ≡ size x ⌝ }
+pub fn from_zero(x: u64) -> u64
+    ensures { λ r. ⌜ r ≡ from-zero x ⌝ }
 {
     if x < BELOW_ZERO { x } else { u64::MAX - x + 1 }
+}
+
+// How many wind rows the set has whose sums are carried,
+pub fn winds_in(carried: Carried) -> u64
+    ensures { λ r. ⌜ r ≡ winds-in carried ⌝ }
+{
+    carried.key % ROWS
+}
+
+// how many earthquake rows,
+pub fn earthquakes_in(carried: Carried) -> u64
+    ensures { λ r. ⌜ r ≡ earthquakes-in carried ⌝ }
+{
+    carried.key / ROWS % ROWS
+}
+
+// and its number.
+pub fn set_in(carried: Carried) -> u64
+    ensures { λ r. ⌜ r ≡ set-in carried ⌝ }
+{
+    carried.key / MARKS % SETS
 }

@@ -18,8 +18,8 @@ pub struct Balance {
     pub overturning: u64,
 }
 
-// The sums over the rows of a set: V, H and the moment by their parts, the balance at the edges at +x and at -x, how many rows
-// are wind, earthquake, and there at all, and the set's number.
+// The sums over the rows of a set: V, H and the moment by their parts, the balance at the edges at +x and at -x, how many of its
+// rows are wind and earthquake rows, how many rows it has, and the set's number.
 pub struct Sums {
     pub v: Parts,
     pub h: Parts,

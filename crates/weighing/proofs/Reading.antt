@@ -6,8 +6,8 @@ use lib.Count.{ones}
 use Rattle.sums.specs.declared.Sums.{Sums}
 use Rattle.sums.specs.declared.carried.Carried.{Carried}
 use Rattle.sums.specs.steps.Sums.{no-sums, Room}
-use Rattle.sums.specs.steps.Carried.{key-of, balance-shift, shift-by, over-zero, size}
-use Rattle.sums.proofs.carried.Carrying.{wrap-whole, over-wrap, size-wrap}
+use Rattle.sums.specs.steps.Carried.{key-of, balance-shift, shift-by, over-zero, from-zero, set-in, winds-in, earthquakes-in}
+use Rattle.sums.proofs.carried.Carrying.{wrap-whole, over-wrap, distance-wrap}
 use Rattle.checks.specs.declared.Base.{Base}
 use Rattle.checks.specs.declared.Check.{Check}
 use Rattle.checks.specs.declared.Check.the-variants.{OP, OM, SL, PR, RK}
@@ -16,7 +16,7 @@ use Rattle.checks.specs.ranks.Figures.{Tips, Slides, Presses, Leans}
 use Rattle.checks.specs.steps.BySums.{apart, ShowsBySums}
 use Rattle.checks.proofs.set_figures.Showing.{small-sums}
 use Rattle.weighing.specs.steps.Ranked.{tie-order}
-use Rattle.weighing.specs.steps.Weighs.{set-in, winds-in, earthquakes-in, ShowsCarried, Light}
+use Rattle.weighing.specs.steps.Weighs.{ShowsCarried, SmallCarried}
 use Rattle.weighing.proofs.ranked.Weights.{tie-order-some}
 
 module _ (sums : Sums) (room : Room 16 sums) where
@@ -28,13 +28,13 @@ module _ (sums : Sums) (room : Room 16 sums) where
   unfolding carried shift-by no-sums
   n-read = over-wrap (sums .v .above + 0) (sums .v .below + 0) (omega (arith, room .down)) (omega (arith, room .up)) ∙ omega arith
 
-  h-read : size (carried .h) ≡ apart (sums .h)
+  h-read : from-zero (carried .h) ≡ apart (sums .h)
   unfolding carried shift-by no-sums apart
-  h-read = size-wrap (sums .h .above + 0) (sums .h .below + 0) (omega (arith, room .ahead)) (omega (arith, room .back)) ∙ omega arith
+  h-read = distance-wrap (sums .h .above + 0) (sums .h .below + 0) (omega (arith, room .ahead)) (omega (arith, room .back)) ∙ omega arith
 
-  m-read : size (carried .m) ≡ apart (sums .m)
+  m-read : from-zero (carried .m) ≡ apart (sums .m)
   unfolding carried shift-by no-sums apart
-  m-read = size-wrap (sums .m .above + 0) (sums .m .below + 0) (omega (arith, room .turning)) (omega (arith, room .returning)) ∙ omega arith
+  m-read = distance-wrap (sums .m .above + 0) (sums .m .below + 0) (omega (arith, room .turning)) (omega (arith, room .returning)) ∙ omega arith
 
   resisting-plus-read : carried .plus .resisting ≡ sums .plus .resisting
   unfolding carried shift-by balance-shift no-sums
@@ -56,9 +56,9 @@ module _ (sums : Sums) (room : Room 16 sums) where
   unfolding carried shift-by key-of no-sums
   key-read = wrap-whole (key-of sums) (omega (arith, room .winds, room .earthquakes, room .set, room .rows))
 
-  pub light : Light (shift-by sums no-sums)
+  pub small-carried : SmallCarried (shift-by sums no-sums)
   unfolding carried
-  light =
+  small-carried =
       let s = small-sums room in
       record {
         n = rw n-read (s .n);

@@ -14,7 +14,8 @@ use Rattle.checks.specs.declared.Figure.{Figure}
 use Rattle.checks.proofs.ranks.Pressing.{presses-one}
 use Rattle.checks.proofs.ranks.Ranks.{tips-one, slides-one, leans-one}
 use Rattle.weighing.specs.declared.Worst.{Worst}
-use Rattle.weighing.specs.steps.Weighs.{set-in, ShowsCarried, ranked-of, Weighed, Low, Weighs, Visits}
+use Rattle.weighing.specs.steps.Weighs.{ShowsCarried, ranked-of, Weighed, Low, Weighs, Visits}
+use Rattle.sums.specs.steps.Carried.{set-in}
 use Rattle.weighing.proofs.ranked.Weights.{offered-one}
 
 -- Carried sums show one figure.

@@ -1,8 +1,8 @@
 // The bounds within which a set is no worse than the worst so far in any check (document 01, Load sets).
 //
 // Nearly every set of a search is plainly no worse, and is seen to be so by a few products: what it is to be worse is multiplied out once
-// for each worst so far, and not divided for each set. What is hard is that a set within the bounds is never one that a line would name:
-// neither a worse figure nor the first of a tie.
+// for each set that is weighed, and not divided for each that is not. What is hard is that a set within the bounds is never one that a line
+// would name: neither a worse figure nor the first of a tie.
 use crate::Worst;
 use crate::ranked;
 use crate::ranked::RankedSet;
@@ -13,7 +13,7 @@ ghost use mathlib.Core.Path.{_≡_};
 ghost use Prim.Native.Nat.{_^_, _≤_, _<_};
 ghost use Rattle.arithmetic.specs.decides.Decides.{Decides};
 ghost use Rattle.checks.specs.Sized.{Sized};
-ghost use Rattle.weighing.specs.steps.Weighs.{Low, Light};
+ghost use Rattle.weighing.specs.steps.Weighs.{Low, SmallCarried};
 ghost use Rattle.weighing.specs.steps.Bounds.{later, bound-of, tied-from, number-below, lean-of, bounds-of, Fitting, PressedWithin, Within};
 
 // A set is within a bound where `by` times what counts against it is at most `of` times what counts for it.
@@ -22,7 +22,8 @@ pub struct Bound {
     pub of: u64,
 }
 
-// The bounds of each check, and the key from which on a set that ties comes no earlier than the worst so far.
+// The bounds of OP, OM and SL; those of NB + 3|M|, where the base is pressed whole, and of PR's rule for a part, in thousands; that of
+// 1,000|M| by NB; and the key from which on a set that ties comes no earlier than the worst so far.
 pub struct Bounds {
     pub op: Bound,
     pub om: Bound,
@@ -30,46 +31,51 @@ pub struct Bounds {
     pub whole: u64,
     pub part: u64,
     pub lean: u64,
-    pub first: u64,
+    pub tied: u64,
 }
 
-// Up to here a figure so far of OP, OM or SL is multiplied out; one past it is a bound for "none" alone.
+// Below this a figure so far of OP, OM or SL is multiplied out, and the product fits a word; from here on only a set that shows "none" is
+// within.
 const MULTIPLIED_OUT: u64 = 16_777_216;
 
-// Up to here a figure so far of PR is multiplied out, in kN/m²; one past it bounds as this does.
+// Up to here a figure so far of PR, in kN/m², is multiplied out, and the product fits a word; one past it bounds as this does.
 const MOST_PRESSED: u64 = 262_144;
 
-// Up to here one of RK, in thousandths: where a base leans no more, |M| is below NB, and PR is not "off".
+// The same of RK, in thousandths: where a base leans no more, |M| is below NB, and PR is not "off".
 const MOST_LEANED: u64 = 499;
 
 // The mm² of 1 m²: lengths are in mm, and the pressure in kN/m².
 const SQUARE_METRE: u64 = 1_000_000;
 
-// The greater of two.
+// A set's key is so many times its order among the sets that tie, and its marks.
+const ORDER: u64 = 65_536;
+
+// The later of two keys.
 fn later(a: u64, b: u64) -> u64
     ensures { λ r. ⌜ r ≡ later a b ⌝ }
 {
     if a < b { b } else { a }
 }
 
-// The bound of a check whose lowest figure is the worst, where it is weighed: a figure of so many times by over of.
-fn bound_of(weighed: bool, by: u64, of: u64, rank: u64) -> Bound
-    requires { ⌜ by ≤ 10 ⌝ }
-    ensures { λ r. ⌜ r ≡ bound-of weighed by of rank ⌝ }
+// The bound of OP, OM or SL, where it is weighed. Its figure is so many times what counts for a set over so many times what counts
+// against it.
+fn bound_of(weighed: bool, against: u64, favour: u64, rank: u64) -> Bound
+    requires { ⌜ against ≤ 10 ⌝ }
+    ensures { λ r. ⌜ r ≡ bound-of weighed against favour rank ⌝ }
 {
     if !weighed {
         return Bound { by: 0, of: 0 };
     }
     if rank < MULTIPLIED_OUT {
         return Bound {
-            by: by * (rank + 1),
-            of,
+            by: against * (rank + 1),
+            of: favour,
         };
     }
     Bound { by: 1, of: 0 }
 }
 
-// The key from which on a set that shows the same comes no earlier, where that is a figure within the bounds: the last of all ranks.
+// The key from which on a set that ties comes no earlier. Within the bounds a set ties only where both have the last of all ranks.
 fn tied_from(weighed: bool, worst: RankedSet) -> u64
     requires { ⌜ worst .set < 65536 ⌝ }
     ensures { λ r. ⌜ r ≡ tied-from weighed worst ⌝ }
@@ -80,10 +86,10 @@ fn tied_from(weighed: bool, worst: RankedSet) -> u64
     if worst.rank < TOP {
         return 0;
     }
-    65536 * ranked::tie_order(worst.set)
+    ORDER * ranked::tie_order(worst.set)
 }
 
-// The number below the figure of a rank of PR or RK, and at most this.
+// One less than the figure of a rank of PR or RK, 0 where that is 0, and at most this.
 fn number_below(most: u64, rank: u64) -> u64
     ensures { λ r. ⌜ r ≡ number-below most rank ⌝ }
 {
@@ -94,7 +100,7 @@ fn number_below(most: u64, rank: u64) -> u64
     arithmetic::signed::excess(shown, 1)
 }
 
-// The bound of RK, in half thousandths.
+// The bound of RK, in half thousandths; on soil, of how far a base may lean for PR not to be "off".
 fn lean_of(rock: bool, rank: u64) -> u64
     ensures { λ r. ⌜ r ≡ lean-of rock rank ⌝ }
 {
@@ -113,8 +119,8 @@ pub fn bounds_of(serves: bool, base: Base, worst: Worst) -> Bounds
     let width = base.width;
     let rock = base.rock;
     let pressed = number_below(MOST_PRESSED, worst.pr.rank);
-    let turned = later(tied_from(serves, worst.op), tied_from(serves, worst.om));
-    let moved = later(tied_from(serves, worst.sl), tied_from(rock, worst.rk));
+    let edges = later(tied_from(serves, worst.op), tied_from(serves, worst.om));
+    let rest = later(tied_from(serves, worst.sl), tied_from(rock, worst.rk));
     Bounds {
         op: bound_of(serves, 1, 100, worst.op.rank),
         om: bound_of(serves, 1, 100, worst.om.rank),
@@ -122,7 +128,7 @@ pub fn bounds_of(serves: bool, base: Base, worst: Worst) -> Bounds
         whole: pressed * (width * width * base.length) / SQUARE_METRE,
         part: pressed * (3 * base.length) / 1000,
         lean: lean_of(rock, worst.rk.rank),
-        first: later(turned, moved),
+        tied: later(edges, rest),
     }
 }
 
@@ -139,17 +145,17 @@ fn pressed_within(bounds: Bounds, full: u64, n: u64, m: u64) -> bool
 }
 
 // Whether a set is within the bounds: N is above zero, RK, PR, SL, OP and OM are within theirs, and it comes no earlier where it ties.
-pub fn within(width: u64, bounds: Bounds, c: Carried) -> bool
+pub fn within(width: u64, bounds: Bounds, carried: Carried) -> bool
     requires { ⌜ width ≤ 30000 ⌝ }
     requires { ⌜ Fitting bounds ⌝ }
-    requires { ⌜ Light c ⌝ }
-    ensures { λ r. ⌜ Decides r (Within width bounds c) ⌝ }
+    requires { ⌜ SmallCarried carried ⌝ }
+    ensures { λ r. ⌜ Decides r (Within width bounds carried) ⌝ }
 {
-    let n = sums::carried::over_zero(c.n);
+    let n = sums::carried::over_zero(carried.n);
     if n == 0 {
         return false;
     }
-    let m = sums::carried::size_of(c.m);
+    let m = sums::carried::from_zero(carried.m);
     let full = n * width;
     if bounds.lean * full < 1000 * m {
         return false;
@@ -157,15 +163,15 @@ pub fn within(width: u64, bounds: Bounds, c: Carried) -> bool
     if !pressed_within(bounds, full, n, m) {
         return false;
     }
-    let h = sums::carried::size_of(c.h);
+    let h = sums::carried::from_zero(carried.h);
     if bounds.sl.of * n < bounds.sl.by * h {
         return false;
     }
-    if bounds.op.of * c.plus.resisting < bounds.op.by * c.plus.overturning {
+    if bounds.op.of * carried.plus.resisting < bounds.op.by * carried.plus.overturning {
         return false;
     }
-    if bounds.om.of * c.minus.resisting < bounds.om.by * c.minus.overturning {
+    if bounds.om.of * carried.minus.resisting < bounds.om.by * carried.minus.overturning {
         return false;
     }
-    bounds.first <= c.key
+    bounds.tied <= carried.key
 }

@@ -1,8 +1,8 @@
 // The worst so far of each check, and what it comes to with one set more, where the combination permits that set (document 01, Load sets).
 //
 // A search goes on from one worst so far to the next with each set that it weighs. What is hard is that no order of going through the
-// sets is part of what a line names, or of the laws by which a search finds it; that most sets are seen to be no worse without a
-// division; and that a set without a row may not be weighed, since 0 stands for no set yet.
+// sets is part of what a line names, or of the laws by which a search finds it; and that a set without a row may not be weighed, since 0
+// stands for no set yet.
 pub mod bounds;
 pub mod ranked;
 
@@ -12,7 +12,8 @@ use sets::Combination;
 use sums::carried::Carried;
 ghost use Prim.Native.Nat.{_<_};
 ghost use Rattle.checks.specs.Sized.{Sized};
-ghost use Rattle.weighing.specs.steps.Weighs.{Light, Low, Weighs, Visits, set-in};
+ghost use Rattle.sums.specs.steps.Carried.{set-in};
+ghost use Rattle.weighing.specs.steps.Weighs.{SmallCarried, Low, Weighs, Visits};
 
 // The worst so far of each check.
 pub struct Worst {
@@ -24,24 +25,24 @@ pub struct Worst {
 }
 
 // The worst so far of every check with one set more: PR always, OP, OM and SL too where the combination serves (I to III), RK on rock.
-fn weigh(serves: bool, base: Base, c: Carried, worst: Worst) -> Worst
+fn weigh(serves: bool, base: Base, carried: Carried, worst: Worst) -> Worst
     requires { ⌜ Sized base ⌝ }
-    requires { ⌜ Light c ⌝ }
-    requires { ⌜ 0 < set-in c ⌝ }
+    requires { ⌜ SmallCarried carried ⌝ }
+    requires { ⌜ 0 < set-in carried ⌝ }
     requires { ⌜ Low worst ⌝ }
-    ensures { λ r. ⌜ Weighs serves base c worst r ⌝ }
+    ensures { λ r. ⌜ Weighs serves base carried worst r ⌝ }
 {
-    let set = c.key / 65536 % 65536;
-    let n = sums::carried::over_zero(c.n);
-    let m = sums::carried::size_of(c.m);
+    let set = sums::carried::set_in(carried);
+    let n = sums::carried::over_zero(carried.n);
+    let m = sums::carried::from_zero(carried.m);
     let mut op = worst.op;
     let mut om = worst.om;
     let mut sl = worst.sl;
     let mut rk = worst.rk;
     if serves {
-        let h = sums::carried::size_of(c.h);
-        let plus = checks::ranks::tip_rank(c.plus.resisting, c.plus.overturning);
-        let minus = checks::ranks::tip_rank(c.minus.resisting, c.minus.overturning);
+        let h = sums::carried::from_zero(carried.h);
+        let plus = checks::ranks::tip_rank(carried.plus.resisting, carried.plus.overturning);
+        let minus = checks::ranks::tip_rank(carried.minus.resisting, carried.minus.overturning);
         let slid = checks::ranks::slide_rank(base.friction, n, h);
         op = ranked::worse(op, plus, set);
         om = ranked::worse(om, minus, set);
@@ -57,17 +58,23 @@ fn weigh(serves: bool, base: Base, c: Carried, worst: Worst) -> Worst
 }
 
 // The worst so far with one set more, where its wind and earthquake rows may act together.
-pub fn visit(combination: Combination, serves: bool, base: Base, c: Carried, worst: Worst) -> Worst
+pub fn visit(
+    combination: Combination,
+    serves: bool,
+    base: Base,
+    carried: Carried,
+    worst: Worst,
+) -> Worst
     requires { ⌜ Sized base ⌝ }
-    requires { ⌜ Light c ⌝ }
+    requires { ⌜ SmallCarried carried ⌝ }
     requires { ⌜ Low worst ⌝ }
-    ensures { λ r. ⌜ Visits combination serves base c worst r ⌝ }
+    ensures { λ r. ⌜ Visits combination serves base carried worst r ⌝ }
 {
-    let winds = c.key % 256;
-    let earthquakes = c.key / 256 % 256;
-    let set = c.key / 65536 % 65536;
+    let winds = sums::carried::winds_in(carried);
+    let earthquakes = sums::carried::earthquakes_in(carried);
+    let set = sums::carried::set_in(carried);
     if !sets::admission::admits(combination, winds, earthquakes, set) {
         return worst;
     }
-    weigh(serves, base, c, worst)
+    weigh(serves, base, carried, worst)
 }

@@ -13,24 +13,24 @@ use Rattle.sums.specs.declared.Sums.{Sums}
 use Rattle.sums.specs.steps.Sums.{add, add-if}
 use Rattle.sums.proofs.Adding.{add-if-in, add-if-out}
 use Rattle.worst.specs.steps.Stance.{chosen}
-use Rattle.worst.specs.steps.Order.{turn, choice, changed, taken}
+use Rattle.worst.specs.steps.Order.{held-at, choice, changed, taken}
 use Rattle.worst.proofs.choices.Choices.{add-if-swap}
 
 -- ---- the parts of a number from a place on, by halving
 half-part : (k j : ℕ) → k / 2 ^ suc j ≡ k / 2 / 2 ^ j
 half-part k j = sym (shr-shr k 1 j ∙ ap (λ (x : ℕ). k / 2 ^ x) (one-add j))
 
-half-turn : (k j : ℕ) → turn k (suc j) ≡ turn (k / 2) j
-unfolding turn
-half-turn k j = ap (λ (x : ℕ). (x + 1) / 2 % 2) (half-part k j)
+half-held : (k j : ℕ) → held-at k (suc j) ≡ held-at (k / 2) j
+unfolding held-at
+half-held k j = ap (λ (x : ℕ). (x + 1) / 2 % 2) (half-part k j)
 
 half-bit : (s j : ℕ) → bit s (suc j) ≡ bit (s / 2) j
 unfolding bit
 half-bit s j = ap (λ (x : ℕ). x % 2) (half-part s j)
 
-first-turn : (k : ℕ) → turn k 0 ≡ (k / 2 + k % 2) % 2
-unfolding turn
-first-turn k = let e : (k / 2 ^ 0 + 1) / 2 ≡ k / 2 + k % 2 = omega arith in ap (λ (x : ℕ). x % 2) e
+first-held : (k : ℕ) → held-at k 0 ≡ (k / 2 + k % 2) % 2
+unfolding held-at
+first-held k = let e : (k / 2 ^ 0 + 1) / 2 ≡ k / 2 + k % 2 = omega arith in ap (λ (x : ℕ). x % 2) e
 
 first-bit : (s : ℕ) → bit s 0 ≡ s % 2
 unfolding bit
@@ -55,18 +55,18 @@ same-rest q r s h i e = sym (twice-added q r h) ∙ rw e (twice-added q s i)
 pub choice-low : (m k : ℕ) → choice m k < 2 ^ m
 unfolding choice
 choice-low zero k = omega arith
-choice-low (suc m) k = rw (pow-suc 2 m) (omega (arith, choice-low m (k / 2), first-turn k))
+choice-low (suc m) k = rw (pow-suc 2 m) (omega (arith, choice-low m (k / 2), first-held k))
 
-pub choice-bit : (m k j : ℕ) → j < m → bit (choice m k) j ≡ turn k j
+pub choice-bit : (m k j : ℕ) → j < m → bit (choice m k) j ≡ held-at k j
 unfolding choice
 choice-bit zero k j h = absurd (omega arith)
-choice-bit (suc m) k zero h = first-bit (choice (suc m) k) ∙ omega (arith, first-turn k)
+choice-bit (suc m) k zero h = first-bit (choice (suc m) k) ∙ omega (arith, first-held k)
 choice-bit (suc m) k (suc j) h =
-    let e : choice (suc m) k / 2 ≡ choice m (k / 2) = omega (arith, first-turn k) in
-    half-bit (choice (suc m) k) j ∙ ap (λ (x : ℕ). bit x j) e ∙ choice-bit m (k / 2) j (omega arith) ∙ sym (half-turn k j)
+    let e : choice (suc m) k / 2 ≡ choice m (k / 2) = omega (arith, first-held k) in
+    half-bit (choice (suc m) k) j ∙ ap (λ (x : ℕ). bit x j) e ∙ choice-bit m (k / 2) j (omega arith) ∙ sym (half-held k j)
 
 -- each choice is visited, and only once
-pub visited : (m c : ℕ) → c < 2 ^ m → (k : ℕ) × (k < 2 ^ m) × (choice m k ≡ c)
+visited : (m c : ℕ) → c < 2 ^ m → (k : ℕ) × (k < 2 ^ m) × (choice m k ≡ c)
 unfolding choice
 visited zero c h = (0, omega arith, omega arith)
 visited (suc m) c h = later (visited m (c / 2) (omega (arith, rw (pow-suc 2 m) at h)))
@@ -76,22 +76,25 @@ visited (suc m) c h = later (visited m (c / 2) (omega (arith, rw (pow-suc 2 m) a
         let k = 2 * q + (q + c % 2) % 2 in
         let half : k / 2 ≡ q = omega arith in
         let rest : k % 2 ≡ (q + c % 2) % 2 = omega arith in
-        let own : turn k 0 ≡ c % 2 = first-turn k ∙ ap₂ (λ (x y : ℕ). (x + y) % 2) half rest ∙ twice-added q (c % 2) (omega arith) in
+        let own : held-at k 0 ≡ c % 2 = first-held k ∙ ap₂ (λ (x y : ℕ). (x + y) % 2) half rest ∙ twice-added q (c % 2) (omega arith) in
         (k, rw (pow-suc 2 m) (omega arith), omega (arith, own, ap (choice m) half))
 
-pub once : (m k l : ℕ) → k < 2 ^ m → l < 2 ^ m → choice m k ≡ choice m l → k ≡ l
+once : (m k l : ℕ) → k < 2 ^ m → l < 2 ^ m → choice m k ≡ choice m l → k ≡ l
 unfolding choice
 once zero k l h i e = omega arith
 once (suc m) k l h i e =
-    let before : choice m (k / 2) ≡ choice m (l / 2) = omega (arith, e, first-turn k, first-turn l) in
+    let before : choice m (k / 2) ≡ choice m (l / 2) = omega (arith, e, first-held k, first-held l) in
     let halves : k / 2 ≡ l / 2 = once m (k / 2) (l / 2) (omega (arith, rw (pow-suc 2 m) at h)) (omega (arith, rw (pow-suc 2 m) at i)) before in
-    let turned : turn k 0 ≡ turn l 0 = omega (arith, e, before) in
-    let rests : (k / 2 + k % 2) % 2 ≡ (k / 2 + l % 2) % 2 = sym (first-turn k) ∙ turned ∙ first-turn l ∙ ap (λ (x : ℕ). (x + l % 2) % 2) (sym halves) in
+    let turned : held-at k 0 ≡ held-at l 0 = omega (arith, e, before) in
+    let rests : (k / 2 + k % 2) % 2 ≡ (k / 2 + l % 2) % 2 = sym (first-held k) ∙ turned ∙ first-held l ∙ ap (λ (x : ℕ). (x + l % 2) % 2) (sym halves) in
     omega (arith, halves, same-rest (k / 2) (k % 2) (l % 2) (omega arith) (omega arith) rests)
+
+pub visited-once : (m c : ℕ) → c < 2 ^ m → (k : ℕ) × (k < 2 ^ m) × (choice m k ≡ c) × ((l : ℕ) → l < 2 ^ m → choice m l ≡ c → l ≡ k)
+visited-once m c h = let v = visited m c h in (v .0, v .1, v .2, λ l i e. once m l (v .0) i (v .1) (e ∙ sym (v .2)))
 
 -- the first choice has none of the rows
 pub choice-none : (m : ℕ) → choice m 0 ≡ 0
-unfolding choice turn
+unfolding choice held-at
 choice-none zero = refl
 choice-none (suc m) = omega (arith, choice-none m)
 
@@ -118,33 +121,33 @@ unfolding changed
 changed-low m k p h l = lowest-low 64 m k p h l
 
 -- the other rows stay
-others : (d k j : ℕ) → k + 1 < 2 ^ d → (j ≡ trailingZeros d (k + 1) → ⊥) → turn (k + 1) j ≡ turn k j
+others : (d k j : ℕ) → k + 1 < 2 ^ d → (j ≡ trailingZeros d (k + 1) → ⊥) → held-at (k + 1) j ≡ held-at k j
 others zero k j h n = absurd (omega arith)
 others (suc d) k zero h n =
     by-half (k + 1)
     (λ e.
     let same : (k + 1) / 2 + (k + 1) % 2 ≡ k / 2 + k % 2 = omega arith in
-    first-turn (k + 1) ∙ ap (λ (x : ℕ). x % 2) same ∙ sym (first-turn k))
+    first-held (k + 1) ∙ ap (λ (x : ℕ). x % 2) same ∙ sym (first-held k))
     (λ e. absurd (n (sym (lowest-odd d (k + 1) e))))
 others (suc d) k (suc j) h n =
     by-half (k + 1)
     (λ e.
     let up : (k + 1) / 2 ≡ k / 2 + 1 = omega arith in
     let low : k / 2 + 1 < 2 ^ d = omega (arith, rw (pow-suc 2 d) at h) in
-    half-turn (k + 1) j ∙ ap (λ (x : ℕ). turn x j) up
+    half-held (k + 1) j ∙ ap (λ (x : ℕ). held-at x j) up
     ∙ others d (k / 2) j low (λ i. n (ap suc (i ∙ ap (trailingZeros d) (sym up)) ∙ sym (lowest-even d (k + 1) e)))
-    ∙ sym (half-turn k j))
+    ∙ sym (half-held k j))
     (λ e.
     let same : (k + 1) / 2 ≡ k / 2 = omega arith in
-    half-turn (k + 1) j ∙ ap (λ (x : ℕ). turn x j) same ∙ sym (half-turn k j))
+    half-held (k + 1) j ∙ ap (λ (x : ℕ). held-at x j) same ∙ sym (half-held k j))
 
-pub step-others : (k j : ℕ) → k + 1 < 2 ^ 64 → (j ≡ changed (k + 1) → ⊥) → turn (k + 1) j ≡ turn k j
+pub step-others : (k j : ℕ) → k + 1 < 2 ^ 64 → (j ≡ changed (k + 1) → ⊥) → held-at (k + 1) j ≡ held-at k j
 unfolding changed
 step-others k j h n = others 64 k j h n
 
 -- the row itself is held before where it is taken away, and after where it is not
 unfoldable Turns : ℕ → ℕ → Type 0
-Turns k j = (turn k j ≡ (k + 1) / 2 ^ j / 2 % 2) × (turn (k + 1) j + (k + 1) / 2 ^ j / 2 % 2 ≡ 1)
+Turns k j = (held-at k j ≡ (k + 1) / 2 ^ j / 2 % 2) × (held-at (k + 1) j + (k + 1) / 2 ^ j / 2 % 2 ≡ 1)
 
 turns : (d k : ℕ) → k + 1 < 2 ^ d → Turns k (trailingZeros d (k + 1))
 unfolding Turns
@@ -162,14 +165,14 @@ turns (suc d) k h =
     first e =
         let whole : (k + 1) / 2 ^ 0 ≡ k + 1 = omega arith in
         let before : k / 2 + k % 2 ≡ (k + 1) / 2 = omega arith in
-        let after : turn (k + 1) 0 ≡ ((k + 1) / 2 + 1) % 2 = first-turn (k + 1) ∙ ap (λ (x : ℕ). ((k + 1) / 2 + x) % 2) e in
-        (first-turn k ∙ rw whole (ap (λ (x : ℕ). x % 2) before), rw (whole, after) (next-odd ((k + 1) / 2)))
+        let after : held-at (k + 1) 0 ≡ ((k + 1) / 2 + 1) % 2 = first-held (k + 1) ∙ ap (λ (x : ℕ). ((k + 1) / 2 + x) % 2) e in
+        (first-held k ∙ rw whole (ap (λ (x : ℕ). x % 2) before), rw (whole, after) (next-odd ((k + 1) / 2)))
 
     later : (j : ℕ) → (k + 1) / 2 ≡ k / 2 + 1 → Turns (k / 2) j → Turns k (suc j)
     later j up t =
         let part : (k + 1) / 2 ^ suc j ≡ (k / 2 + 1) / 2 ^ j = half-part (k + 1) j ∙ ap (λ (x : ℕ). x / 2 ^ j) up in
-        let after : turn (k + 1) (suc j) ≡ turn (k / 2 + 1) j = half-turn (k + 1) j ∙ ap (λ (x : ℕ). turn x j) up in
-        (half-turn k j ∙ rw part (t .0), rw (part, after) (t .1))
+        let after : held-at (k + 1) (suc j) ≡ held-at (k / 2 + 1) j = half-held (k + 1) j ∙ ap (λ (x : ℕ). held-at x j) up in
+        (half-held k j ∙ rw part (t .0), rw (part, after) (t .1))
 
 -- added or taken away
 pub taken-two : (k : ℕ) → taken k < 2
@@ -177,11 +180,11 @@ unfolding taken
 taken-two k = omega arith
 
 -- the row is added where it was not, or taken away where it was
-pub step-added : (k : ℕ) → k + 1 < 2 ^ 64 → taken (k + 1) ≡ 0 → (turn k (changed (k + 1)) ≡ 0) × (turn (k + 1) (changed (k + 1)) ≡ 1)
+pub step-added : (k : ℕ) → k + 1 < 2 ^ 64 → taken (k + 1) ≡ 0 → (held-at k (changed (k + 1)) ≡ 0) × (held-at (k + 1) (changed (k + 1)) ≡ 1)
 unfolding taken changed Turns
 step-added k h e = let t = turns 64 k h in (t .0 ∙ e, omega (arith, t .1, e))
 
-pub step-taken : (k : ℕ) → k + 1 < 2 ^ 64 → taken (k + 1) ≡ 1 → (turn k (changed (k + 1)) ≡ 1) × (turn (k + 1) (changed (k + 1)) ≡ 0)
+pub step-taken : (k : ℕ) → k + 1 < 2 ^ 64 → taken (k + 1) ≡ 1 → (held-at k (changed (k + 1)) ≡ 1) × (held-at (k + 1) (changed (k + 1)) ≡ 0)
 unfolding taken changed Turns
 step-taken k h e = let t = turns 64 k h in (t .0 ∙ e, omega (arith, t .1, e))
 

@@ -2,7 +2,7 @@
 use mathlib.Core.Path.{_≡_, refl, sym, _∙_, ap, subst, subst⁻¹}
 use mathlib.Core.Logic.{_⊎_, inl, inr, ⊎-elim}
 use mathlib.Core.Bool.{Bool, true, false}
-use Prim.Native.Nat.{ℕ, zero, suc, _+_, _-_, _/_, _^_, _<_}
+use Prim.Native.Nat.{ℕ, zero, suc, _+_, _-_, _/_, _^_, _≤_, _<_}
 use native.Mathlib.Omega.{arith}
 use native.Mathlib.Nat.{lt-of-lt-of-le, add-zero}
 use native.Mathlib.Decide.{decLt}
@@ -19,7 +19,7 @@ use Rattle.sets.specs.Bounded.{Bounded}
 use Rattle.sets.specs.steps.Deciding.{Arises, Admits, RowFits}
 use Rattle.sums.specs.declared.carried.Carried.{Carried}
 use Rattle.sums.specs.steps.Sums.{no-sums, sums-of, Room}
-use Rattle.sums.specs.steps.Carried.{shift-by}
+use Rattle.sums.specs.steps.Carried.{shift-by, set-in, winds-in, earthquakes-in}
 use Rattle.sums.proofs.Adding.{room-all, rows-is}
 use Rattle.sets.proofs.Permitting.{Fit}
 use Rattle.sums.proofs.permitted.Admitted.{admitted-permitted, admitted}
@@ -41,18 +41,18 @@ use Rattle.weighing.specs.declared.ranked.RankedSet.{RankedSet}
 use Rattle.weighing.specs.steps.Ranked.{tie-order, Offered}
 use Rattle.worst.specs.steps.Stance.{choosable, pick, stance-at}
 use Rattle.worst.specs.steps.Order.{choice}
-use Rattle.weighing.specs.steps.Weighs.{set-in, winds-in, earthquakes-in, ShowsCarried, Light, Low, ranked-of, Weighed, Weighs, Visits}
+use Rattle.weighing.specs.steps.Weighs.{ShowsCarried, SmallCarried, Low, ranked-of, Weighed, Weighs, Visits}
 use Rattle.weighing.specs.steps.Bounds.{bounds-of, Within}
-use Rattle.worst.specs.declared.term_table.TermTable.{TermTable}
+use Rattle.worst.specs.declared.step_table.StepTable.{StepTable}
 use Rattle.worst.specs.steps.Steps.{reached}
-use Rattle.worst.specs.steps.TermTable.{TableIs}
+use Rattle.worst.specs.steps.StepTable.{TableIs}
 use Rattle.worst.specs.steps.Search.{Walked}
 use Rattle.weighing.proofs.Weighing.{weighed-or-not}
-use Rattle.weighing.proofs.Reading.{light, winds-read, earthquakes-read, set-read, key-ordered, carried-shows}
+use Rattle.weighing.proofs.Reading.{small-carried, winds-read, earthquakes-read, set-read, key-ordered, carried-shows}
 use Rattle.weighing.proofs.bounds.Bounding.{Words, within-visits}
 use Rattle.weighing.proofs.Searching.{Extends, nothing-yet, offer, skip, ends-named, ends-empty}
 use Rattle.worst.proofs.choices.Choices.{pick-low, pick-bit, KeepsStances, Made, made, sums-number}
-use Rattle.worst.proofs.Order.{visited}
+use Rattle.worst.proofs.Order.{visited-once}
 use Rattle.worst.proofs.Stepping.{set-of, carried-is}
 use Rattle.worst.proofs.choices.Rows.{stance-says, held-never, held-always, stance-fits}
 
@@ -96,9 +96,9 @@ module _ (combination : Combination) (base : Base) (loads : Loads) (sized : Size
   unfolding sums
   room k = room-all (base .width) loads (set-of combination loads k) (sized .width) bounded
 
-  pub light-at : (k : ℕ) → Light (carried k)
+  pub small-at : (k : ℕ) → SmallCarried (carried k)
   unfolding carried
-  light-at k = light (sums k) (room k)
+  small-at k = small-carried (sums k) (room k)
 
   set-number : (k : ℕ) → (sums k) .set ≡ set-of combination loads k
   unfolding sums sums-of
@@ -116,9 +116,9 @@ module _ (combination : Combination) (base : Base) (loads : Loads) (sized : Size
   keyed k = key-ordered (sums k) (room k) (number-low k) (rows-is (base .width) loads (set-of combination loads k) (set-within k) ∙ ap ones (sym (set-number k)))
 
   -- what a walk by the table carries
-  pub carried-there : (table : TermTable) → TableIs combination (base .width) loads table → (k : ℕ) → k < table .choices → reached (table .steps) (table .first) k ≡ carried k
+  pub carried-there : (table : StepTable) → TableIs combination (base .width) loads table → (k : ℕ) → k ≤ table .last → reached (table .steps) (table .first) k ≡ carried k
   unfolding carried sums
-  carried-there table f k h = carried-is combination (base .width) loads table f (sized .width) bounded k (subst (λ (n : ℕ). k < n) (f .choices) h)
+  carried-there table f k h = carried-is combination (base .width) loads table f (sized .width) bounded k (omega (arith, f .last))
 
   -- ---- one step more
   gone-through-more : (n t : ℕ) → GoneThrough combination loads (n + 1) t → GoneThrough combination loads n t ⊎ (t ≡ set-of combination loads n)
@@ -177,7 +177,7 @@ module _ (combination : Combination) (base : Base) (loads : Loads) (sized : Size
       let e : from + 1 + suc n ≡ k + 1 = omega arith in
       subst⁻¹ (λ (m : ℕ). SoFar combination base loads serves m none worst) e
       (one-step serves k none
-      (within-visits combination serves base worst (carried k) sized low words (light-at k) (keyed k) (all k (omega arith) (omega arith)))
+      (within-visits combination serves base worst (carried k) sized low words (small-at k) (keyed k) (all k (omega arith) (omega arith)))
       (passed-over serves none low words from n so (λ k h l. all k h (omega arith))))
 
   -- every permitted set is a choice, and every choice that of a step
@@ -185,7 +185,7 @@ module _ (combination : Combination) (base : Base) (loads : Loads) (sized : Size
   unfolding GoneThrough set-of Made KeepsStances stance-at
   every t p =
       let m = made (stance-at combination loads) t (loads .count) (p .within) (λ i h. (held-never combination loads t i p h, held-always combination loads t i p h)) in
-      let v = visited count (m .0) (m .1) in
+      let v = visited-once count (m .0) (m .1) in
       (v .0, v .1, sym (ap (pick (stance-at combination loads) (loads .count)) (v .2) ∙ m .2))
 
   pub all-found : (serves : Bool) (n : ℕ) (none : RankedSet) (worst : Worst) → n ≡ 2 ^ choosable (stance-at combination loads) (loads .count) → none .set ≡ 0 → none .rank ≡ 2 ^ 64 - 1

@@ -1,5 +1,5 @@
 pub mod Stance
 pub mod Order
 pub mod Steps
-pub mod TermTable
+pub mod StepTable
 pub mod Search

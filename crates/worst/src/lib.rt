@@ -1,9 +1,10 @@
 // The worst permitted set of a combination for each check, and the line that names it (document 01, Load sets).
 //
-// One walk goes through the choices of the combination's choosable rows and weighs all its checks at once. What is hard is that the
-// promise of the walk names no order: it is only that no permitted set comes before the one that is named.
+// One walk goes through the choices of the combination's choosable rows. Neighbours differ by one row, and the sums are carried from one to
+// the next; what is plainly no worse is passed over, and the rest is weighed in all checks at once. What is hard is that the promise of
+// the walk names no order: it is only that no permitted set comes before the one that is named.
 mod choices;
-mod term_table;
+mod step_table;
 
 use checks::Base;
 use checks::Check;
@@ -29,14 +30,14 @@ ghost use Rattle.worst.specs.steps.Search.{FoundWorst, Walked};
 ghost use Rattle.worst.specs.steps.Steps.{Ahead, Passed};
 
 // Where a walk stands: the step that it has reached, and the sums of the choice there.
-pub struct Place {
+pub struct Standing {
     pub step: u64,
     pub carried: Carried,
 }
 
-// From one step to the next whose choice is not within the bounds, or to the last. On the way to step k the row changes whose number is
-// that of the zeros behind the last one of k; it is added and taken away by turns.
-fn pass_over(steps: &[u64; 256], last: u64, width: u64, bounds: Bounds, from: Place) -> Place
+// From one step to the next whose choice is not within the bounds, or to the last. On the way to step k the row changes whose number is that
+// of the zeros behind the last 1 of k in binary; it is added and taken away by turns.
+fn pass_over(steps: &[u64; 256], last: u64, width: u64, bounds: Bounds, from: Standing) -> Standing
     requires { ⌜ width ≤ 30000 ⌝ }
     requires { ⌜ Fitting bounds ⌝ }
     requires { ⌜ Ahead (now steps) last from ⌝ }
@@ -48,13 +49,13 @@ fn pass_over(steps: &[u64; 256], last: u64, width: u64, bounds: Bounds, from: Pl
         k = k + 1;
         let row = u64::trailing_zeros(k) as usize;
         let taken = ((k >> row) / 2 % 2) as usize;
-        let step = term_table::step_at(steps, 2 * row + taken);
-        carried = sums::carried::moved(carried, step);
+        let change = step_table::change_at(steps, 2 * row + taken);
+        carried = sums::carried::moved(carried, change);
         if !weighing::bounds::within(width, bounds, carried) {
-            return Place { step: k, carried };
+            return Standing { step: k, carried };
         }
     }
-    Place { step: k, carried }
+    Standing { step: k, carried }
 }
 
 // The worst of all choices: every permitted set of the combination is one of them. A choice within the bounds of the worst so far is
@@ -67,10 +68,10 @@ fn walk(combination: Combination, base: Base, loads: Loads) -> Worst
 {
     let serves = checks::service::serves(combination);
     let width = base.width;
-    let table = term_table::table_of(combination, width, loads);
+    let table = step_table::table_of(combination, width, loads);
     let steps = table.steps;
     let first = table.first;
-    let last = table.choices - 1;
+    let last = table.last;
     let none = RankedSet { rank: TOP, set: 0 };
     let unweighed = Worst {
         op: none,
@@ -80,14 +81,14 @@ fn walk(combination: Combination, base: Base, loads: Loads) -> Worst
         rk: none,
     };
     let mut worst = weighing::visit(combination, serves, base, first, unweighed);
-    let mut place = Place {
+    let mut standing = Standing {
         step: 0,
         carried: first,
     };
-    while place.step < last {
+    while standing.step < last {
         let bounds = weighing::bounds::bounds_of(serves, base, worst);
-        place = pass_over(&steps, last, width, bounds, place);
-        worst = weighing::visit(combination, serves, base, place.carried, worst);
+        standing = pass_over(&steps, last, width, bounds, standing);
+        worst = weighing::visit(combination, serves, base, standing.carried, worst);
     }
     worst
 }

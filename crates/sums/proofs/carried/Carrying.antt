@@ -10,7 +10,7 @@ use Rattle.sums.specs.declared.Balance.{Balance}
 use Rattle.sums.specs.declared.Sums.{Sums}
 use Rattle.sums.specs.declared.carried.Carried.{Carried}
 use Rattle.sums.specs.steps.Sums.{no-sums, add, parts-sum, balance-sum, Room}
-use Rattle.sums.specs.steps.Carried.{wrap, key-of, balance-shift, shift-by, balance-moved, moved-by, over-zero, size}
+use Rattle.sums.specs.steps.Carried.{wrap, key-of, balance-shift, shift-by, balance-moved, moved-by, over-zero, from-zero}
 use Rattle.sums.proofs.Adding.{same-balance}
 
 -- ---- equal carried sums
@@ -90,13 +90,13 @@ pub over-high : (x : ℕ) → 2 ^ 63 ≤ x → over-zero x ≡ 0
 unfolding over-zero
 over-high x h = rw (le-ltb x (2 ^ 63) h)
 
-pub size-low : (x : ℕ) → x < 2 ^ 63 → size x ≡ x
-unfolding size
-size-low x h = rw (lt-ltb x (2 ^ 63) h)
+pub distance-low : (x : ℕ) → x < 2 ^ 63 → from-zero x ≡ x
+unfolding from-zero
+distance-low x h = rw (lt-ltb x (2 ^ 63) h)
 
-pub size-high : (x : ℕ) → 2 ^ 63 ≤ x → size x ≡ 2 ^ 64 - x
-unfolding size
-size-high x h = rw (le-ltb x (2 ^ 63) h)
+pub distance-high : (x : ℕ) → 2 ^ 63 ≤ x → from-zero x ≡ 2 ^ 64 - x
+unfolding from-zero
+distance-high x h = rw (le-ltb x (2 ^ 63) h)
 
 module _ (a b : ℕ) (p : a ≤ 2 ^ 60) (q : b ≤ 2 ^ 60) where
   pub over-wrap : over-zero (wrap a b) ≡ a - b
@@ -104,7 +104,7 @@ module _ (a b : ℕ) (p : a ≤ 2 ^ 60) (q : b ≤ 2 ^ 60) where
   over-wrap =
       by-cases (decLt (wrap a b) (2 ^ 63)) (λ h. over-low (wrap a b) h ∙ omega arith) (λ h. over-high (wrap a b) (omega arith) ∙ omega arith)
 
-  pub size-wrap : size (wrap a b) ≡ (a - b) + (b - a)
+  pub distance-wrap : from-zero (wrap a b) ≡ (a - b) + (b - a)
   unfolding wrap
-  size-wrap =
-      by-cases (decLt (wrap a b) (2 ^ 63)) (λ h. size-low (wrap a b) h ∙ omega arith) (λ h. size-high (wrap a b) (omega arith) ∙ omega arith)
+  distance-wrap =
+      by-cases (decLt (wrap a b) (2 ^ 63)) (λ h. distance-low (wrap a b) h ∙ omega arith) (λ h. distance-high (wrap a b) (omega arith) ∙ omega arith)

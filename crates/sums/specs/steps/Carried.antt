@@ -1,6 +1,6 @@
--- What `wrapped`, `key_of`, `shift_of`, `moved`, `over_zero` and `size_of` answer: the sums of a set as a walk carries them from set to set, modulo 2^64.
+-- What `wrapped`, `key_of`, `shift_of`, `moved` and the readings of `carried` answer: the sums of a set as a walk carries them from set to set, modulo 2^64.
 use mathlib.Core.Bool.{cond}
-use Prim.Native.Nat.{ℕ, _+_, _*_, _-_, _%_, _^_}
+use Prim.Native.Nat.{ℕ, _+_, _*_, _-_, _/_, _%_, _^_}
 use lib.Dec.{ltb}
 use Rattle.sums.specs.declared.Balance.{Balance}
 use Rattle.sums.specs.declared.Sums.{Sums}
@@ -47,5 +47,15 @@ moved-by a b =
 unfoldable pub over-zero : ℕ → ℕ
 over-zero x = cond (ltb x (2 ^ 63)) x 0
 
-unfoldable pub size : ℕ → ℕ
-size x = cond (ltb x (2 ^ 63)) x (2 ^ 64 - x)
+unfoldable pub from-zero : ℕ → ℕ
+from-zero x = cond (ltb x (2 ^ 63)) x (2 ^ 64 - x)
+
+-- ---- what its key tells of the set
+unfoldable pub winds-in : Carried → ℕ
+winds-in c = c .key % 256
+
+unfoldable pub earthquakes-in : Carried → ℕ
+earthquakes-in c = c .key / 256 % 256
+
+unfoldable pub set-in : Carried → ℕ
+set-in c = c .key / 65536 % 65536

@@ -14,7 +14,7 @@ use Rattle.sets.specs.declared.Combination.{Combination}
 use Rattle.sets.specs.declared.Combination.the-variants.{I, II, III, IV}
 use Rattle.sets.specs.steps.Deciding.{Together, Admits}
 use Rattle.sums.specs.declared.carried.Carried.{Carried}
-use Rattle.sums.specs.steps.Carried.{over-zero, size}
+use Rattle.sums.specs.steps.Carried.{over-zero, from-zero, set-in, winds-in, earthquakes-in}
 use Rattle.checks.specs.declared.Base.{Base}
 use Rattle.checks.specs.declared.Check.{Check}
 use Rattle.checks.specs.declared.Check.the-variants.{OP, OM, SL, PR, RK}
@@ -30,7 +30,7 @@ use Rattle.weighing.specs.declared.ranked.RankedSet.{RankedSet}
 use Rattle.weighing.specs.declared.bounds.Bounds.{Bounds}
 use Rattle.weighing.specs.declared.Worst.{Worst}
 use Rattle.weighing.specs.steps.Ranked.{tie-order, weight-of, Offered}
-use Rattle.weighing.specs.steps.Weighs.{set-in, winds-in, earthquakes-in, ShowsCarried, Light, ranked-of, Weighed, Low, Visits}
+use Rattle.weighing.specs.steps.Weighs.{ShowsCarried, SmallCarried, ranked-of, Weighed, Low, Visits}
 use Rattle.weighing.specs.steps.Bounds.{later, bound-of, tied-from, number-below, lean-of, bounds-of, PressedWithin, Within, Fitting}
 use Rattle.weighing.proofs.Weighing.{weighed-or-not}
 use Rattle.weighing.proofs.ranked.Weights.{weight-tie-order, worse-of-old, offered-old}
@@ -232,7 +232,7 @@ pressed b set width length n m lean low few wide narrow long small some most lea
 abbrev pub Words : Worst → Type 0
 Words worst = (check : Check) → (ranked-of check worst) .rank ≤ 2 ^ 64 - 1
 
-module _ (serves : Bool) (base : Base) (worst : Worst) (c : Carried) (sized : Sized base) (low : Low worst) (words : Words worst) (light : Light c)
+module _ (serves : Bool) (base : Base) (worst : Worst) (c : Carried) (sized : Sized base) (low : Low worst) (words : Words worst) (light : SmallCarried c)
     (keyed : c .key / 65536 ≡ tie-order (set-in c)) (within : Within (base .width) (bounds-of serves base worst) c) where
   few : set-in c < 65536
   unfolding set-in
@@ -241,11 +241,11 @@ module _ (serves : Bool) (base : Base) (worst : Worst) (c : Carried) (sized : Si
   -- it comes no earlier than the worst so far of each check where it ties
   turned : later (tied-from serves (worst .op)) (tied-from serves (worst .om)) ≤ c .key
   unfolding bounds-of
-  turned = le-trans (later-over-first _ _) (within .first)
+  turned = le-trans (later-over-first _ _) (within .tied)
 
   moved : later (tied-from serves (worst .sl)) (tied-from (base .rock) (worst .rk)) ≤ c .key
   unfolding bounds-of
-  moved = le-trans (later-over-second _ _) (within .first)
+  moved = le-trans (later-over-second _ _) (within .tied)
 
   pub kept : (check : Check) → Weighed serves base check → Offered (side check) (ShowsCarried check base c) (ranked-of check worst) (set-in c) (ranked-of check worst)
   unfolding Weighed side ShowsCarried ranked-of Low bounds-of
@@ -257,13 +257,13 @@ module _ (serves : Bool) (base : Base) (worst : Worst) (c : Carried) (sized : Si
       (c .minus .resisting) (c .minus .overturning) (light .minus) (within .om)
   kept SL on =
       slid serves (worst .sl) (c .key) (set-in c) on (words SL) (low SL) few keyed (le-trans (later-over-first _ _) moved)
-      (base .friction) (over-zero (c .n)) (size (c .h)) (sized .friction) (light .n) (within .n) (within .sl)
+      (base .friction) (over-zero (c .n)) (from-zero (c .h)) (sized .friction) (light .n) (within .n) (within .sl)
   kept PR on =
-      pressed (worst .pr) (set-in c) (base .width) (base .length) (over-zero (c .n)) (size (c .m)) (lean-of (base .rock) (worst .rk .rank)) (low PR) few
+      pressed (worst .pr) (set-in c) (base .width) (base .length) (over-zero (c .n)) (from-zero (c .m)) (lean-of (base .rock) (worst .rk .rank)) (low PR) few
       (sized .wide) (sized .width) (sized .long) (light .n) (within .n) (lean-most (base .rock) (worst .rk .rank)) (within .lean) refl refl (within .press)
   kept RK on =
       leaned (base .rock) (worst .rk) (c .key) (set-in c) on (words RK) (low RK) few keyed (le-trans (later-over-second _ _) moved)
-      (base .width) (over-zero (c .n)) (size (c .m)) (light .m) (sized .wide) (within .n) (within .lean)
+      (base .width) (over-zero (c .n)) (from-zero (c .m)) (light .m) (sized .wide) (within .n) (within .lean)
 
 -- ---- whether a set is admitted is decided
 both : {P Q : Type 0} → Dec P → Dec Q → Dec (P × Q)
@@ -288,7 +288,7 @@ admits-or-not combination winds earthquakes set =
     map-dec (λ a. record { some = a .0; together = a .1 }) (λ a. (a .some, a .together)) (both (decLt 0 set) (together-or-not combination winds earthquakes))
 
 -- A set within the bounds need not be visited: if it is admitted it leaves the worst so far as it is, and else it does not count.
-pub within-visits : (combination : Combination) (serves : Bool) (base : Base) (worst : Worst) (c : Carried) → Sized base → Low worst → Words worst → Light c
+pub within-visits : (combination : Combination) (serves : Bool) (base : Base) (worst : Worst) (c : Carried) → Sized base → Low worst → Words worst → SmallCarried c
     → (0 < set-in c → c .key / 65536 ≡ tie-order (set-in c)) → Within (base .width) (bounds-of serves base worst) c → Visits combination serves base c worst worst
 within-visits combination serves base worst c sized low words light keyed within =
     record {

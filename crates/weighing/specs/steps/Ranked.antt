@@ -1,4 +1,4 @@
--- What `worse` answers: the order of ranked sets, as one number, and what it is to be the worse of it and of one set more.
+-- What `tie_order` and `worse` answer: the order of ranked sets, as one number, and what it is to be the worse of it and of one set more.
 use mathlib.Core.Path.{_≡_}
 use mathlib.Core.Logic.{_⊎_}
 use Prim.Native.Nat.{ℕ, zero, suc, _+_, _*_, _≤_}

@@ -2,10 +2,10 @@
 use mathlib.Core.Path.{_≡_}
 use mathlib.Core.Logic.{_⊎_}
 use mathlib.Core.Bool.{Bool, true}
-use Prim.Native.Nat.{ℕ, _/_, _%_, _^_, _≤_, _<_}
+use Prim.Native.Nat.{_^_, _≤_, _<_}
 use Rattle.sets.specs.declared.Combination.{Combination}
 use Rattle.sums.specs.declared.carried.Carried.{Carried}
-use Rattle.sums.specs.steps.Carried.{over-zero, size}
+use Rattle.sums.specs.steps.Carried.{over-zero, from-zero, winds-in, earthquakes-in, set-in}
 use Rattle.sets.specs.steps.Deciding.{Admits}
 use Rattle.checks.specs.declared.Base.{Base}
 use Rattle.checks.specs.declared.Check.{Check}
@@ -18,29 +18,19 @@ use Rattle.weighing.specs.declared.Worst.{Worst}
 use Rattle.weighing.specs.steps.Ranked.{Offered}
 
 -- ---- carried sums
--- the set that they are of, and how many wind and earthquake rows it has
-unfoldable pub set-in : Carried → ℕ
-set-in c = c .key / 65536 % 65536
-
-unfoldable pub winds-in : Carried → ℕ
-winds-in c = c .key % 256
-
-unfoldable pub earthquakes-in : Carried → ℕ
-earthquakes-in c = c .key / 256 % 256
-
--- its figures
+-- the figures of the set that they are of
 unfoldable pub ShowsCarried : Check → Base → Carried → Figure → Type 0
 ShowsCarried OP base c v = Tips (c .plus .resisting) (c .plus .overturning) v
 ShowsCarried OM base c v = Tips (c .minus .resisting) (c .minus .overturning) v
-ShowsCarried SL base c v = Slides (base .friction) (over-zero (c .n)) (size (c .h)) v
-ShowsCarried PR base c v = Presses (base .width) (base .length) (over-zero (c .n)) (size (c .m)) v
-ShowsCarried RK base c v = Leans (base .width) (over-zero (c .n)) (size (c .m)) v
+ShowsCarried SL base c v = Slides (base .friction) (over-zero (c .n)) (from-zero (c .h)) v
+ShowsCarried PR base c v = Presses (base .width) (base .length) (over-zero (c .n)) (from-zero (c .m)) v
+ShowsCarried RK base c v = Leans (base .width) (over-zero (c .n)) (from-zero (c .m)) v
 
 -- small enough for every figure, as the sums of 16 rows are
-pub record Light (c : Carried) : Type 0 where
+pub record SmallCarried (c : Carried) : Type 0 where
   pub n : over-zero (c .n) ≤ 2 ^ 20
-  pub h : size (c .h) ≤ 2 ^ 24
-  pub m : size (c .m) ≤ 2 ^ 40
+  pub h : from-zero (c .h) ≤ 2 ^ 24
+  pub m : from-zero (c .m) ≤ 2 ^ 40
   pub plus : c .plus .resisting ≤ 2 ^ 40
   pub minus : c .minus .resisting ≤ 2 ^ 40
   pub over-plus : c .plus .overturning ≤ 2 ^ 38

@@ -9,10 +9,10 @@ use Rattle.arithmetic.proofs.Cases.{by-cases}
 use Rattle.arithmetic.proofs.Deciding.{decided}
 use Rattle.sums.specs.declared.carried.Carried.{Carried}
 use Rattle.sums.specs.steps.Carried.{moved-by}
-use Rattle.weighing.specs.steps.Weighs.{Light}
+use Rattle.weighing.specs.steps.Weighs.{SmallCarried}
 use Rattle.weighing.specs.steps.Bounds.{Within}
 use Rattle.worst.specs.steps.Order.{changed, taken}
-use Rattle.worst.specs.steps.Steps.{step-at, reached}
+use Rattle.worst.specs.steps.Steps.{change-at, reached}
 use Rattle.worst.proofs.Order.{changed-low}
 use Rattle.worst.proofs.Stepping.{reached-more}
 use Rattle.worst.proofs.pass_over.Statement.{statement}
@@ -50,17 +50,17 @@ shr-taken : tie.Need-shr-taken Inv-loop μ-loop
 unfolding changed
 shr-taken c = omega (arith, row-low c)
 
-mul-step-at : tie.Need-mul-step-at Inv-loop μ-loop
+mul-change-at : tie.Need-mul-change-at Inv-loop μ-loop
 unfolding changed
-mul-step-at c = omega (arith, row-low c)
+mul-change-at c = omega (arith, row-low c)
 
-add-step-at : tie.Need-add-step-at Inv-loop μ-loop
+add-change-at : tie.Need-add-change-at Inv-loop μ-loop
 unfolding changed
-add-step-at c = omega (arith, row-low c)
+add-change-at c = omega (arith, row-low c)
 
-step-at-requires : tie.Need-step-at-requires Inv-loop μ-loop
+change-at-requires : tie.Need-change-at-requires Inv-loop μ-loop
 unfolding changed
-step-at-requires c κs = omega (arith, row-low c)
+change-at-requires c κs = omega (arith, row-low c)
 
 moved-requires : tie.Need-moved-requires Inv-loop μ-loop
 moved-requires c κs = search needs
@@ -73,15 +73,15 @@ module _ (c : tie.After-moved Inv-loop μ-loop) where
   next-is : (first : Carried) → (start turn) .args .from .carried ≡ reached ((start turn) .args .steps .now) first ((start turn) .args .from .step)
       → c .moved .result ≡ reached ((start turn) .args .steps .now) first (k turn + 1)
   unfolding changed taken
-  next-is first e = c .moved .ensures ∙ ap₂ moved-by (turn .before .loop .inv .2 first e .0) (c .before .step-at .ensures) ∙ sym (reached-more _ first (k turn))
+  next-is first e = c .moved .ensures ∙ ap₂ moved-by (turn .before .loop .inv .2 first e .0) (c .before .change-at .ensures) ∙ sym (reached-more _ first (k turn))
 
-  next-light : Light (c .moved .result)
-  next-light =
+  next-small : SmallCarried (c .moved .result)
+  next-small =
       let a = (start turn) .pre .1 .1 in
-      subst⁻¹ Light (next-is (a .first) (a .here)) (a .light (k turn + 1) (omega (arith, turn .loop-test .taken)))
+      subst⁻¹ SmallCarried (next-is (a .first) (a .here)) (a .small (k turn + 1) (omega (arith, turn .loop-test .taken)))
 
 within-requires : tie.Need-within-requires Inv-loop μ-loop
-within-requires c κs = let e = start (turn c) in (e .pre .0, (e .pre .1 .0, next-light c))
+within-requires c κs = let e = start (turn c) in (e .pre .0, (e .pre .1 .0, next-small c))
 
 returns : tie.Need-returns Inv-loop μ-loop
 returns c =
@@ -134,9 +134,9 @@ pass-over-spec =
     add-k
     cast-row
     shr-taken
-    mul-step-at
-    add-step-at
-    step-at-requires
+    mul-change-at
+    add-change-at
+    change-at-requires
     moved-requires
     within-requires
     returns

@@ -19,15 +19,15 @@ use Rattle.checks.specs.declared.Check.the-variants.{OP, OM, SL, PR, RK}
 use Rattle.weighing.specs.declared.Worst.{Worst}
 use Rattle.weighing.specs.declared.bounds.Bounds.{Bounds}
 use Rattle.weighing.specs.declared.ranked.RankedSet.{RankedSet}
-use Rattle.weighing.specs.steps.Weighs.{ranked-of, Light, Low, Visits}
+use Rattle.weighing.specs.steps.Weighs.{ranked-of, SmallCarried, Low, Visits}
 use Rattle.weighing.specs.steps.Bounds.{bounds-of, Within, Fitting}
 use Rattle.weighing.proofs.bounds.Bounding.{Words, bounds-fit, visits-words}
-use Rattle.worst.specs.declared.term_table.TermTable.{TermTable}
-use Rattle.worst.specs.steps.Stance.{stance-at}
+use Rattle.worst.specs.declared.step_table.StepTable.{StepTable}
+use Rattle.worst.specs.steps.Stance.{choosable, stance-at}
 use Rattle.worst.specs.steps.Steps.{reached}
-use Rattle.worst.specs.steps.TermTable.{TableIs}
+use Rattle.worst.specs.steps.StepTable.{TableIs}
 use Rattle.worst.proofs.choices.Choices.{choosable-room}
-use Rattle.worst.proofs.Walking.{SoFar, carried, light-at, carried-there, one-step, passed-over, all-found, nothing-passed}
+use Rattle.worst.proofs.Walking.{SoFar, carried, small-at, carried-there, one-step, passed-over, all-found, nothing-passed}
 use Rattle.worst.proofs.walk.Statement.{statement}
 use Rattle.worst.proofs.walk.Tie as tie
 
@@ -35,16 +35,16 @@ none : RankedSet
 none = record { rank = 2 ^ 64 - 1; set = 0 }
 
 -- the table that a walk goes by
-abbrev table-by : List ℕ → ℕ → Carried → TermTable
-table-by steps last first = record { steps = steps; choices = last + 1; first = first }
+abbrev table-by : List ℕ → ℕ → Carried → StepTable
+table-by steps last first = record { steps = steps; last = last; first = first }
 
 abbrev Inv-loop : tie.InvT-loop
-Inv-loop combination base serves width steps last worst₀ place₀ worst place = (place .step ≤ last) × Low worst × Words worst × (place .carried ≡ reached steps (place₀ .carried) (place .step))
-    × ((loads : Loads) → Sized base → Bounded loads → Arises combination loads → TableIs combination (base .width) loads (table-by steps last (place₀ .carried))
-    → SoFar combination base loads serves (place .step + 1) (record { rank = 2 ^ 64 - 1; set = 0 }) worst)
+Inv-loop combination base serves width steps last worst₀ standing₀ worst standing = (standing .step ≤ last) × Low worst × Words worst × (standing .carried ≡ reached steps (standing₀ .carried) (standing .step))
+    × ((loads : Loads) → Sized base → Bounded loads → Arises combination loads → TableIs combination (base .width) loads (table-by steps last (standing₀ .carried))
+    → SoFar combination base loads serves (standing .step + 1) (record { rank = 2 ^ 64 - 1; set = 0 }) worst)
 
 abbrev μ-loop : tie.MeasureT-loop
-μ-loop combination base serves width steps last worst₀ place₀ worst place = last - place .step
+μ-loop combination base serves width steps last worst₀ standing₀ worst standing = last - standing .step
 
 serves-requires : tie.Need-serves-requires Inv-loop μ-loop
 serves-requires c κs = search needs
@@ -57,30 +57,20 @@ module _ (c : tie.After-table-of Inv-loop μ-loop) where
   abbrev start : tie.Start Inv-loop μ-loop
   start = c .before .before
 
-  abbrev table : TermTable
+  abbrev table : StepTable
   table = c .table-of .result
 
-  some : 0 < table .choices
-  some = subst⁻¹ (λ (n : ℕ). 0 < n) (c .table-of .ensures .choices) (pow-pos _)
-
-  few : table .choices ≤ 65536
-  few = subst⁻¹ (λ (n : ℕ). n ≤ 65536) (c .table-of .ensures .choices) (pow-mono {j = 16} (omega (arith, choosable-room (stance-at (start .args .combination) (start .args .loads)) (start .args .loads .count), start .pre .1 .0 .count)))
-
-  -- counted by its last step
-  by-last : table ≡ table-by (table .steps) (table .choices - 1) (table .first)
-  by-last = let e : table .choices ≡ table .choices - 1 + 1 = omega (arith, some) in λ i. record { steps = table .steps; choices = e i; first = table .first }
-
-  table-is : TableIs (start .args .combination) (start .args .base .width) (start .args .loads) (table-by (table .steps) (table .choices - 1) (table .first))
-  table-is = subst (TableIs _ _ _) by-last (c .table-of .ensures)
+  few : table .last < 65536
+  few =
+      let h : 2 ^ choosable (stance-at (start .args .combination) (start .args .loads)) (start .args .loads .count) ≤ 65536 =
+      pow-mono {j = 16} (omega (arith, choosable-room (stance-at (start .args .combination) (start .args .loads)) (start .args .loads .count), start .pre .1 .0 .count)) in
+      omega (arith, h, c .table-of .ensures .last)
 
   -- all that is carried on the way is small
-  lights : (k : ℕ) → k < table .choices → Light (reached (table .steps) (table .first) k)
-  lights k h =
-      subst⁻¹ Light (carried-there (start .args .combination) (start .args .base) (start .args .loads) (start .pre .0) (start .pre .1 .0) (start .pre .1 .1) table (c .table-of .ensures) k h)
-      (light-at (start .args .combination) (start .args .base) (start .args .loads) (start .pre .0) (start .pre .1 .0) (start .pre .1 .1) k)
-
-sub-last : tie.Need-sub-last Inv-loop μ-loop
-sub-last c = omega (arith, some (c .before .before .before))
+  all-small : (k : ℕ) → k ≤ table .last → SmallCarried (reached (table .steps) (table .first) k)
+  all-small k h =
+      subst⁻¹ SmallCarried (carried-there (start .args .combination) (start .args .base) (start .args .loads) (start .pre .0) (start .pre .1 .0) (start .pre .1 .1) table (c .table-of .ensures) k h)
+      (small-at (start .args .combination) (start .args .base) (start .args .loads) (start .pre .0) (start .pre .1 .0) (start .pre .1 .1) k)
 
 -- ---- nothing weighed yet
 unweighed : Worst
@@ -105,14 +95,14 @@ none-words check = subst⁻¹ (λ (m : RankedSet). m .rank ≤ 2 ^ 64 - 1) (none
 visit-requires : tie.Need-visit-requires Inv-loop μ-loop
 unfolding unweighed none reached
 visit-requires c κs =
-    let t = c .before .before .before in
-    ((start t) .pre .0, (lights t 0 (some t), none-low))
+    let t = c .before .before in
+    ((start t) .pre .0, (all-small t 0 (omega arith), none-low))
 
 -- ---- one step, and those passed over before it
 module _ (combination : Combination) (base : Base) (serves : Bool) (loads : Loads) (sized : Sized base) (bounded : Bounded loads) (arises : Arises combination loads) (steps : List ℕ) (last : ℕ) (first : Carried)
     (f : TableIs combination (base .width) loads (table-by steps last first)) where
   there : (k : ℕ) → k ≤ last → reached steps first k ≡ carried combination base loads sized bounded arises k
-  there k h = carried-there combination base loads sized bounded arises (table-by steps last first) f k (omega arith)
+  there k h = carried-there combination base loads sized bounded arises (table-by steps last first) f k h
 
   stepped : (k : ℕ) {c : Carried} {b r : Worst} → k ≤ last → c ≡ reached steps first k → Visits combination serves base c b r → SoFar combination base loads serves k none b → SoFar combination base loads serves (k + 1) none r
   stepped k {c} {b} {r} h e v so = one-step combination base loads sized bounded arises serves k none (subst (λ (x : Carried). Visits combination serves base x b r) (e ∙ there k h) v) so
@@ -144,7 +134,7 @@ module _ (c : tie.Then1 Inv-loop μ-loop) where
   at = c .before .before
 
   abbrev filled : tie.After-table-of Inv-loop μ-loop
-  filled = at .before .before .before .before .before
+  filled = at .before .before .before .before
 
 bounds-of-requires : tie.Need-bounds-of-requires Inv-loop μ-loop
 bounds-of-requires c κs = ((start (filled c)) .pre .0, (at c) .loop .inv .1)
@@ -158,10 +148,10 @@ pass-over-requires c κs =
       (
         subst⁻¹ Fitting (b .ensures) (bounds-fit _ _ _ ((start t) .pre .0)),
         record {
-          few = omega (arith, few t, some t);
+          few = few t;
           first = (table t) .first;
           here = (at d) .loop .inv .3;
-          light = λ k h. lights t k (omega (arith, some t));
+          small = all-small t;
         },
       ),
     )
@@ -170,19 +160,19 @@ module _ (c : tie.After-pass-over Inv-loop μ-loop) where
   abbrev turn : tie.Then1 Inv-loop μ-loop
   turn = c .before .before .before
 
-  next-ends : c .pass-over .result .step ≤ (table (filled turn)) .choices - 1
+  next-ends : c .pass-over .result .step ≤ (table (filled turn)) .last
   next-ends = c .pass-over .ensures .ends ((at turn) .loop .inv .0)
 
   next-here : c .pass-over .result .carried ≡ reached ((table (filled turn)) .steps) ((table (filled turn)) .first) (c .pass-over .result .step)
   next-here = c .pass-over .ensures .here ((table (filled turn)) .first) ((at turn) .loop .inv .3)
 
-  onward : (at turn) .loop .place .step < c .pass-over .result .step
+  onward : (at turn) .loop .standing .step < c .pass-over .result .step
   onward = c .pass-over .ensures .onward (omega (arith, turn .if1 .taken))
 
 visit-requires-2 : tie.Need-visit-requires-2 Inv-loop μ-loop
 visit-requires-2 c κs =
     let t = filled (turn c) in
-    ((start t) .pre .0, (subst⁻¹ Light (next-here c) (lights t _ (omega (arith, next-ends c, some t))), (at (turn c)) .loop .inv .1))
+    ((start t) .pre .0, (subst⁻¹ SmallCarried (next-here c) (all-small t _ (next-ends c)), (at (turn c)) .loop .inv .1))
 
 loop-less : tie.Need-loop-less Inv-loop μ-loop
 loop-less c = omega (arith, onward (c .before), next-ends (c .before))
@@ -199,7 +189,7 @@ loop-again c =
       next-here d,
       λ loads sized bounded arises f.
           stepped _ _ _ loads sized bounded arises _ _ _ f (d .pass-over .result .step) (next-ends d) (next-here d) v
-          (passed _ _ _ loads sized bounded arises _ _ _ f ((at (turn d)) .loop .place .step) (d .pass-over .result .step) (inv .1) (inv .2) (onward d) (next-ends d) (d .before .before .bounds-of .ensures)
+          (passed _ _ _ loads sized bounded arises _ _ _ f ((at (turn d)) .loop .standing .step) (d .pass-over .result .step) (inv .1) (inv .2) (onward d) (next-ends d) (d .before .before .bounds-of .ensures)
           (d .pass-over .ensures .over ((table (filled (turn d))) .first) (inv .3)) (inv .4 loads sized bounded arises f)),
     )
 
@@ -207,12 +197,12 @@ returns : tie.Need-returns Inv-loop μ-loop
 unfolding none
 returns c =
     let d = c .before .before in
-    let t = d .before .before .before .before .before in
+    let t = d .before .before .before .before in
     let e = start t in
     let inv = d .loop .inv in
-    let n : d .loop .place .step + 1 ≡ (table t) .choices = omega (arith, inv .0, c .if1 .left, some t) in
-    all-found (e .args .combination) (e .args .base) (e .args .loads) (e .pre .0) (e .pre .1 .0) (e .pre .1 .1) _ _ none _ (n ∙ t .table-of .ensures .choices) refl refl (t .before .serves .ensures)
-    (inv .4 (e .args .loads) (e .pre .0) (e .pre .1 .0) (e .pre .1 .1) (table-is t))
+    let n : d .loop .standing .step + 1 ≡ (table t) .last + 1 = omega (arith, inv .0, c .if1 .left) in
+    all-found (e .args .combination) (e .args .base) (e .args .loads) (e .pre .0) (e .pre .1 .0) (e .pre .1 .1) _ _ none _ (n ∙ t .table-of .ensures .last) refl refl (t .before .serves .ensures)
+    (inv .4 (e .args .loads) (e .pre .0) (e .pre .1 .0) (e .pre .1 .1) (t .table-of .ensures))
 
 pub walk-spec : {M : Type 1} → statement M
 walk-spec =
@@ -222,7 +212,6 @@ walk-spec =
     μ-loop
     serves-requires
     table-of-requires
-    sub-last
     visit-requires
     loop-holds
     bounds-of-requires

@@ -1,4 +1,4 @@
--- What `stance_of` and `sums_at` answer: what a row is to the sets of a combination, as the program sorts the rows before it goes through the sets.
+-- What `stance_of` answers, and the choices that a walk goes through: what a row is to the sets of a combination, as the program sorts the rows first.
 use mathlib.Core.Bool.{Bool, true, cond}
 use Prim.Native.Nat.{ℕ, zero, suc, _+_, _^_}
 use lib.Dec.{eqb}

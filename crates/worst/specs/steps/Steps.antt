@@ -1,4 +1,4 @@
--- What `put_step`, `step_at` and `pass_over` answer: the table of steps, 8 numbers an entry, and where a walk by it comes to.
+-- What `put_change`, `change_at` and `pass_over` answer: the table of steps, 8 numbers an entry, and where a walk by it comes to.
 use mathlib.Core.Path.{_≡_}
 use mathlib.Core.Logic.{_⊎_}
 use mathlib.Core.List.{List, [], _∷_}
@@ -7,13 +7,13 @@ use lib.ListN.{getD, length}
 use Rattle.sums.specs.declared.carried.Carried.{Carried}
 use Rattle.sums.specs.steps.Carried.{moved-by}
 use Rattle.weighing.specs.declared.bounds.Bounds.{Bounds}
-use Rattle.weighing.specs.steps.Weighs.{Light}
+use Rattle.weighing.specs.steps.Weighs.{SmallCarried}
 use Rattle.weighing.specs.steps.Bounds.{Within}
-use Rattle.worst.specs.declared.Place.{Place}
+use Rattle.worst.specs.declared.Standing.{Standing}
 use Rattle.worst.specs.steps.Order.{changed, taken}
 
-unfoldable pub step-at : List ℕ → ℕ → Carried
-step-at t i =
+unfoldable pub change-at : List ℕ → ℕ → Carried
+change-at t i =
     record {
       n = getD t (8 * i) 0;
       h = getD t (8 * i + 1) 0;
@@ -24,13 +24,13 @@ step-at t i =
     }
 
 -- the numbers of an entry
-unfoldable pub cells : Carried → List ℕ
-cells c =
+unfoldable pub numbers : Carried → List ℕ
+numbers c =
     c .n ∷ c .h ∷ c .m ∷ c .plus .resisting ∷ c .plus .overturning ∷ c .minus .resisting ∷ c .minus .overturning ∷ c .key ∷ []
 
--- after is before with the numbers of entry i set to those of this step, and nothing else moved
-pub record Puts (before : List ℕ) (i : ℕ) (step : Carried) (after : List ℕ) : Type 0 where
-  pub own : (g : ℕ) → g < 8 → getD after (8 * i + g) 0 ≡ getD (cells step) g 0
+-- after is before with the numbers of entry i set to those of this change, and nothing else moved
+pub record Puts (before : List ℕ) (i : ℕ) (change : Carried) (after : List ℕ) : Type 0 where
+  pub own : (g : ℕ) → g < 8 → getD after (8 * i + g) 0 ≡ getD (numbers change) g 0
   pub others : (k : ℕ) → (k < 8 * i) ⊎ (8 * i + 8 ≤ k) → getD after k 0 ≡ getD before k 0
   pub size : length after ≡ length before
 
@@ -38,17 +38,17 @@ pub record Puts (before : List ℕ) (i : ℕ) (step : Carried) (after : List ℕ
 -- the carried sums at step k: on the way to it the changed row is added or taken away
 unfoldable pub reached : List ℕ → Carried → ℕ → Carried
 reached steps first zero = first
-reached steps first (suc k) = moved-by (reached steps first k) (step-at steps (2 * changed (suc k) + taken (suc k)))
+reached steps first (suc k) = moved-by (reached steps first k) (change-at steps (2 * changed (suc k) + taken (suc k)))
 
--- the walk has come to this place from some first sums, and all sums ahead are small
-pub record Ahead (steps : List ℕ) (last : ℕ) (place : Place) : Type 0 where
+-- the walk has come to where it stands from some first sums, and all sums on its way are small
+pub record Ahead (steps : List ℕ) (last : ℕ) (at : Standing) : Type 0 where
   pub few : last < 65536
   pub first : Carried
-  pub here : place .carried ≡ reached steps first (place .step)
-  pub light : (k : ℕ) → k ≤ last → Light (reached steps first k)
+  pub here : at .carried ≡ reached steps first (at .step)
+  pub small : (k : ℕ) → k ≤ last → SmallCarried (reached steps first k)
 
--- it goes on to a place at or before the last, and what it passes over on the way is within the bounds
-pub record Passed (steps : List ℕ) (last width : ℕ) (bounds : Bounds) (from to : Place) : Type 0 where
+-- it goes on to a step at or before the last, and what it passes over on the way is within the bounds
+pub record Passed (steps : List ℕ) (last width : ℕ) (bounds : Bounds) (from to : Standing) : Type 0 where
   pub onward : from .step < last → from .step < to .step
   pub ends : from .step ≤ last → to .step ≤ last
   pub here : (first : Carried) → from .carried ≡ reached steps first (from .step) → to .carried ≡ reached steps first (to .step)

@@ -104,7 +104,7 @@ returns c =
       whole = ap (λ (n : ℕ). n * (base .width * base .width * base .length) / 1000000) ((pressed d) .number-below .ensures) i;
       part = ap (λ (n : ℕ). n * (3 * base .length) / 1000) ((pressed d) .number-below .ensures) i;
       lean = c .before .lean-of .ensures i;
-      first = (c .later3 .ensures ∙ ap₂ later first second) i;
+      tied = (c .later3 .ensures ∙ ap₂ later first second) i;
     }
 
 pub bounds-of-spec : {M : Type 1} → statement M

@@ -12,10 +12,10 @@ use Rattle.weighing.proofs.bounds.within.Statement.{statement}
 use Rattle.weighing.proofs.bounds.within.Tie as tie
 
 -- the places where M and H are known, and the start
-abbrev at-m : tie.Else3 → tie.After-size-of
+abbrev at-m : tie.Else3 → tie.After-from-zero
 at-m c = c .before .before .before .before
 
-abbrev at-h : tie.Else4 → tie.After-size-of2
+abbrev at-h : tie.Else4 → tie.After-from-zero2
 at-h c = c .before .before .before
 
 abbrev start : tie.Else4 → tie.Start
@@ -25,13 +25,13 @@ start c = (at-m ((at-h c) .before)) .before .before .before
 n-low : (c : tie.After-over-zero) → c .over-zero .result ≤ 2 ^ 20
 n-low c = omega (arith, c .over-zero .ensures, c .before .pre .1 .1 .n)
 
-m-low : (c : tie.After-size-of) → c .size-of .result ≤ 2 ^ 40
-m-low c = omega (arith, c .size-of .ensures, c .before .before .before .pre .1 .1 .m)
+m-low : (c : tie.After-from-zero) → c .from-zero .result ≤ 2 ^ 40
+m-low c = omega (arith, c .from-zero .ensures, c .before .before .before .pre .1 .1 .m)
 
-h-low : (c : tie.After-size-of2) → c .size-of2 .result ≤ 2 ^ 24
-h-low c = omega (arith, c .size-of2 .ensures, (at-m (c .before)) .before .before .before .pre .1 .1 .h)
+h-low : (c : tie.After-from-zero2) → c .from-zero2 .result ≤ 2 ^ 24
+h-low c = omega (arith, c .from-zero2 .ensures, (at-m (c .before)) .before .before .before .pre .1 .1 .h)
 
-full-low : (c : tie.After-size-of) → c .before .before .over-zero .result * c .before .before .before .args .width ≤ 2 ^ 20 * 30000
+full-low : (c : tie.After-from-zero) → c .before .before .over-zero .result * c .before .before .before .args .width ≤ 2 ^ 20 * 30000
 full-low c = mul-le-mul (n-low (c .before .before)) (c .before .before .before .pre .0)
 
 over-zero-requires : tie.Need-over-zero-requires
@@ -40,8 +40,8 @@ over-zero-requires c κs = search needs
 returns : tie.Need-returns
 returns c = λ w. omega (arith, w .n, c .before .over-zero .ensures, c .if1 .taken)
 
-size-of-requires : tie.Need-size-of-requires
-size-of-requires c κs = search needs
+from-zero-requires : tie.Need-from-zero-requires
+from-zero-requires c κs = search needs
 
 mul-full : tie.Need-mul-full
 mul-full c = omega (arith, full-low c)
@@ -53,7 +53,7 @@ mul-if2-2 : tie.Need-mul-if2-2
 mul-if2-2 c = search needs
 
 returns-2 : tie.Need-returns-2
-returns-2 c = let d = c .before .before in λ w. omega (arith, w .lean, rw (d .before .before .over-zero .ensures, d .size-of .ensures) at (c .if2 .taken))
+returns-2 c = let d = c .before .before in λ w. omega (arith, w .lean, rw (d .before .before .over-zero .ensures, d .from-zero .ensures) at (c .if2 .taken))
 
 pressed-within-requires : tie.Need-pressed-within-requires
 pressed-within-requires c κs =
@@ -67,10 +67,10 @@ returns-3 c =
     let d = c .before .before .before .before in
     let a = d .before .before .before .args in
     λ w. refuted (p .result) (not-true (p .result) (c .if3 .taken)) (p .ensures)
-    (subst₂ (λ (x y : ℕ). PressedWithin (a .bounds) (x * a .width) x y) (sym (d .before .before .over-zero .ensures)) (sym (d .size-of .ensures)) (w .press))
+    (subst₂ (λ (x y : ℕ). PressedWithin (a .bounds) (x * a .width) x y) (sym (d .before .before .over-zero .ensures)) (sym (d .from-zero .ensures)) (w .press))
 
-size-of-requires-2 : tie.Need-size-of-requires-2
-size-of-requires-2 c κs = search needs
+from-zero-requires-2 : tie.Need-from-zero-requires-2
+from-zero-requires-2 c κs = search needs
 
 mul-if4 : tie.Need-mul-if4
 mul-if4 c = let d = (at-m (c .before .before)) .before .before in omega (arith, mul-le-mul (d .before .pre .1 .0 .sl .1) (n-low d))
@@ -81,7 +81,7 @@ mul-if4-2 c = let d = c .before .before in omega (arith, mul-le-mul ((at-m (d .b
 returns-4 : tie.Need-returns-4
 returns-4 c =
     let d = c .before .before .before in
-    λ w. omega (arith, w .sl, rw ((at-m (d .before)) .before .before .over-zero .ensures, d .size-of2 .ensures) at (c .if4 .taken))
+    λ w. omega (arith, w .sl, rw ((at-m (d .before)) .before .before .over-zero .ensures, d .from-zero2 .ensures) at (c .if4 .taken))
 
 mul-if5 : tie.Need-mul-if5
 mul-if5 c = let given = (start (c .before .before)) .pre .1 in omega (arith, mul-le-mul (given .0 .op .1) (given .1 .plus))
@@ -116,9 +116,9 @@ returns-7 c =
     let above = (at-m pressed) .before in
     let a = (start slid) .args in
     let n = above .before .over-zero .ensures in
-    let m = (at-m pressed) .size-of .ensures in
-    let h = (at-h slid) .size-of2 .ensures in
-    decides-same (leb (a .bounds .first) (a .c .key))
+    let m = (at-m pressed) .from-zero .ensures in
+    let h = (at-h slid) .from-zero2 .ensures in
+    decides-same (leb (a .bounds .tied) (a .carried .key))
     (λ f. record {
       n = omega (arith, n, above .if1 .left);
       lean = subst₂ (λ (x y : ℕ). 1000 * y ≤ a .bounds .lean * (x * a .width)) n m (leaned .if2 .left);
@@ -126,9 +126,9 @@ returns-7 c =
       sl = subst₂ (λ (x y : ℕ). a .bounds .sl .by * y ≤ a .bounds .sl .of * x) n h (slid .if4 .left);
       op = turned .if5 .left;
       om = last .if6 .left;
-      first = f;
+      tied = f;
     })
-    (λ w. w .first) (decides-at-most (a .bounds .first) (a .c .key))
+    (λ w. w .tied) (decides-at-most (a .bounds .tied) (a .carried .key))
 
 pub within-spec : {M : Type 1} → statement M
 within-spec =
@@ -136,14 +136,14 @@ within-spec =
     (tie.spec
     over-zero-requires
     returns
-    size-of-requires
+    from-zero-requires
     mul-full
     mul-if2
     mul-if2-2
     returns-2
     pressed-within-requires
     returns-3
-    size-of-requires-2
+    from-zero-requires-2
     mul-if4
     mul-if4-2
     returns-4

@@ -13,7 +13,7 @@ use Rattle.arithmetic.proofs.Cases.{by-cases}
 use Rattle.sums.specs.declared.carried.Carried.{Carried}
 use Rattle.sums.proofs.Adding.{same-balance}
 use Rattle.sums.proofs.carried.Carrying.{same-carried}
-use Rattle.worst.specs.steps.Steps.{step-at, cells, Puts}
+use Rattle.worst.specs.steps.Steps.{change-at, numbers, Puts}
 
 -- one number more
 pub write-own : (t entry : List ℕ) (base f : ℕ) → base + f < length t → ((g : ℕ) → g < f → getD t (base + g) 0 ≡ getD entry g 0)
@@ -28,8 +28,8 @@ write-kept t u base f v h before i l = getD-set-other t (base + f) i v 0 (λ e. 
 
 -- ---- a table with an entry written: the entry is read back, and those before it stay
 module _ {before : List ℕ} {j : ℕ} {step : Carried} {after : List ℕ} (p : Puts before j step after) where
-  pub puts-own : step-at after j ≡ step
-  unfolding step-at cells
+  pub puts-own : change-at after j ≡ step
+  unfolding change-at numbers
   puts-own =
       same-carried (record {
         n = ap (λ (n : ℕ). getD after n 0) (sym (add-zero (8 * j))) ∙ p .own 0 (lit< tt);
@@ -43,8 +43,8 @@ module _ {before : List ℕ} {j : ℕ} {step : Carried} {after : List ℕ} (p : 
   kept : (k : ℕ) → k < 8 * j → getD after k 0 ≡ getD before k 0
   kept k h = p .others k (inl h)
 
-  pub puts-others : (i : ℕ) → i < j → step-at after i ≡ step-at before i
-  unfolding step-at
+  pub puts-others : (i : ℕ) → i < j → change-at after i ≡ change-at before i
+  unfolding change-at
   puts-others i h =
       same-carried (record {
         n = kept (8 * i) (omega arith);

@@ -14,16 +14,16 @@ use Rattle.sets.proofs.Bits.{next-place}
 use Rattle.sums.proofs.Adding.{room-none, room-more, low-place}
 use Rattle.worst.specs.steps.Stance.{stance-at, row-terms}
 use Rattle.worst.proofs.choices.Choices.{choosable-room}
-use Rattle.worst.proofs.term_table.Filling.{Filled, filled-none, filled-as, more-never, more-always, more-choosable, terms-room, fixed-room}
-use Rattle.worst.proofs.term_table.table_of.Statement.{statement}
-use Rattle.worst.proofs.term_table.table_of.Tie as tie
+use Rattle.worst.proofs.step_table.Filling.{Filled, filled-none, filled-as, more-never, more-always, more-choosable, terms-room, fixed-room}
+use Rattle.worst.proofs.step_table.table_of.Statement.{statement}
+use Rattle.worst.proofs.step_table.table_of.Tie as tie
 
 abbrev Inv-loop : tie.InvT-loop
-Inv-loop combination width loads count none steps₀ choosable₀ choices₀ fixed₀ place₀ i₀ steps choosable choices fixed place i = (i ≤ count) × (place ≡ 2 ^ i)
-    × Filled combination width loads i steps choosable choices fixed
+Inv-loop combination width loads count none steps₀ choosable₀ last₀ fixed₀ place₀ i₀ steps choosable last fixed place i = (i ≤ count) × (place ≡ 2 ^ i)
+    × Filled combination width loads i steps choosable last fixed
 
 abbrev μ-loop : tie.MeasureT-loop
-μ-loop combination width loads count none steps₀ choosable₀ choices₀ fixed₀ place₀ i₀ steps choosable choices fixed place i = count - i
+μ-loop combination width loads count none steps₀ choosable₀ last₀ fixed₀ place₀ i₀ steps choosable last fixed place i = count - i
 
 none-room : (c : tie.After-no-sums Inv-loop μ-loop) → Room 16 (c .no-sums .result)
 none-room c = subst⁻¹ (Room 16) (c .no-sums .ensures) (room-none 16)
@@ -100,31 +100,35 @@ shift-of-requires c κs = let d = c .before .before in search (row-fits d, none-
 shift-of-requires-2 : tie.Need-shift-of-requires-2 Inv-loop μ-loop
 shift-of-requires-2 c κs = let d = c .before .before .before in search (row-fits d, none-room ((turn d) .before))
 
-mul-put-step : tie.Need-mul-put-step Inv-loop μ-loop
-mul-put-step c = omega (arith, unfilled (c .before .before .before .before .before))
+mul-put-change : tie.Need-mul-put-change Inv-loop μ-loop
+mul-put-change c = omega (arith, unfilled (c .before .before .before .before .before))
 
-put-step-requires : tie.Need-put-step-requires Inv-loop μ-loop
-put-step-requires c κs = let d = c .before .before .before .before .before in (omega (arith, unfilled d), (turn d) .loop .inv .2 .size)
+put-change-requires : tie.Need-put-change-requires Inv-loop μ-loop
+put-change-requires c κs = let d = c .before .before .before .before .before in (omega (arith, unfilled d), (turn d) .loop .inv .2 .size)
 
-mul-put-step-2 : tie.Need-mul-put-step-2 Inv-loop μ-loop
-mul-put-step-2 c = omega (arith, unfilled (c .before .before .before .before .before .before .before))
+mul-put-change-2 : tie.Need-mul-put-change-2 Inv-loop μ-loop
+mul-put-change-2 c = omega (arith, unfilled (c .before .before .before .before .before .before .before))
 
-add-put-step : tie.Need-add-put-step Inv-loop μ-loop
-add-put-step c = omega (arith, unfilled (c .before .before .before .before .before .before .before))
+add-put-change : tie.Need-add-put-change Inv-loop μ-loop
+add-put-change c = omega (arith, unfilled (c .before .before .before .before .before .before .before))
 
-put-step-requires-2 : tie.Need-put-step-requires-2 Inv-loop μ-loop
-put-step-requires-2 c κs =
+put-change-requires-2 : tie.Need-put-change-requires-2 Inv-loop μ-loop
+put-change-requires-2 c κs =
     let d = c .before .before .before .before .before .before .before in
-    (omega (arith, unfilled d), c .before .put-step .ensures .size ∙ (turn d) .loop .inv .2 .size)
+    (omega (arith, unfilled d), c .before .put-change .ensures .size ∙ (turn d) .loop .inv .2 .size)
 
 add-choosable : tie.Need-add-choosable Inv-loop μ-loop
 add-choosable c = omega (arith, unfilled (c .before .before .before .before .before .before .before .before))
 
-mul-choices : tie.Need-mul-choices Inv-loop μ-loop
-mul-choices c =
-    let d = c .before .before .before .before .before .before .before .before in
-    let f = (turn d) .loop .inv .2 in
-    omega (arith, f .choices-made, low-place ((turn d) .loop .choosable) (omega (arith, unfilled d)))
+-- the last step of 16 rows fits
+last-low : (c : tie.After-terms-of Inv-loop μ-loop) → (turn c) .loop .last < 2 ^ 34
+last-low c = omega (arith, (turn c) .loop .inv .2 .last-made, low-place ((turn c) .loop .choosable) (omega (arith, unfilled c)))
+
+mul-last : tie.Need-mul-last Inv-loop μ-loop
+mul-last c = omega (arith, last-low (c .before .before .before .before .before .before .before .before))
+
+add-last : tie.Need-add-last Inv-loop μ-loop
+add-last c = omega (arith, last-low (c .before .before .before .before .before .before .before .before))
 
 mul-place : tie.Need-mul-place Inv-loop μ-loop
 mul-place c =
@@ -139,7 +143,7 @@ loop-less c = omega arith
 
 -- the table with the row, whichever way it stands
 grows : (c : tie.At-match-came Inv-loop μ-loop) → let d = c .before in
-    Filled ((start d) .args .combination) ((start d) .args .width) ((start d) .args .t3) ((turn d) .loop .i + 1) (c .match .steps) (c .match .choosable) (c .match .choices) (c .match .fixed)
+    Filled ((start d) .args .combination) ((start d) .args .width) ((start d) .args .t3) ((turn d) .loop .i + 1) (c .match .steps) (c .match .choosable) (c .match .last) (c .match .fixed)
 grows c =
     let d = c .before in
     let f = (turn d) .loop .inv .2 in
@@ -164,10 +168,10 @@ returns : tie.Need-returns Inv-loop μ-loop
 returns c =
     let d = c .before in
     let e = d .before .before .before in
-    let f = subst (λ (n : ℕ). Filled (e .args .combination) (e .args .width) (e .args .t3) n (d .before .loop .steps) (d .before .loop .choosable) (d .before .loop .choices) (d .before .loop .fixed))
+    let f = subst (λ (n : ℕ). Filled (e .args .combination) (e .args .width) (e .args .t3) n (d .before .loop .steps) (d .before .loop .choosable) (d .before .loop .last) (d .before .loop .fixed))
     (le-antisymm (d .before .loop .inv .0) (d .loop-test .left)) (d .before .loop .inv .2) in
     record {
-      choices = f .choices-made ∙ ap (λ (n : ℕ). 2 ^ n) (f .count);
+      last = f .last-made ∙ ap (λ (n : ℕ). 2 ^ n) (f .count);
       first = c .shift-of3 .ensures ∙ ap₂ shift-by (f .always-there) (d .before .before .no-sums .ensures);
       added = f .added;
       taken = f .taken;
@@ -191,13 +195,14 @@ table-of-spec =
     enum-told-3
     shift-of-requires
     shift-of-requires-2
-    mul-put-step
-    put-step-requires
-    mul-put-step-2
-    add-put-step
-    put-step-requires-2
+    mul-put-change
+    put-change-requires
+    mul-put-change-2
+    add-put-change
+    put-change-requires-2
     add-choosable
-    mul-choices
+    mul-last
+    add-last
     mul-place
     add-i
     loop-less

@@ -4,7 +4,7 @@ use mathlib.Core.List.{List}
 use Prim.Native.Nat.{ℕ, zero, suc, _+_, _*_, _^_, _≤_, _<_}
 use native.Mathlib.Omega.{arith}
 use native.Mathlib.Numerals.{add-one}
-use native.Mathlib.Nat.{lt-of-lt-of-le, pow-suc, mul-comm}
+use native.Mathlib.Nat.{lt-of-lt-of-le, pow-suc}
 use native.Mathlib.Decide.{decLt}
 use lib.ListN.{length}
 use Rattle.arithmetic.proofs.Cases.{impossible, by-cases}
@@ -20,9 +20,9 @@ use Rattle.sums.proofs.Adding.{room-none, room-add, room-more, room-row, low-pl
 use Rattle.worst.specs.declared.choices.Stance.{Stance}
 use Rattle.worst.specs.declared.choices.Stance.the-variants.{Never, Always, Choosable}
 use Rattle.worst.specs.steps.Stance.{next, choosable, fixed-by, fixed, row-terms, stance-at}
-use Rattle.worst.specs.steps.Steps.{step-at, Puts}
+use Rattle.worst.specs.steps.Steps.{change-at, Puts}
 use Rattle.worst.proofs.choices.Choices.{next-le}
-use Rattle.worst.proofs.term_table.Rows.{puts-own, puts-others}
+use Rattle.worst.proofs.step_table.Entries.{puts-own, puts-others}
 
 -- a choosable row comes before the number of those up to a later one
 pub choosable-step : (stance : ℕ → Stance) (i n : ℕ) → i < n → stance i ≡ Choosable → choosable stance i < choosable stance n
@@ -38,35 +38,35 @@ choosable-step stance i (suc n) h e =
 
 module _ (combination : Combination) (width : ℕ) (loads : Loads) where
   -- the table of the first n rows: m of them are choosable
-  pub record Filled (n : ℕ) (steps : List ℕ) (m choices : ℕ) (always : Sums) : Type 0 where
+  pub record Filled (n : ℕ) (steps : List ℕ) (m last : ℕ) (always : Sums) : Type 0 where
     pub size : length steps ≡ 256
     pub count : m ≡ choosable (stance-at combination loads) n
-    pub choices-made : choices ≡ 2 ^ m
+    pub last-made : last + 1 ≡ 2 ^ m
     pub always-there : always ≡ fixed (stance-at combination loads) (row-terms width loads) n
-    pub added : (i : ℕ) → i < n → stance-at combination loads i ≡ Choosable → step-at steps (2 * choosable (stance-at combination loads) i) ≡ shift-by (row-terms width loads i) no-sums
-    pub taken : (i : ℕ) → i < n → stance-at combination loads i ≡ Choosable → step-at steps (2 * choosable (stance-at combination loads) i + 1) ≡ shift-by no-sums (row-terms width loads i)
+    pub added : (i : ℕ) → i < n → stance-at combination loads i ≡ Choosable → change-at steps (2 * choosable (stance-at combination loads) i) ≡ shift-by (row-terms width loads i) no-sums
+    pub taken : (i : ℕ) → i < n → stance-at combination loads i ≡ Choosable → change-at steps (2 * choosable (stance-at combination loads) i + 1) ≡ shift-by no-sums (row-terms width loads i)
 
-  pub filled-none : (steps : List ℕ) {always : Sums} → length steps ≡ 256 → always ≡ no-sums → Filled 0 steps 0 1 always
+  pub filled-none : (steps : List ℕ) {always : Sums} → length steps ≡ 256 → always ≡ no-sums → Filled 0 steps 0 0 always
   unfolding choosable fixed
   filled-none steps l e =
-      record { size = l; count = refl; choices-made = refl; always-there = e; added = λ i h. absurd (omega arith); taken = λ i h. absurd (omega arith) }
+      record { size = l; count = refl; last-made = refl; always-there = e; added = λ i h. absurd (omega arith); taken = λ i h. absurd (omega arith) }
 
-  pub filled-as : (n : ℕ) {steps steps' : List ℕ} {m m' choices choices' : ℕ} {always always' : Sums} → Filled n steps m choices always
-      → steps' ≡ steps → m' ≡ m → choices' ≡ choices → always' ≡ always → Filled n steps' m' choices' always'
+  pub filled-as : (n : ℕ) {steps steps' : List ℕ} {m m' last last' : ℕ} {always always' : Sums} → Filled n steps m last always
+      → steps' ≡ steps → m' ≡ m → last' ≡ last → always' ≡ always → Filled n steps' m' last' always'
   filled-as n f p q r t = rw (p, q, r, t) f
 
   -- ---- one row more
-  module _ (n : ℕ) {steps : List ℕ} {m choices : ℕ} {always : Sums} (f : Filled n steps m choices always) where
+  module _ (n : ℕ) {steps : List ℕ} {m last : ℕ} {always : Sums} (f : Filled n steps m last always) where
     -- one that is not choosable is written nowhere
     unwritten : (a : Stance) → stance-at combination loads n ≡ a → (a ≡ Choosable → ⊥) → {sums : Sums} → next a m ≡ m → sums ≡ fixed-by a always (row-terms width loads n)
-        → Filled (n + 1) steps m choices sums
+        → Filled (n + 1) steps m last sums
     unfolding choosable fixed
     unwritten a e not {sums} same s =
-        subst⁻¹ (λ (k : ℕ). Filled k steps m choices sums) (add-one n)
+        subst⁻¹ (λ (k : ℕ). Filled k steps m last sums) (add-one n)
         (record {
           size = f .size;
           count = sym same ∙ ap₂ next (sym e) (f .count);
-          choices-made = f .choices-made;
+          last-made = f .last-made;
           always-there = s ∙ ap₂ (λ (k : Stance) (x : Sums). fixed-by k x (row-terms width loads n)) (sym e) (f .always-there);
           added = λ i h c. f .added i (below i c h) c;
           taken = λ i h c. f .taken i (below i c h) c;
@@ -77,24 +77,24 @@ module _ (combination : Combination) (width : ℕ) (loads : Loads) where
             by-cases (decLt i n) (λ l. l)
             (λ l. let d : i ≡ n = omega arith in absurd (not (sym e ∙ sym (ap (stance-at combination loads) d) ∙ c)))
 
-    pub more-never : stance-at combination loads n ≡ Never → Filled (n + 1) steps m choices always
+    pub more-never : stance-at combination loads n ≡ Never → Filled (n + 1) steps m last always
     unfolding next fixed-by
     more-never e = unwritten Never e (λ q. impossible cc) refl refl
 
-    pub more-always : stance-at combination loads n ≡ Always → {sums : Sums} → sums ≡ add always (row-terms width loads n) → Filled (n + 1) steps m choices sums
+    pub more-always : stance-at combination loads n ≡ Always → {sums : Sums} → sums ≡ add always (row-terms width loads n) → Filled (n + 1) steps m last sums
     unfolding next fixed-by
     more-always e s = unwritten Always e (λ q. impossible cc) refl s
 
     -- one that is choosable is written behind those before it, which stay
     pub more-choosable : stance-at combination loads n ≡ Choosable → {mid after : List ℕ} {x y : Carried} → x ≡ shift-by (row-terms width loads n) no-sums → y ≡ shift-by no-sums (row-terms width loads n)
-        → Puts steps (2 * m) x mid → Puts mid (2 * m + 1) y after → Filled (n + 1) after (m + 1) (2 * choices) always
+        → Puts steps (2 * m) x mid → Puts mid (2 * m + 1) y after → Filled (n + 1) after (m + 1) (2 * last + 1) always
     unfolding choosable fixed next fixed-by
     more-choosable e {mid} {after} {x} {y} by-x by-y p q =
-        subst⁻¹ (λ (k : ℕ). Filled k after (m + 1) (2 * choices) always) (add-one n)
+        subst⁻¹ (λ (k : ℕ). Filled k after (m + 1) (2 * last + 1) always) (add-one n)
         (record {
           size = q .size ∙ p .size ∙ f .size;
           count = add-one m ∙ ap₂ next (sym e) (f .count);
-          choices-made = ap (λ (k : ℕ). 2 * k) (f .choices-made) ∙ sym (ap (λ (k : ℕ). 2 ^ k) (add-one m) ∙ pow-suc 2 m ∙ mul-comm (2 ^ m) 2);
+          last-made = omega (arith, f .last-made, ap (λ (k : ℕ). 2 ^ k) (add-one m) ∙ pow-suc 2 m);
           always-there = f .always-there ∙ ap (λ (k : Stance). fixed-by k (fixed (stance-at combination loads) (row-terms width loads) n) (row-terms width loads n)) (sym e);
           added = λ i h c. by-cases (decLt i n) (λ l. earlier (2 * choosable (stance-at combination loads) i) (omega (arith, place i l c)) ∙ f .added i l c)
               (λ l. own i (omega arith) (puts-others q (2 * m) (omega arith) ∙ puts-own p ∙ by-x));
@@ -105,13 +105,13 @@ module _ (combination : Combination) (width : ℕ) (loads : Loads) where
         place : (i : ℕ) → i < n → stance-at combination loads i ≡ Choosable → choosable (stance-at combination loads) i < m
         place i l c = subst⁻¹ (λ (k : ℕ). choosable (stance-at combination loads) i < k) (f .count) (choosable-step (stance-at combination loads) i n l c)
 
-        earlier : (k : ℕ) → k < 2 * m → step-at after k ≡ step-at steps k
+        earlier : (k : ℕ) → k < 2 * m → change-at after k ≡ change-at steps k
         earlier k h = puts-others q k (omega arith) ∙ puts-others p k h
 
-        own : (i : ℕ) → i ≡ n → step-at after (2 * m) ≡ shift-by (row-terms width loads n) no-sums → step-at after (2 * choosable (stance-at combination loads) i) ≡ shift-by (row-terms width loads i) no-sums
+        own : (i : ℕ) → i ≡ n → change-at after (2 * m) ≡ shift-by (row-terms width loads n) no-sums → change-at after (2 * choosable (stance-at combination loads) i) ≡ shift-by (row-terms width loads i) no-sums
         own i d w = rw (d, ← f .count) w
 
-        own-taken : (i : ℕ) → i ≡ n → step-at after (2 * m + 1) ≡ shift-by no-sums (row-terms width loads n) → step-at after (2 * choosable (stance-at combination loads) i + 1) ≡ shift-by no-sums (row-terms width loads i)
+        own-taken : (i : ℕ) → i ≡ n → change-at after (2 * m + 1) ≡ shift-by no-sums (row-terms width loads n) → change-at after (2 * choosable (stance-at combination loads) i + 1) ≡ shift-by no-sums (row-terms width loads i)
         own-taken i d w = rw (d, ← f .count) w
 
   -- ---- sizes

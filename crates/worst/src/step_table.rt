@@ -1,8 +1,8 @@
-// The table of a combination's rows (document 01, Load sets): what a choosable row adds to the sums of a set, and next to it what it takes
-// away again, 8 numbers each and at most 16 rows, so 256 numbers; and the sums of the rows in every set of it.
+// The table of a combination's steps (document 01, Load sets): what adding a choosable row does to the sums of a set, and behind it what
+// taking it away does, 8 numbers each and at most 16 rows, so 256 numbers; and the sums of the rows in every set of it.
 //
-// A walk goes from choice to choice by one row at a time, so what leads to the next lies ready in one lent array. A choosable row's place
-// there is the number of choosable rows before it, by which a choice holds it.
+// A walk goes from choice to choice by one row at a time, so what leads to the next lies ready in one lent array. A choosable row's number is
+// that of the choosable rows before it, by which a choice holds it; its entries stand at twice that number and next to it.
 use crate::choices::Stance;
 use sets::Combination;
 use sets::Loads;
@@ -12,31 +12,32 @@ ghost use mathlib.Core.Path.{_≡_};
 ghost use Prim.Native.Nat.{_≤_, _<_};
 ghost use lib.ListN.{length};
 ghost use Rattle.sets.specs.Bounded.{Bounded};
-ghost use Rattle.worst.specs.steps.Steps.{Puts, step-at};
-ghost use Rattle.worst.specs.steps.TermTable.{TableIs};
+ghost use Rattle.worst.specs.steps.Steps.{Puts, change-at};
+ghost use Rattle.worst.specs.steps.StepTable.{TableIs};
 
-// The rows of a combination: what leads from choice to choice, how many choices there are, and the sums of the one with no choosable row.
-pub struct TermTable {
+// The steps of a combination: what leads from choice to choice, the number of the last step, and the sums of the first choice, which has no
+// choosable row.
+pub struct StepTable {
     pub steps: [u64; 256],
-    pub choices: u64,
+    pub last: u64,
     pub first: Carried,
 }
 
 // The entry at a place of the table, written.
-fn put_step(steps: &mut [u64; 256], place: usize, step: Carried)
+fn put_change(steps: &mut [u64; 256], place: usize, change: Carried)
     requires { ⌜ place < 32 ⌝ }
     requires { ⌜ length (now steps) ≡ 256 ⌝ }
-    ensures { λ r. ⌜ Puts (now (steps .entry)) place step (now (steps .exit)) ⌝ }
+    ensures { λ r. ⌜ Puts (now (steps .entry)) place change (now (steps .exit)) ⌝ }
 {
     let entry = [
-        step.n,
-        step.h,
-        step.m,
-        step.plus.resisting,
-        step.plus.overturning,
-        step.minus.resisting,
-        step.minus.overturning,
-        step.key,
+        change.n,
+        change.h,
+        change.m,
+        change.plus.resisting,
+        change.plus.overturning,
+        change.minus.resisting,
+        change.minus.overturning,
+        change.key,
     ];
     let mut f: usize = 0;
     while f < 8 {
@@ -46,9 +47,9 @@ fn put_step(steps: &mut [u64; 256], place: usize, step: Carried)
 }
 
 // The entry at a place of the table.
-pub(crate) fn step_at(steps: &[u64; 256], place: usize) -> Carried
+pub(crate) fn change_at(steps: &[u64; 256], place: usize) -> Carried
     requires { ⌜ place < 32 ⌝ }
-    ensures { λ r. ⌜ r ≡ step-at (now (steps .entry)) place ⌝ }
+    ensures { λ r. ⌜ r ≡ change-at (now (steps .entry)) place ⌝ }
 {
     let i = 8 * place;
     let plus = Balance {
@@ -70,7 +71,7 @@ pub(crate) fn step_at(steps: &[u64; 256], place: usize) -> Carried
 }
 
 // The table of a combination.
-pub(crate) fn table_of(combination: Combination, width: u64, loads: Loads) -> TermTable
+pub(crate) fn table_of(combination: Combination, width: u64, loads: Loads) -> StepTable
     requires { ⌜ width ≤ 30000 ⌝ }
     requires { ⌜ Bounded loads ⌝ }
     ensures { λ r. ⌜ TableIs combination width loads r ⌝ }
@@ -79,7 +80,7 @@ pub(crate) fn table_of(combination: Combination, width: u64, loads: Loads) -> Te
     let none = sums::no_sums();
     let mut steps = [0u64; 256];
     let mut choosable: usize = 0;
-    let mut choices: u64 = 1;
+    let mut last: u64 = 0;
     let mut fixed = none;
     let mut place: u64 = 1;
     let mut i: usize = 0;
@@ -95,19 +96,15 @@ pub(crate) fn table_of(combination: Combination, width: u64, loads: Loads) -> Te
             Stance::Choosable => {
                 let added = sums::carried::shift_of(sums, none);
                 let taken = sums::carried::shift_of(none, sums);
-                put_step(&mut steps, 2 * choosable, added);
-                put_step(&mut steps, 2 * choosable + 1, taken);
+                put_change(&mut steps, 2 * choosable, added);
+                put_change(&mut steps, 2 * choosable + 1, taken);
                 choosable = choosable + 1;
-                choices = 2 * choices;
+                last = 2 * last + 1;
             }
         }
         place = 2 * place;
         i = i + 1;
     }
     let first = sums::carried::shift_of(fixed, none);
-    TermTable {
-        steps,
-        choices,
-        first,
-    }
+    StepTable { steps, last, first }
 }

@@ -2,9 +2,9 @@
 -- definition's order.
 use borrow.Author.Needs.{needs}
 use mathlib.Core.Path.{refl}
-use Rattle.worst.specs.steps.Steps.{step-at}
-use Rattle.worst.proofs.term_table.step_at.Statement.{statement}
-use Rattle.worst.proofs.term_table.step_at.Tie as tie
+use Rattle.worst.specs.steps.Steps.{change-at}
+use Rattle.worst.proofs.step_table.change_at.Statement.{statement}
+use Rattle.worst.proofs.step_table.change_at.Tie as tie
 
 mul-i : tie.Need-mul-i
 mul-i c = search needs
@@ -79,11 +79,11 @@ element-copy-out-t32 : tie.Need-element-copy-out-t32
 element-copy-out-t32 c = search needs
 
 returns : tie.Need-returns
-unfolding step-at
+unfolding change-at
 returns c = refl
 
-pub step-at-spec : {M : Type 1} → statement M
-step-at-spec =
+pub change-at-spec : {M : Type 1} → statement M
+change-at-spec =
     tie.close
     (tie.spec
     mul-i

@@ -5,10 +5,10 @@ use mathlib.Core.Path.{_≡_, refl}
 use mathlib.Core.Logic.{_⊎_}
 use Prim.Native.Nat.{ℕ, _+_, _*_, _-_, _≤_, _<_}
 use lib.ListN.{getD, length, length-set}
-use Rattle.worst.specs.steps.Steps.{cells}
-use Rattle.worst.proofs.term_table.Rows.{write-own, write-kept}
-use Rattle.worst.proofs.term_table.put_step.Statement.{statement}
-use Rattle.worst.proofs.term_table.put_step.Tie as tie
+use Rattle.worst.specs.steps.Steps.{numbers}
+use Rattle.worst.proofs.step_table.Entries.{write-own, write-kept}
+use Rattle.worst.proofs.step_table.put_change.Statement.{statement}
+use Rattle.worst.proofs.step_table.put_change.Tie as tie
 
 abbrev Inv-loop : tie.InvT-loop
 Inv-loop steps₀ place entry f₀ steps f = (f ≤ 8) × ((g : ℕ) → g < f → getD steps (8 * place + g) 0 ≡ getD entry g 0) × ((i : ℕ) → (i < 8 * place) ⊎ (8 * place + 8 ≤ i) → getD steps i 0 ≡ getD steps₀ i 0) × (length steps ≡ length steps₀)
@@ -47,25 +47,25 @@ loop-less : tie.Need-loop-less Inv-loop μ-loop
 loop-less c = omega arith
 
 loop-again : tie.Need-loop-again Inv-loop μ-loop
-unfolding cells
+unfolding numbers
 loop-again c =
     let inv = c .before .loop .inv in
     let e = c .before .before .args in
     let steps = c .before .loop .steps in (
       omega arith,
-      write-own steps (cells (e .step)) (8 * e .place) (c .before .loop .f) (room c) (inv .1),
+      write-own steps (numbers (e .change)) (8 * e .place) (c .before .loop .f) (room c) (inv .1),
       write-kept steps (e .steps .now) (8 * e .place) (c .before .loop .f) _ (omega arith) (inv .2),
       simp length-set (inv .3),
     )
 
 returns : tie.Need-returns Inv-loop μ-loop
-unfolding cells
+unfolding numbers
 returns c =
     let inv = c .before .loop .inv in
     record { own = λ g h. inv .1 g (omega arith); others = inv .2; size = inv .3 }
 
-pub put-step-spec : {M : Type 1} → statement M
-put-step-spec =
+pub put-change-spec : {M : Type 1} → statement M
+put-change-spec =
     tie.close
     (tie.spec
     Inv-loop

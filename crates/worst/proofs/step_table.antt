@@ -1,0 +1,3 @@
+-- The laws of a table's entries.
+pub mod Entries
+pub mod Filling
