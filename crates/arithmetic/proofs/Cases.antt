@@ -1,7 +1,8 @@
--- How a proof goes by cases: a question that is decided, and a case that there is not. Other crates' proofs cite them.
+-- How a proof goes by cases: questions that are decided, and a case that there is not. Other crates' proofs cite them.
 use Prim.Native.Nat.{ℕ}
 use native.Mathlib.Omega.{arith}
 use mathlib.Core.Path.{_≡_}
+use mathlib.Core.Logic.{_⊎_, inl, inr, ⊎-elim}
 use mathlib.Core.Bool.{false}
 use lib.Dec.{eqb}
 use borrow.Author.Tests.{eqb-false}
@@ -18,3 +19,14 @@ unlike m n d e = absurd (eqb-false m n d e)
 pub by-cases : {P A : Type 0} → Dec P → (P → A) → ((P → ⊥) → A) → A
 by-cases (yes p) f g = f p
 by-cases (no n) f g = g n
+
+-- two questions that are decided
+pub both : {P Q : Type 0} → Dec P → Dec Q → Dec (P × Q)
+both (yes p) (yes q) = yes (p, q)
+both (yes p) (no n) = no (λ w. n (w .1))
+both (no n) d = no (λ w. n (w .0))
+
+pub either : {P Q : Type 0} → Dec P → Dec Q → Dec (P ⊎ Q)
+either (yes p) d = yes (inl p)
+either (no n) (yes q) = yes (inr q)
+either (no n) (no m) = no (⊎-elim n m)

@@ -5,7 +5,7 @@ use mathlib.Core.Bool.{Bool, true}
 use Prim.Native.Nat.{ℕ, zero, suc, _+_, _*_, _/_, _%_, _≤_, _<_, zero-le}
 use native.Mathlib.Nat.{le-trans, le-of-lt, le-antisymm, le-of-suc-le-suc, lt-of-le-of-lt, lt-of-lt-of-le, lt-of-not-le, lt-irrefl, le-of-mul-le-mul-right, lt-of-mul-lt-mul-right, div-add-mod', lt-div-mul-add, div-mul-le-self, add-mul, one-mul, pos-of-ne-zero, le-mul-of-pos-right}
 use native.Mathlib.Numerals.{add-one-le}
-use native.Mathlib.Decide.{decLe}
+use native.Mathlib.Decide.{decLe, ℕ-discrete}
 use native.Mathlib.Omega.{arith}
 use lib.Dec.{T, leb, ltb, leb→le, ltb→lt}
 use Rattle.arithmetic.proofs.Cases.{by-cases}
@@ -67,6 +67,10 @@ module _ (a b : ℕ) (pos : 0 < b) where
     holds = le-of-lt next;
     least = λ m p. add-one-le (lt-of-mul-lt-mul-right b (lt-of-lt-of-le (short e) p));
   }
+
+  -- a quotient rounded up there always is
+  pub up-some : (c : ℕ) × RoundedUp a b c
+  up-some = by-cases (ℕ-discrete (a % b) 0) (λ e. (a / b, up-exact e)) (λ e. (a / b + 1, up-more e))
 
   pub up-fits : (a % b ≡ 0 → ⊥) → a / b + 1 ≤ a
   up-fits e = add-one-le (lt-of-le-of-lt (le-mul-of-pos-right (a / b) pos) (short e))

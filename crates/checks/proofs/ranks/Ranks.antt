@@ -8,7 +8,7 @@ use native.Mathlib.Nat.{mul-le-mul, mul-comm, pos-of-ne-zero}
 use lib.Dec.{lit<}
 use Rattle.arithmetic.proofs.Cases.{by-cases}
 use Rattle.arithmetic.specs.rounding.Least.{RoundedUp, RoundedDown}
-use Rattle.arithmetic.proofs.rounding.Laws.{least-one, greatest-one, down-div, up-exact, up-more, down-le, up-le}
+use Rattle.arithmetic.proofs.rounding.Laws.{least-one, greatest-one, down-div, down-le, up-le}
 use Rattle.checks.specs.declared.Figure.{Figure}
 use Rattle.checks.specs.declared.Figure.the-variants.{Nothing, Number, Off}
 use Rattle.checks.specs.Order.{lowest, highest}
@@ -82,9 +82,6 @@ lean-some b n m {c} k z e r = record { figure = Number c; holds = (omega arith, 
 -- ---- a figure that is plainly no worse than one so far, with no division
 lt-of-suc : {m n : ℕ} → m + 1 ≤ n → m < n
 lt-of-suc p = omega arith
-
-pub up-some : (a b : ℕ) → 0 < b → (c : ℕ) × RoundedUp a b c
-up-some a b h = by-cases (ℕ-discrete (a % b) 0) (λ e. (a / b, up-exact a b h e)) (λ e. (a / b + 1, up-more a b h e))
 
 pub tip-above : (r o last : ℕ) → r ≤ 2 ^ 40 → last < 2 ^ 24 → o * (last + 1) ≤ 100 * r → (n : ℕ) × Ranks lowest (Tips r o) n × (last < n)
 tip-above r o last h l k =

@@ -1,18 +1,18 @@
 -- A set within the bounds of the worst so far leaves it as it is, in every check: its rank is above, or the last of all and the set no earlier.
 use mathlib.Core.Path.{_≡_, refl, _∙_, ap, subst, subst⁻¹}
-use mathlib.Core.Logic.{_⊎_, inl, inr, ⊎-elim}
+use mathlib.Core.Logic.{inl, inr, ⊎-elim}
 use mathlib.Core.Bool.{Bool, true, false}
 use Prim.Native.Nat.{ℕ, zero, suc, _+_, _*_, _-_, _/_, _^_, _≤_, _<_}
 use native.Mathlib.Omega.{arith}
-use native.Mathlib.Decide.{decLt, decLe, ℕ-discrete, map-dec}
+use native.Mathlib.Decide.{decLt, decLe}
 use native.Mathlib.Nat.{le-refl, le-trans, mul-le-mul, mul-pos, mul-comm, mul-assoc, mod-lt}
 use lib.Dec.{lit<}
 use borrow.Author.Tests.{lt-ltb, le-ltb}
 use Rattle.arithmetic.specs.rounding.Least.{RoundedUp}
 use Rattle.arithmetic.proofs.Cases.{by-cases}
+use Rattle.arithmetic.proofs.rounding.Laws.{up-some}
 use Rattle.sets.specs.declared.Combination.{Combination}
-use Rattle.sets.specs.declared.Combination.the-variants.{I, II, III, IV}
-use Rattle.sets.specs.steps.Deciding.{Together, Admits}
+use Rattle.sets.proofs.Admitting.{admits-or-not}
 use Rattle.sums.specs.declared.carried.Carried.{Carried}
 use Rattle.sums.specs.steps.Carried.{over-zero, from-zero, set-in, winds-in, earthquakes-in}
 use Rattle.checks.specs.declared.Base.{Base}
@@ -25,7 +25,7 @@ use Rattle.checks.specs.ranks.Figures.{Tips, Slides, Presses, Leans}
 use Rattle.checks.specs.steps.Ranks.{Ranks}
 use Rattle.checks.proofs.Ranking.{rank-low}
 use Rattle.checks.proofs.ranks.Pressing.{press-full, press-part}
-use Rattle.checks.proofs.ranks.Ranks.{tip-above, tip-none, slide-above, slide-none, lean-some, up-some}
+use Rattle.checks.proofs.ranks.Ranks.{tip-above, tip-none, slide-above, slide-none, lean-some}
 use Rattle.weighing.specs.declared.ranked.RankedSet.{RankedSet}
 use Rattle.weighing.specs.declared.bounds.Bounds.{Bounds}
 use Rattle.weighing.specs.declared.Worst.{Worst}
@@ -265,28 +265,7 @@ module _ (serves : Bool) (base : Base) (worst : Worst) (c : Carried) (sized : Si
       leaned (base .rock) (worst .rk) (c .key) (set-in c) on (words RK) (low RK) few keyed (le-trans (later-over-second _ _) moved)
       (base .width) (over-zero (c .n)) (from-zero (c .m)) (light .m) (sized .wide) (within .n) (within .lean)
 
--- ---- whether a set is admitted is decided
-both : {P Q : Type 0} → Dec P → Dec Q → Dec (P × Q)
-both (yes p) (yes q) = yes (p, q)
-both (yes p) (no n) = no (λ w. n (w .1))
-both (no n) d = no (λ w. n (w .0))
-
-either : {P Q : Type 0} → Dec P → Dec Q → Dec (P ⊎ Q)
-either (yes p) d = yes (inl p)
-either (no n) (yes q) = yes (inr q)
-either (no n) (no m) = no (⊎-elim n m)
-
-together-or-not : (combination : Combination) (winds earthquakes : ℕ) → Dec (Together combination winds earthquakes)
-unfolding Together
-together-or-not I winds earthquakes = both (ℕ-discrete winds 0) (ℕ-discrete earthquakes 0)
-together-or-not II winds earthquakes = both (decLt 0 winds) (ℕ-discrete earthquakes 0)
-together-or-not III winds earthquakes = both (ℕ-discrete winds 0) (decLt 0 earthquakes)
-together-or-not IV winds earthquakes = either (ℕ-discrete winds 0) (ℕ-discrete earthquakes 0)
-
-admits-or-not : (combination : Combination) (winds earthquakes set : ℕ) → Dec (Admits combination winds earthquakes set)
-admits-or-not combination winds earthquakes set =
-    map-dec (λ a. record { some = a .0; together = a .1 }) (λ a. (a .some, a .together)) (both (decLt 0 set) (together-or-not combination winds earthquakes))
-
+-- ---- a set that is passed over
 -- A set within the bounds need not be visited: if it is admitted it leaves the worst so far as it is, and else it does not count.
 pub within-visits : (combination : Combination) (serves : Bool) (base : Base) (worst : Worst) (c : Carried) → Sized base → Low worst → Words worst → SmallCarried c
     → (0 < set-in c → c .key / 65536 ≡ tie-order (set-in c)) → Within (base .width) (bounds-of serves base worst) c → Visits combination serves base c worst worst
