@@ -30,7 +30,7 @@ ghost use Rattle.worst.specs.steps.Search.{FoundWorst, Walked};
 ghost use Rattle.worst.specs.steps.Steps.{Ahead, Passed};
 
 // Where a walk stands: the step that it has reached, and the sums of the choice there.
-pub struct Standing {
+struct Standing {
     pub step: u64,
     pub carried: Carried,
 }
