@@ -7,7 +7,7 @@ use crate::Balance;
 use crate::Sums;
 ghost use mathlib.Core.Path.{_≡_};
 ghost use Rattle.sums.specs.steps.Sums.{Room};
-ghost use Rattle.sums.specs.steps.Carried.{wrap, key-of, shift-by, moved-by, over-zero, from-zero, winds-in, earthquakes-in, set-in};
+ghost use Rattle.sums.specs.steps.Carried.{wrapped, key-of, shift-of, moved, over-zero, from-zero, winds-in, earthquakes-in, set-in};
 
 // N, the sum of H, M, the balance at the edges at +x and at -x, and the set's key: from its lowest bits up 8 for the number of wind rows, 8
 // for that of earthquake rows, 16 for the set's number, and then how many rows it has.
@@ -34,7 +34,7 @@ const SETS: u64 = 65_536;
 
 // By how much a is more than b, modulo 2^64.
 fn wrapped(a: u64, b: u64) -> u64
-    ensures { λ r. ⌜ r ≡ wrap a b ⌝ }
+    ensures { λ r. ⌜ r ≡ wrapped a b ⌝ }
 {
     std::num::wrapping_sub_u64(a, b)
 }
@@ -51,7 +51,7 @@ fn key_of(sums: Sums) -> u64
 pub fn shift_of(up: Sums, down: Sums) -> Carried
     requires { ⌜ Room 16 up ⌝ }
     requires { ⌜ Room 16 down ⌝ }
-    ensures { λ r. ⌜ r ≡ shift-by up down ⌝ }
+    ensures { λ r. ⌜ r ≡ shift-of up down ⌝ }
 {
     Carried {
         n: wrapped(up.v.above + down.v.below, up.v.below + down.v.above),
@@ -71,7 +71,7 @@ pub fn shift_of(up: Sums, down: Sums) -> Carried
 
 // The sums of the neighbour.
 pub fn moved(from: Carried, by: Carried) -> Carried
-    ensures { λ r. ⌜ r ≡ moved-by from by ⌝ }
+    ensures { λ r. ⌜ r ≡ moved from by ⌝ }
 {
     Carried {
         n: std::num::wrapping_add_u64(from.n, by.n),

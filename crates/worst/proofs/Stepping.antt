@@ -15,7 +15,7 @@ use Rattle.sums.specs.declared.Sums.{Sums}
 use Rattle.sums.specs.declared.carried.Carried.{Carried}
 use Rattle.sets.specs.Bounded.{Bounded}
 use Rattle.sums.specs.steps.Sums.{no-sums, sums-of, Room}
-use Rattle.sums.specs.steps.Carried.{shift-by, moved-by}
+use Rattle.sums.specs.steps.Carried.{shift-of, moved}
 use Rattle.sums.proofs.Adding.{room-more, room-all}
 use Rattle.sums.proofs.carried.Carrying.{row-added, row-taken}
 use Rattle.worst.specs.declared.choices.Stance.{Stance}
@@ -44,7 +44,7 @@ module _ (stance : ℕ → Stance) (terms : ℕ → Sums) where
       (λ l. let d : i ≡ n = omega arith in rw (d, eq-eqb (choosable stance n) (choosable stance n) refl) refl)
 
 -- ---- one step on
-pub reached-more : (steps : List ℕ) (first : Carried) (k : ℕ) → reached steps first (k + 1) ≡ moved-by (reached steps first k) (change-at steps (2 * changed (k + 1) + taken (k + 1)))
+pub reached-more : (steps : List ℕ) (first : Carried) (k : ℕ) → reached steps first (k + 1) ≡ moved (reached steps first k) (change-at steps (2 * changed (k + 1) + taken (k + 1)))
 unfolding reached
 reached-more steps first k = rw add-one
 
@@ -88,41 +88,41 @@ module _ (combination : Combination) (width : ℕ) (loads : Loads) (table : Step
     row-room : Room 16 (rows j)
     row-room = subst⁻¹ (Room 16) row-is (room-more (omega arith) (terms-room combination width loads wide b (held .0) (held .1)))
 
-    entry-added : change-at (table .steps) (2 * j + 0) ≡ shift-by (rows j) no-sums
+    entry-added : change-at (table .steps) (2 * j + 0) ≡ shift-of (rows j) no-sums
     entry-added =
         let e : 2 * j + 0 ≡ 2 * choosable (stance-at combination loads) (held .0) = omega (arith, held .3) in
-        ap (change-at (table .steps)) e ∙ f .added (held .0) (held .1) (held .2) ∙ ap (λ (s : Sums). shift-by s no-sums) (sym row-is)
+        ap (change-at (table .steps)) e ∙ f .added (held .0) (held .1) (held .2) ∙ ap (λ (s : Sums). shift-of s no-sums) (sym row-is)
 
-    entry-taken : change-at (table .steps) (2 * j + 1) ≡ shift-by no-sums (rows j)
+    entry-taken : change-at (table .steps) (2 * j + 1) ≡ shift-of no-sums (rows j)
     entry-taken =
         let e : 2 * j + 1 ≡ 2 * choosable (stance-at combination loads) (held .0) + 1 = omega (arith, held .3) in
-        ap (change-at (table .steps)) e ∙ f .taken (held .0) (held .1) (held .2) ∙ ap (shift-by no-sums) (sym row-is)
+        ap (change-at (table .steps)) e ∙ f .taken (held .0) (held .1) (held .2) ∙ ap (shift-of no-sums) (sym row-is)
 
   -- one step on
   module _ (k : ℕ) (h : k + 1 < 2 ^ count) where
     below : changed (k + 1) < count
     below = changed-low count (k + 1) (omega arith) h (omega (arith, few))
 
-    stepped : (t : ℕ) → t < 2 → taken (k + 1) ≡ t → moved-by (shift-by (sums-at k) no-sums) (change-at (table .steps) (2 * changed (k + 1) + t)) ≡ shift-by (sums-at (k + 1)) no-sums
+    stepped : (t : ℕ) → t < 2 → taken (k + 1) ≡ t → moved (shift-of (sums-at k) no-sums) (change-at (table .steps) (2 * changed (k + 1) + t)) ≡ shift-of (sums-at (k + 1)) no-sums
     unfolding sums-at
     stepped zero two e =
-        ap (moved-by (shift-by (sums-at k) no-sums)) (entry-added (changed (k + 1)) below) ∙ row-added (sums-at k) (rows (changed (k + 1))) (sums-room k) (row-room (changed (k + 1)) below)
-        ∙ ap (λ (s : Sums). shift-by s no-sums) (sym (walk-added _ rows count few k h e))
+        ap (moved (shift-of (sums-at k) no-sums)) (entry-added (changed (k + 1)) below) ∙ row-added (sums-at k) (rows (changed (k + 1))) (sums-room k) (row-room (changed (k + 1)) below)
+        ∙ ap (λ (s : Sums). shift-of s no-sums) (sym (walk-added _ rows count few k h e))
     stepped (suc zero) two e =
-        ap₂ (λ (s : Sums) (by : Carried). moved-by (shift-by s no-sums) by) (walk-taken _ rows count few k h e) (entry-taken (changed (k + 1)) below)
+        ap₂ (λ (s : Sums) (by : Carried). moved (shift-of s no-sums) by) (walk-taken _ rows count few k h e) (entry-taken (changed (k + 1)) below)
         ∙ row-taken (sums-at (k + 1)) (rows (changed (k + 1))) (sums-room (k + 1)) (row-room (changed (k + 1)) below)
     stepped (suc (suc t)) two e = absurd (omega arith)
 
   -- what is carried at step k is what the sums of its set give
-  carried-at : (k : ℕ) → k < 2 ^ count → reached (table .steps) (table .first) k ≡ shift-by (sums-at k) no-sums
+  carried-at : (k : ℕ) → k < 2 ^ count → reached (table .steps) (table .first) k ≡ shift-of (sums-at k) no-sums
   unfolding reached sums-at
   carried-at zero h =
       f .first
-      ∙ ap (λ (s : Sums). shift-by s no-sums)
+      ∙ ap (λ (s : Sums). shift-of s no-sums)
       (sym (ap (λ (c : ℕ). chosen (fixed (stance-at combination loads) (row-terms width loads) (loads .count)) rows c count) (choice-none count) ∙ chosen-nothing _ rows count))
   carried-at (suc k) h =
-      subst (λ (n : ℕ). moved-by (reached (table .steps) (table .first) k) (change-at (table .steps) (2 * changed n + taken n)) ≡ shift-by (sums-at n) no-sums) (add-one k)
-      (ap (λ (c : Carried). moved-by c (change-at (table .steps) (2 * changed (k + 1) + taken (k + 1)))) (carried-at k (omega arith)) ∙ stepped k (omega arith) (taken (k + 1)) (taken-two (k + 1)) refl)
+      subst (λ (n : ℕ). moved (reached (table .steps) (table .first) k) (change-at (table .steps) (2 * changed n + taken n)) ≡ shift-of (sums-at n) no-sums) (add-one k)
+      (ap (λ (c : Carried). moved c (change-at (table .steps) (2 * changed (k + 1) + taken (k + 1)))) (carried-at k (omega arith)) ∙ stepped k (omega arith) (taken (k + 1)) (taken-two (k + 1)) refl)
 
-  pub carried-is : (k : ℕ) → k < 2 ^ count → reached (table .steps) (table .first) k ≡ shift-by (sums-of width loads (set-of combination loads k)) no-sums
-  carried-is k h = carried-at k h ∙ ap (λ (s : Sums). shift-by s no-sums) (sums-are k)
+  pub carried-is : (k : ℕ) → k < 2 ^ count → reached (table .steps) (table .first) k ≡ shift-of (sums-of width loads (set-of combination loads k)) no-sums
+  carried-is k h = carried-at k h ∙ ap (λ (s : Sums). shift-of s no-sums) (sums-are k)

@@ -19,7 +19,7 @@ use Rattle.sets.specs.Bounded.{Bounded}
 use Rattle.sets.specs.steps.Deciding.{Arises, Admits, RowFits}
 use Rattle.sums.specs.declared.carried.Carried.{Carried}
 use Rattle.sums.specs.steps.Sums.{no-sums, sums-of, Room}
-use Rattle.sums.specs.steps.Carried.{shift-by, set-in, winds-in, earthquakes-in}
+use Rattle.sums.specs.steps.Carried.{shift-of, set-in, winds-in, earthquakes-in}
 use Rattle.sums.proofs.Adding.{room-all, rows-is}
 use Rattle.sets.proofs.Permitting.{Fit}
 use Rattle.sums.proofs.permitted.Admitted.{admitted-permitted, admitted}
@@ -90,7 +90,7 @@ module _ (combination : Combination) (base : Base) (loads : Loads) (sized : Size
   sums k = sums-of (base .width) loads (set-of combination loads k)
 
   pub carried : ℕ → Carried
-  carried k = shift-by (sums k) no-sums
+  carried k = shift-of (sums k) no-sums
 
   room : (k : ℕ) → Room 16 (sums k)
   unfolding sums

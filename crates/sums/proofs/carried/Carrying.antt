@@ -10,7 +10,7 @@ use Rattle.sums.specs.declared.Balance.{Balance}
 use Rattle.sums.specs.declared.Sums.{Sums}
 use Rattle.sums.specs.declared.carried.Carried.{Carried}
 use Rattle.sums.specs.steps.Sums.{no-sums, add, parts-sum, balance-sum, Room}
-use Rattle.sums.specs.steps.Carried.{wrap, key-of, balance-shift, shift-by, balance-moved, moved-by, over-zero, from-zero}
+use Rattle.sums.specs.steps.Carried.{wrapped, key-of, balance-shift, shift-of, balance-moved, moved, over-zero, from-zero}
 use Rattle.sums.proofs.Adding.{same-balance}
 
 -- ---- equal carried sums
@@ -27,19 +27,19 @@ same-carried e = λ i. record { n = e .n i; h = e .h i; m = e .m i; plus = e .pl
 
 -- ---- one number
 -- the answer of `wrapping_sub_u64`
-pub wrap-is : (a b r : ℕ) → a < 2 ^ 64 → b < 2 ^ 64 → r < 2 ^ 64 → (r + b) % 2 ^ 64 ≡ a → r ≡ wrap a b
-unfolding wrap
+pub wrap-is : (a b r : ℕ) → a < 2 ^ 64 → b < 2 ^ 64 → r < 2 ^ 64 → (r + b) % 2 ^ 64 ≡ a → r ≡ wrapped a b
+unfolding wrapped
 wrap-is a b r p q l e = omega arith
 
 -- two differences together, by whatever numbers they are told
-wrap-moves : (a b c d x y : ℕ) → b ≤ 2 ^ 64 → d ≤ 2 ^ 64 → y ≤ 2 ^ 64 → a + c + y ≡ x + b + d → (wrap a b + wrap c d) % 2 ^ 64 ≡ wrap x y
-unfolding wrap
+wrap-moves : (a b c d x y : ℕ) → b ≤ 2 ^ 64 → d ≤ 2 ^ 64 → y ≤ 2 ^ 64 → a + c + y ≡ x + b + d → (wrapped a b + wrapped c d) % 2 ^ 64 ≡ wrapped x y
+unfolding wrapped
 wrap-moves a b c d x y p q r e =
     let l : (a + (2 ^ 64 - b)) + (c + (2 ^ 64 - d)) ≡ (x + (2 ^ 64 - y)) + 2 ^ 64 = omega arith in
     sym (add-mod (a + (2 ^ 64 - b)) (c + (2 ^ 64 - d)) (2 ^ 64)) ∙ ap (λ (k : ℕ). k % 2 ^ 64) l ∙ add-mod-right (x + (2 ^ 64 - y)) (2 ^ 64)
 
-pub wrap-whole : (a : ℕ) → a < 2 ^ 64 → wrap a 0 ≡ a
-unfolding wrap
+pub wrap-whole : (a : ℕ) → a < 2 ^ 64 → wrapped a 0 ≡ a
+unfolding wrapped
 wrap-whole a h = omega arith
 
 -- ---- a row added, and a row taken away
@@ -57,8 +57,8 @@ module _ (a r : Balance) (x : a .resisting + r .resisting ≤ 2 ^ 60) (y : a .ov
       (wrap-moves (a .overturning + r .overturning) 0 0 (r .overturning) (a .overturning) 0 (omega arith) (omega arith) (omega arith) (omega arith))
 
 module _ (a r : Sums) (p : Room 16 a) (q : Room 16 r) where
-  pub row-added : moved-by (shift-by a no-sums) (shift-by r no-sums) ≡ shift-by (add a r) no-sums
-  unfolding moved-by shift-by add parts-sum key-of no-sums
+  pub row-added : moved (shift-of a no-sums) (shift-of r no-sums) ≡ shift-of (add a r) no-sums
+  unfolding moved shift-of add parts-sum key-of no-sums
   row-added =
       same-carried (record {
         n = wrap-moves _ _ _ _ _ _ (omega arith) (omega arith) (omega arith) (omega arith);
@@ -69,8 +69,8 @@ module _ (a r : Sums) (p : Room 16 a) (q : Room 16 r) where
         key = wrap-moves _ _ _ _ _ _ (omega arith) (omega arith) (omega arith) (omega arith);
       })
 
-  pub row-taken : moved-by (shift-by (add a r) no-sums) (shift-by no-sums r) ≡ shift-by a no-sums
-  unfolding moved-by shift-by add parts-sum key-of no-sums
+  pub row-taken : moved (shift-of (add a r) no-sums) (shift-of no-sums r) ≡ shift-of a no-sums
+  unfolding moved shift-of add parts-sum key-of no-sums
   row-taken =
       same-carried (record {
         n = wrap-moves _ _ _ _ _ _ (omega arith) (omega arith) (omega arith) (omega arith);
@@ -99,12 +99,12 @@ unfolding from-zero
 distance-high x h = rw (le-ltb x (2 ^ 63) h)
 
 module _ (a b : ℕ) (p : a ≤ 2 ^ 60) (q : b ≤ 2 ^ 60) where
-  pub over-wrap : over-zero (wrap a b) ≡ a - b
-  unfolding wrap
+  pub over-wrap : over-zero (wrapped a b) ≡ a - b
+  unfolding wrapped
   over-wrap =
-      by-cases (decLt (wrap a b) (2 ^ 63)) (λ h. over-low (wrap a b) h ∙ omega arith) (λ h. over-high (wrap a b) (omega arith) ∙ omega arith)
+      by-cases (decLt (wrapped a b) (2 ^ 63)) (λ h. over-low (wrapped a b) h ∙ omega arith) (λ h. over-high (wrapped a b) (omega arith) ∙ omega arith)
 
-  pub distance-wrap : from-zero (wrap a b) ≡ (a - b) + (b - a)
-  unfolding wrap
+  pub distance-wrap : from-zero (wrapped a b) ≡ (a - b) + (b - a)
+  unfolding wrapped
   distance-wrap =
-      by-cases (decLt (wrap a b) (2 ^ 63)) (λ h. distance-low (wrap a b) h ∙ omega arith) (λ h. distance-high (wrap a b) (omega arith) ∙ omega arith)
+      by-cases (decLt (wrapped a b) (2 ^ 63)) (λ h. distance-low (wrapped a b) h ∙ omega arith) (λ h. distance-high (wrapped a b) (omega arith) ∙ omega arith)

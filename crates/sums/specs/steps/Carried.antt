@@ -7,33 +7,33 @@ use Rattle.sums.specs.declared.Sums.{Sums}
 use Rattle.sums.specs.declared.carried.Carried.{Carried}
 
 -- what a is more than b: below zero it is so much less than 2^64
-unfoldable pub wrap : ℕ → ℕ → ℕ
-wrap a b = (a + (2 ^ 64 - b)) % 2 ^ 64
+unfoldable pub wrapped : ℕ → ℕ → ℕ
+wrapped a b = (a + (2 ^ 64 - b)) % 2 ^ 64
 
 -- a set's wind and earthquake rows, its number, and how many rows it has
 unfoldable pub key-of : Sums → ℕ
 key-of s = s .winds + 256 * s .earthquakes + 65536 * (s .set + 65536 * s .rows)
 
 unfoldable pub balance-shift : Balance → Balance → Balance
-balance-shift up down = record { resisting = wrap (up .resisting) (down .resisting); overturning = wrap (up .overturning) (down .overturning) }
+balance-shift up down = record { resisting = wrapped (up .resisting) (down .resisting); overturning = wrapped (up .overturning) (down .overturning) }
 
 -- what leads from a set to one that has the rows of `up` more and those of `down` less
-unfoldable pub shift-by : Sums → Sums → Carried
-shift-by up down =
+unfoldable pub shift-of : Sums → Sums → Carried
+shift-of up down =
     record {
-      n = wrap (up .v .above + down .v .below) (up .v .below + down .v .above);
-      h = wrap (up .h .above + down .h .below) (up .h .below + down .h .above);
-      m = wrap (up .m .above + down .m .below) (up .m .below + down .m .above);
+      n = wrapped (up .v .above + down .v .below) (up .v .below + down .v .above);
+      h = wrapped (up .h .above + down .h .below) (up .h .below + down .h .above);
+      m = wrapped (up .m .above + down .m .below) (up .m .below + down .m .above);
       plus = balance-shift (up .plus) (down .plus);
       minus = balance-shift (up .minus) (down .minus);
-      key = wrap (key-of up) (key-of down);
+      key = wrapped (key-of up) (key-of down);
     }
 
 unfoldable pub balance-moved : Balance → Balance → Balance
 balance-moved a b = record { resisting = (a .resisting + b .resisting) % 2 ^ 64; overturning = (a .overturning + b .overturning) % 2 ^ 64 }
 
-unfoldable pub moved-by : Carried → Carried → Carried
-moved-by a b =
+unfoldable pub moved : Carried → Carried → Carried
+moved a b =
     record {
       n = (a .n + b .n) % 2 ^ 64;
       h = (a .h + b .h) % 2 ^ 64;

@@ -8,7 +8,7 @@ use Prim.Native.Nat.{ℕ, _+_, _-_, _≤_, _<_}
 use Rattle.arithmetic.proofs.Cases.{by-cases}
 use Rattle.arithmetic.proofs.Deciding.{decided}
 use Rattle.sums.specs.declared.carried.Carried.{Carried}
-use Rattle.sums.specs.steps.Carried.{moved-by}
+use Rattle.sums.specs.steps.Carried.{moved}
 use Rattle.weighing.specs.steps.Weighs.{SmallCarried}
 use Rattle.weighing.specs.steps.Bounds.{Within}
 use Rattle.worst.specs.steps.Order.{changed, taken}
@@ -73,7 +73,7 @@ module _ (c : tie.After-moved Inv-loop μ-loop) where
   next-is : (first : Carried) → (start turn) .args .from .carried ≡ reached ((start turn) .args .steps .now) first ((start turn) .args .from .step)
       → c .moved .result ≡ reached ((start turn) .args .steps .now) first (k turn + 1)
   unfolding changed taken
-  next-is first e = c .moved .ensures ∙ ap₂ moved-by (turn .before .loop .inv .2 first e .0) (c .before .change-at .ensures) ∙ sym (reached-more _ first (k turn))
+  next-is first e = c .moved .ensures ∙ ap₂ moved (turn .before .loop .inv .2 first e .0) (c .before .change-at .ensures) ∙ sym (reached-more _ first (k turn))
 
   next-small : SmallCarried (c .moved .result)
   next-small =

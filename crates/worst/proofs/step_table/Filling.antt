@@ -15,7 +15,7 @@ use Rattle.sums.specs.declared.carried.Carried.{Carried}
 use Rattle.sets.specs.Sets.{row}
 use Rattle.sets.specs.Bounded.{Bounded}
 use Rattle.sums.specs.steps.Sums.{no-sums, add, Room}
-use Rattle.sums.specs.steps.Carried.{shift-by}
+use Rattle.sums.specs.steps.Carried.{shift-of}
 use Rattle.sums.proofs.Adding.{room-none, room-add, room-more, room-row, low-place}
 use Rattle.worst.specs.declared.choices.Stance.{Stance}
 use Rattle.worst.specs.declared.choices.Stance.the-variants.{Never, Always, Choosable}
@@ -43,8 +43,8 @@ module _ (combination : Combination) (width : ℕ) (loads : Loads) where
     pub count : m ≡ choosable (stance-at combination loads) n
     pub last-made : last + 1 ≡ 2 ^ m
     pub always-there : always ≡ fixed (stance-at combination loads) (row-terms width loads) n
-    pub added : (i : ℕ) → i < n → stance-at combination loads i ≡ Choosable → change-at steps (2 * choosable (stance-at combination loads) i) ≡ shift-by (row-terms width loads i) no-sums
-    pub taken : (i : ℕ) → i < n → stance-at combination loads i ≡ Choosable → change-at steps (2 * choosable (stance-at combination loads) i + 1) ≡ shift-by no-sums (row-terms width loads i)
+    pub added : (i : ℕ) → i < n → stance-at combination loads i ≡ Choosable → change-at steps (2 * choosable (stance-at combination loads) i) ≡ shift-of (row-terms width loads i) no-sums
+    pub taken : (i : ℕ) → i < n → stance-at combination loads i ≡ Choosable → change-at steps (2 * choosable (stance-at combination loads) i + 1) ≡ shift-of no-sums (row-terms width loads i)
 
   pub filled-none : (steps : List ℕ) {always : Sums} → length steps ≡ 256 → always ≡ no-sums → Filled 0 steps 0 0 always
   unfolding choosable fixed
@@ -86,7 +86,7 @@ module _ (combination : Combination) (width : ℕ) (loads : Loads) where
     more-always e s = unwritten Always e (λ q. impossible cc) refl s
 
     -- one that is choosable is written behind those before it, which stay
-    pub more-choosable : stance-at combination loads n ≡ Choosable → {mid after : List ℕ} {x y : Carried} → x ≡ shift-by (row-terms width loads n) no-sums → y ≡ shift-by no-sums (row-terms width loads n)
+    pub more-choosable : stance-at combination loads n ≡ Choosable → {mid after : List ℕ} {x y : Carried} → x ≡ shift-of (row-terms width loads n) no-sums → y ≡ shift-of no-sums (row-terms width loads n)
         → Puts steps (2 * m) x mid → Puts mid (2 * m + 1) y after → Filled (n + 1) after (m + 1) (2 * last + 1) always
     unfolding choosable fixed next fixed-by
     more-choosable e {mid} {after} {x} {y} by-x by-y p q =
@@ -108,10 +108,10 @@ module _ (combination : Combination) (width : ℕ) (loads : Loads) where
         earlier : (k : ℕ) → k < 2 * m → change-at after k ≡ change-at steps k
         earlier k h = puts-others q k (omega arith) ∙ puts-others p k h
 
-        own : (i : ℕ) → i ≡ n → change-at after (2 * m) ≡ shift-by (row-terms width loads n) no-sums → change-at after (2 * choosable (stance-at combination loads) i) ≡ shift-by (row-terms width loads i) no-sums
+        own : (i : ℕ) → i ≡ n → change-at after (2 * m) ≡ shift-of (row-terms width loads n) no-sums → change-at after (2 * choosable (stance-at combination loads) i) ≡ shift-of (row-terms width loads i) no-sums
         own i d w = rw (d, ← f .count) w
 
-        own-taken : (i : ℕ) → i ≡ n → change-at after (2 * m + 1) ≡ shift-by no-sums (row-terms width loads n) → change-at after (2 * choosable (stance-at combination loads) i + 1) ≡ shift-by no-sums (row-terms width loads i)
+        own-taken : (i : ℕ) → i ≡ n → change-at after (2 * m + 1) ≡ shift-of no-sums (row-terms width loads n) → change-at after (2 * choosable (stance-at combination loads) i + 1) ≡ shift-of no-sums (row-terms width loads i)
         own-taken i d w = rw (d, ← f .count) w
 
   -- ---- sizes

@@ -4,7 +4,7 @@ use Prim.Native.Nat.{ℕ, _+_, _*_, _^_, _<_}
 use Rattle.sets.specs.declared.Combination.{Combination}
 use Rattle.sets.specs.declared.Loads.{Loads}
 use Rattle.sums.specs.steps.Sums.{no-sums}
-use Rattle.sums.specs.steps.Carried.{shift-by}
+use Rattle.sums.specs.steps.Carried.{shift-of}
 use Rattle.worst.specs.declared.choices.Stance.the-variants.{Choosable}
 use Rattle.worst.specs.steps.Stance.{choosable, fixed, row-terms, stance-at}
 use Rattle.worst.specs.steps.Steps.{change-at}
@@ -13,6 +13,6 @@ use Rattle.worst.specs.declared.step_table.StepTable.{StepTable}
 -- the entries of a choosable row stand at twice the number of choosable rows before it, and next to it
 pub record TableIs (combination : Combination) (width : ℕ) (loads : Loads) (table : StepTable) : Type 0 where
   pub last : table .last + 1 ≡ 2 ^ choosable (stance-at combination loads) (loads .count)
-  pub first : table .first ≡ shift-by (fixed (stance-at combination loads) (row-terms width loads) (loads .count)) no-sums
-  pub added : (i : ℕ) → i < loads .count → stance-at combination loads i ≡ Choosable → change-at (table .steps) (2 * choosable (stance-at combination loads) i) ≡ shift-by (row-terms width loads i) no-sums
-  pub taken : (i : ℕ) → i < loads .count → stance-at combination loads i ≡ Choosable → change-at (table .steps) (2 * choosable (stance-at combination loads) i + 1) ≡ shift-by no-sums (row-terms width loads i)
+  pub first : table .first ≡ shift-of (fixed (stance-at combination loads) (row-terms width loads) (loads .count)) no-sums
+  pub added : (i : ℕ) → i < loads .count → stance-at combination loads i ≡ Choosable → change-at (table .steps) (2 * choosable (stance-at combination loads) i) ≡ shift-of (row-terms width loads i) no-sums
+  pub taken : (i : ℕ) → i < loads .count → stance-at combination loads i ≡ Choosable → change-at (table .steps) (2 * choosable (stance-at combination loads) i + 1) ≡ shift-of no-sums (row-terms width loads i)

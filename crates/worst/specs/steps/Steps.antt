@@ -5,7 +5,7 @@ use mathlib.Core.List.{List, [], _∷_}
 use Prim.Native.Nat.{ℕ, zero, suc, _+_, _*_, _<_, _≤_}
 use lib.ListN.{getD, length}
 use Rattle.sums.specs.declared.carried.Carried.{Carried}
-use Rattle.sums.specs.steps.Carried.{moved-by}
+use Rattle.sums.specs.steps.Carried.{moved}
 use Rattle.weighing.specs.declared.bounds.Bounds.{Bounds}
 use Rattle.weighing.specs.steps.Weighs.{SmallCarried}
 use Rattle.weighing.specs.steps.Bounds.{Within}
@@ -38,7 +38,7 @@ pub record Puts (before : List ℕ) (i : ℕ) (change : Carried) (after : List �
 -- the carried sums at step k: on the way to it the changed row is added or taken away
 unfoldable pub reached : List ℕ → Carried → ℕ → Carried
 reached steps first zero = first
-reached steps first (suc k) = moved-by (reached steps first k) (change-at steps (2 * changed (suc k) + taken (suc k)))
+reached steps first (suc k) = moved (reached steps first k) (change-at steps (2 * changed (suc k) + taken (suc k)))
 
 -- the walk has come to where it stands from some first sums, and all sums on its way are small
 pub record Ahead (steps : List ℕ) (last : ℕ) (at : Standing) : Type 0 where

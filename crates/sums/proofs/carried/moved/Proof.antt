@@ -1,6 +1,6 @@
 -- Eight sums, each modulo 2^64.
 use borrow.Author.Needs.{needs}
-use Rattle.sums.specs.steps.Carried.{moved-by, balance-moved}
+use Rattle.sums.specs.steps.Carried.{moved, balance-moved}
 use Rattle.sums.proofs.Adding.{same-balance}
 use Rattle.sums.proofs.carried.Carrying.{same-carried}
 use Rattle.sums.proofs.carried.moved.Statement.{statement}
@@ -31,7 +31,7 @@ wrapping-add-u64-requires-8 : tie.Need-wrapping-add-u64-requires-8
 wrapping-add-u64-requires-8 c κs = search needs
 
 returns : tie.Need-returns
-unfolding moved-by balance-moved
+unfolding moved balance-moved
 returns c =
     same-carried (record {
       n = c .before .before .before .before .before .before .before .wrapping-add-u64 .ensures;

@@ -2,7 +2,7 @@
 use borrow.Author.Needs.{needs}
 use native.Mathlib.Omega.{arith}
 use mathlib.Core.Path.{_∙_, ap₂}
-use Rattle.sums.specs.steps.Carried.{wrap, shift-by, balance-shift}
+use Rattle.sums.specs.steps.Carried.{wrapped, shift-of, balance-shift}
 use Rattle.sums.proofs.Adding.{same-balance}
 use Rattle.sums.proofs.carried.Carrying.{same-carried}
 use Rattle.sums.proofs.carried.shift_of.Statement.{statement}
@@ -57,7 +57,7 @@ wrapped-requires-8 : tie.Need-wrapped-requires-8
 wrapped-requires-8 c κs = search needs
 
 returns : tie.Need-returns
-unfolding shift-by balance-shift
+unfolding shift-of balance-shift
 returns c =
     same-carried (record {
       n = c .before .before .before .before .before .before .before .before .before .before .before .before .before .before .before .before .before .wrapped .ensures;
@@ -65,7 +65,7 @@ returns c =
       m = c .before .before .before .before .before .before .before .wrapped3 .ensures;
       plus = same-balance (c .before .before .before .before .before .before .wrapped4 .ensures) (c .before .before .before .before .before .wrapped5 .ensures);
       minus = same-balance (c .before .before .before .before .wrapped6 .ensures) (c .before .before .before .wrapped7 .ensures);
-      key = c .wrapped8 .ensures ∙ ap₂ wrap (c .before .before .key-of .ensures) (c .before .key-of2 .ensures);
+      key = c .wrapped8 .ensures ∙ ap₂ wrapped (c .before .before .key-of .ensures) (c .before .key-of2 .ensures);
     })
 
 pub shift-of-spec : {M : Type 1} → statement M

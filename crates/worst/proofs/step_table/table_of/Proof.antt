@@ -9,7 +9,7 @@ use lib.ListN.{length-replicate}
 use Prim.Native.Nat.{ℕ, _+_, _-_, _^_, _≤_, _<_}
 use Rattle.sets.specs.Sets.{row}
 use Rattle.sums.specs.steps.Sums.{no-sums, add, terms-of, Room}
-use Rattle.sums.specs.steps.Carried.{shift-by}
+use Rattle.sums.specs.steps.Carried.{shift-of}
 use Rattle.sets.proofs.Bits.{next-place}
 use Rattle.sums.proofs.Adding.{room-none, room-more, low-place}
 use Rattle.worst.specs.steps.Stance.{stance-at, row-terms}
@@ -152,7 +152,7 @@ grows c =
     (⊎-elim (λ w. filled-as _ _ _ _ (more-always _ _ _ _ f (sym (stance-is d) ∙ w .1 .given .1) (w .2 .ensures ∙ ap (add _) (row-is d))) (w .3) (w .4) (w .5) (w .6))
     (λ w.
     filled-as _ _ _ _
-    (more-choosable _ _ _ _ f (sym (stance-is d) ∙ w .1 .given .1) (w .2 .ensures ∙ ap₂ shift-by (row-is d) none-is) (w .3 .ensures ∙ ap₂ shift-by none-is (row-is d)) (w .5 .ensures) (w .7 .ensures))
+    (more-choosable _ _ _ _ f (sym (stance-is d) ∙ w .1 .given .1) (w .2 .ensures ∙ ap₂ shift-of (row-is d) none-is) (w .3 .ensures ∙ ap₂ shift-of none-is (row-is d)) (w .5 .ensures) (w .7 .ensures))
     (w .8) (w .9) (w .10) (w .11))) (c .match .came)
 
 loop-again : tie.Need-loop-again Inv-loop μ-loop
@@ -172,7 +172,7 @@ returns c =
     (le-antisymm (d .before .loop .inv .0) (d .loop-test .left)) (d .before .loop .inv .2) in
     record {
       last = f .last-made ∙ ap (λ (n : ℕ). 2 ^ n) (f .count);
-      first = c .shift-of3 .ensures ∙ ap₂ shift-by (f .always-there) (d .before .before .no-sums .ensures);
+      first = c .shift-of3 .ensures ∙ ap₂ shift-of (f .always-there) (d .before .before .no-sums .ensures);
       added = f .added;
       taken = f .taken;
     }
