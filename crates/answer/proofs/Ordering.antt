@@ -18,11 +18,12 @@ use Rattle.earth.specs.declared.table2.Coefficient.{Coefficient}
 use Rattle.checks.specs.Sized.{Sized}
 use Rattle.loads.specs.forces.Blank.{BlankThere}
 use Rattle.loads.specs.forces.Wetted.{UpperBelowLower}
-use Rattle.loads.specs.LoadRows.{AllRanged, NoneBlank, AllUpright, optionals, AreLoads}
+use Rattle.loads.specs.LoadRows.{AllRanged, NoneBlank, AllUpright, AllNamed, optionals, AreLoads}
 use Rattle.loads.specs.Answer as loads
 use Rattle.loads.specs.Answer.{LoadsTold, refused, loads-told, loads-told-by, LoadsSays, LoadsAnswered}
 use Rattle.loads.proofs.Answering.{given-loads}
 use Rattle.loads.proofs.InRange.{all-ranged, every-unless}
+use Rattle.loads.proofs.Naming.{all-named}
 use Rattle.loads.specs.declared.LoadsAnswer as answering
 use Rattle.loads.specs.declared.LoadsAnswer.the-variants as taking
 use Rattle.loads.specs.declared.LoadsRead.{LoadsRead}
@@ -57,6 +58,7 @@ record LoadsClear (fill : ℕ → ℕ → Coefficient) (rows : List Row) (n : �
   filled : 15 < n → NoneBlank fill rows
   few : 16 < n → optionals rows ≤ 12
   upright : 17 < n → AllUpright rows
+  named : 18 < n → AllNamed rows
 
 river-before : {job : Job} {m n : ℕ} → n ≤ m → RiverClear job m → RiverClear job n
 river-before l c = record {
@@ -88,6 +90,7 @@ loads-clear {fill} {rows} {n} none = record {
   filled = λ h. every-unless (BlankThere fill) rows (λ x. none 15 h (loads.blank x));
   few = λ h. by-cases (decLe (optionals rows) 12) (λ k. k) (λ k. absurd (none 16 h (loads.too-many (omega arith))));
   upright = λ h. every-unless UpperBelowLower rows (λ x. none 17 h (loads.upper-below-lower x));
+  named = λ h. all-named rows (λ x. none 18 h (loads.no-train x));
 }
 
 module _ (fill : ℕ → ℕ → Coefficient) (job : Job) (base : Ranged B (job .base)) where
@@ -103,6 +106,7 @@ module _ (fill : ℕ → ℕ → Coefficient) (job : Job) (base : Ranged B (job 
   not-before c l m (rules.blank x) h = x (l .filled h)
   not-before c l m (rules.too-many x) h = let k = l .few h in omega arith
   not-before c l m (rules.upper-below-lower x) h = x (l .upright h)
+  not-before c l m (rules.no-train x) h = x (l .named h)
 
   least : {n : ℕ} → When fill job n → RiverClear job n → LoadsClear fill rows n → Refuses fill job n
   least {n} w c l = record { holds = w; least = λ m x. by-cases (decLe n m) (λ k. k) (λ k. absurd (not-before c l m x (omega arith))) }
@@ -119,6 +123,7 @@ module _ (fill : ℕ → ℕ → Coefficient) (job : Job) (base : Ranged B (job 
   loads-when (loads.blank h) = rules.blank h
   loads-when (loads.too-many h) = rules.too-many h
   loads-when (loads.upper-below-lower h) = rules.upper-below-lower h
+  loads-when (loads.no-train h) = rules.no-train h
 
   module _ {n : ℕ} (p : Least (loads.RowsWhen fill rows) n) where
     loads-before : {k : ℕ} → k ≤ n → LoadsClear fill rows k
@@ -154,6 +159,7 @@ refuses-11 fill job h = record { holds = rules.out-of-range h; least = lowest }
     lowest m (rules.blank x) = omega arith
     lowest m (rules.too-many x) = omega arith
     lowest m (rules.upper-below-lower x) = omega arith
+    lowest m (rules.no-train x) = omega arith
 
 -- ---- what is told first, from what the load rows and the river rows are told
 refused-number : {m n : ℕ} → river.Refused m ≡ river.Refused n → m ≡ n

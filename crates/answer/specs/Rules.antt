@@ -1,4 +1,4 @@
--- Document 01, Refusals of a job: 11 to 16, and 02, P1: 17, over the whole job. `fill` is what is held for a soil and a slope: today Table 2.
+-- Document 01, Refusals of a job: 11 to 16, and 02, P1: 17, and P3: 18, over the whole job. `fill` is what is held for a soil and a slope: today Table 2.
 use Prim.Native.Nat.{ℕ, _<_}
 use mathlib.Core.List.{List}
 use lib.ListN.{take}
@@ -6,7 +6,7 @@ use Rattle.arithmetic.specs.rounding.Least.{Least}
 use Rattle.kinds.specs.declared.Row.{Row}
 use Rattle.jobs.specs.declared.Job.{Job}
 use Rattle.earth.specs.declared.table2.Coefficient.{Coefficient}
-use Rattle.loads.specs.LoadRows.{AllRanged, NoneBlank, AllUpright, optionals}
+use Rattle.loads.specs.LoadRows.{AllRanged, NoneBlank, AllUpright, AllNamed, optionals}
 use Rattle.jobs.specs.stages.Rows.{RowsRanged}
 use Rattle.scour.specs.Scour as scour
 use Rattle.clearance.specs.Clear as clearance
@@ -41,11 +41,13 @@ pub data When (fill : ℕ → ℕ → Coefficient) (job : Job) : ℕ → Type 0 
   too-many : 12 < optionals (load-rows-of job) → When fill job 16
   -- upper below lower
   upper-below-lower : (AllUpright (load-rows-of job) → ⊥) → When fill job 17
+  -- the row named is missing or is not LL
+  no-train : (AllNamed (load-rows-of job) → ⊥) → When fill job 18
 
 -- "Order as numbered": a job is refused with the least of its numbers
 abbrev pub Refuses : (ℕ → ℕ → Coefficient) → Job → ℕ → Type 0
 Refuses fill job n = Least (When fill job) n
 
--- "the job isn't refused": none of 11 to 17 is given
+-- "the job isn't refused": none of 11 to 18 is given
 abbrev pub Unrefused : (ℕ → ℕ → Coefficient) → Job → Type 0
 Unrefused fill job = (n : ℕ) → When fill job n → ⊥

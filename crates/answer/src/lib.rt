@@ -1,4 +1,4 @@
-// The answer of a job (document 01, Refusals of a job, The printed answer; 02, P1): refusal 11 to 17, or its lines and verdict.
+// The answer of a job (document 01, Refusals of a job, The printed answer; 02, P1 and P3): refusal 11 to 18, or its lines and verdict.
 //
 // What is hard is the order: a job is refused with the lowest of its numbers, over all its rows, whatever row shows it
 // first. The answer is total on every `Job` value, and depends on the job alone: Tables 2 and 4 are constants.
@@ -16,6 +16,7 @@ use sets::Combination;
 use sets::Loads;
 ghost use mathlib.Core.Path.{_≡_};
 ghost use Rattle.sets.specs.Bounded.{Bounded};
+ghost use Rattle.sets.specs.Led.{Led};
 ghost use Rattle.earth.specs.table2.Table2.{table2-fill};
 ghost use Rattle.checks.specs.Sized.{Sized};
 ghost use Rattle.answer.specs.Columns.{base-of};
@@ -55,6 +56,7 @@ fn refused_answer(number: u8) -> Answer
 fn whole(base: Base, loads: Loads, depth: RiverLine, clear: RiverLine) -> Answer
     requires { ⌜ Sized base ⌝ }
     requires { ⌜ Bounded loads ⌝ }
+    requires { ⌜ Led loads ⌝ }
     ensures { λ r. ⌜ WholeIs base loads depth clear r ⌝ }
 {
     let one = worst::worst_lines(Combination::I, base, loads);

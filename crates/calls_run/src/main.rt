@@ -71,9 +71,9 @@ fn three_jobs(book: &[u8]) {
     // Notes as they stand in the book, and none where there is no such row.
     note(book, 1);
     note(book, 2);
-    note(book, 3);
-    note(book, 7);
+    note(book, 4);
     note(book, 8);
+    note(book, 9);
     note(book, 0);
 }
 

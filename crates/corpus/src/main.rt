@@ -2,7 +2,10 @@
 // answer). What it must print is put together from the lines of programs written apart from this one. The books named
 // using-NN are the examples of docs/USING.md; load-sets.book has 01's figures of OP and PR, and cases of the other checks and of the
 // load sets that the old program got wrong or never tried; those whose names begin with p1 or current have W rows,
-// current-ends.book at the ends of their ranges and past them, and with each refusal of a job that comes before 17. A file that cannot be read to its end is told, and has no lines.
+// current-ends.book at the ends of their ranges and past them, and with each refusal of a job that comes before 17; 99 of those whose names
+// begin with p3 have LF or CF rows, and all whose names begin with train: train-ends.book with n6 at its ends and past them, naming rows
+// that are not LL, and beside each refusal of a job that comes before 18, the others as docs/DECISIONS.md works them out. A file that cannot
+// be read to its end is told, and has no lines.
 use libc::STDERR_FILENO;
 use libc::STDOUT_FILENO;
 

@@ -35,7 +35,7 @@ pub record CallInOrder (fill : ℕ → ℕ → Coefficient) (b : List ℕ) (plac
   pub numbers : (n row : ℕ) → t ≡ refused n row → ((1 ≤ n) × (n ≤ 7)) ⊎ (n ≡ 10)
   -- a refused call writes nothing
   pub untouched : (n row : ℕ) → t ≡ refused n row → after ≡ before
-  -- a job refused with 11 to 17 has its one line and no other
+  -- a job refused with 11 to 18 has its one line and no other
   pub alone : (len n : ℕ) (js : Jobs) (job : Job) → t ≡ written len → JobBook b js → Nth (values js) place job → Refuses fill job n
       → (len ≡ length (line-text (job .key) (verdict-line (Refused n)))) × (after ≡ line-text (job .key) (verdict-line (Refused n)) ++ drop len before)
 

@@ -12,8 +12,9 @@ use Rattle.sums.specs.Totals.{counted, sum, arm, v-moment, h-moment, resists, o
 use Rattle.checks.specs.ranks.Figures.{Presses}
 use Rattle.kinds.specs.classes.Classes.{class-of, optional}
 use Rattle.loads.specs.LoadRows.{optionals}
-use Rattle.figures.specs.Figures.{needed, optional-rows, pressure, pressure-either, AllHold, none, more, starred, worked}
+use Rattle.figures.specs.Figures.{needed, optional-rows, position, named, no-set, pressure, pressure-either, AllHold, none, more, starred, worked, trained}
 use Rattle.figures.proofs.Loaded.{overturns-test}
+use Rattle.figures.proofs.Trained.{position-0, braking-ranged, position-17, first-named, second-named, itself-named, past-named, without-train}
 
 pub figures : AllHold starred
 unfolding worth amount bit row sum counted resists overturns v-moment h-moment arm above below resisting overturning Presses
@@ -56,3 +57,16 @@ worked-figures =
     (more (pushes (lit≤ tt) (up-test _ _ _ tt) (up-test _ _ _ tt))
     (more {x = optional-rows _ _ _} refl
     none)))))))))))
+
+pub train-figures : AllHold trained
+train-figures =
+    more {x = position _ _} position-0
+    (more {x = position _ _} (braking-ranged 1 (lit≤ tt) (lit≤ tt))
+    (more {x = position _ _} (braking-ranged 16 (lit≤ tt) (lit≤ tt))
+    (more {x = position _ _} position-17
+    (more {x = named _ _} first-named
+    (more {x = named _ _} second-named
+    (more {x = named _ _} itself-named
+    (more {x = named _ _} past-named
+    (more {x = no-set _} without-train
+    none))))))))

@@ -32,6 +32,7 @@ module _ (v x h y : ℕ) where
       record {
         class = Permanent;
         phase = 0;
+        train = 0;
         v = amount (pos v);
         x = amount (pos x);
         h = amount (pos h);
@@ -43,7 +44,7 @@ module _ (v x h y : ℕ) where
 
   exerts : Exerts table2-fill (dead-load v x h y) exerted
   unfolding class-of source Forces signed
-  exerts = record { class = refl; phase = refl; forces = record { v = refl; x = refl; h = refl; twist = refl } }
+  exerts = record { class = refl; phase = refl; train = refl; forces = record { v = refl; x = refl; h = refl; twist = refl } }
 
   are-loads : AreLoads table2-fill (dead-load v x h y ∷ []) alone
   unfolding Laid

@@ -1,35 +1,49 @@
 -- Document 01, "Figures on each side": the starred ones as one list; and the figures of document 02's requests, worked out by hand in
--- docs/DECISIONS.md, as another. Each is said of the definitions that the promises cite.
+-- docs/DECISIONS.md, as one for each. Each is said of the definitions that the promises cite.
 use mathlib.Core.Path.{_≡_}
 use mathlib.Core.Bool.{Bool, true, false}
 use mathlib.Core.List.{List, [], _∷_, _++_}
 use Prim.Native.Nat.{ℕ}
 use lib.ListN.{replicate}
 use Rattle.arithmetic.specs.decides.Decides.{Decides}
+use Rattle.fields.specs.declared.Entry.{Entry}
 use Rattle.fields.specs.Numbers.{positive, absent}
 use Rattle.kinds.specs.declared.Kind.{Kind}
-use Rattle.kinds.specs.declared.Kind.the-variants.{DL, LL}
+use Rattle.kinds.specs.declared.Kind.the-variants.{DL, LL, LF}
 use Rattle.kinds.specs.declared.Kind.the-variants as kind
 use Rattle.kinds.specs.declared.Row.{Row}
 use Rattle.kinds.specs.Table.{blank-numbers}
+use Rattle.kinds.specs.ranges.Range.{Ranged}
 use Rattle.scour.specs.discharge.Discharge.{FoundationDischarge}
 use Rattle.scour.specs.lacey.Lacey.{RegimeMet, RegimeDepth, ConstrictedDepth, DepthNeeded}
 use Rattle.clearance.specs.afflux.Rules.{Afflux}
 use Rattle.earth.specs.table2.Table2.{table2-fill}
 use Rattle.earth.specs.Earth.{Pushed, push}
 use Rattle.current.specs.Current as water
+use Rattle.sets.specs.declared.Combination.the-variants.{I}
 use Rattle.sets.specs.declared.Loads.{Loads}
+use Rattle.sets.specs.Sets.{Permitted}
 use Rattle.checks.specs.declared.Base.{Base}
 use Rattle.checks.specs.declared.Check.the-variants.{OP}
 use Rattle.checks.specs.declared.Figure.the-variants.{Number}
 use Rattle.checks.specs.ranks.Figures.{PressesWhole, PressesPart, Presses}
 use Rattle.checks.specs.set_figures.Figures.{Shows}
-use Rattle.loads.specs.LoadRows.{optionals, AreLoads}
+use Rattle.loads.specs.LoadRows.{AllNamed, optionals, AreLoads}
 
--- a DL row as it is written: V, x, H, y, in service
+-- a row of its own forces as it is written: V, x, H, y, in service, and n6
+abbrev pub written : Kind → (v x h y : ℕ) → Entry → Row
+written k v x h y n = record { kind = k; numbers = record { n1 = positive v; n2 = positive x; n3 = positive h; n4 = positive y; n5 = positive 0; n6 = n } }
+
 abbrev pub dead-load : (v x h y : ℕ) → Row
-dead-load v x h y =
-    record { kind = DL; numbers = record { n1 = positive v; n2 = positive x; n3 = positive h; n4 = positive y; n5 = positive 0; n6 = absent } }
+dead-load v x h y = written DL v x h y absent
+
+-- an LF row that names a position
+abbrev pub braking : ℕ → Row
+braking n = written LF 0 0 300 6000 (positive n)
+
+-- the load rows of 01's whole example, with a train as its second (02, P3)
+abbrev pub braked : ℕ → List Row
+braked n = dead-load 6000 0 0 0 ∷ written LL 0 0 0 0 absent ∷ braking n ∷ []
 
 -- a row of a kind, whatever its numbers
 abbrev pub row-of : Kind → Row
@@ -58,6 +72,9 @@ pub data WorkedFigure : Type 0 where
   earth : (soil slope height length H y : ℕ) → WorkedFigure
   current : (shape area velocity upper lower H y : ℕ) → WorkedFigure
   optional-rows : (live currents count : ℕ) → WorkedFigure
+  position : (n : ℕ) (ranged : Bool) → WorkedFigure
+  named : (n : ℕ) (live : Bool) → WorkedFigure
+  no-set : (set : ℕ) → WorkedFigure
   overturning : (B v x h y figure : ℕ) → WorkedFigure
   pressure : (B L N M figure : ℕ) → WorkedFigure
   pressure-either : (B L N M figure : ℕ) → WorkedFigure
@@ -73,6 +90,9 @@ Holds (earth soil slope height length H y) = Pushed table2-fill (record { soil =
 Holds (current shape area velocity upper lower H y) =
     water.CurrentRule (record { shape = shape; area = area; velocity = velocity; upper = upper; lower = lower }) (water.push H y)
 Holds (optional-rows live currents count) = optionals (replicate live (row-of LL) ++ replicate currents (row-of kind.W)) ≡ count
+Holds (position n ranged) = Decides ranged (Ranged LF (braking n .numbers))
+Holds (named n live) = Decides live (AllNamed (braked n))
+Holds (no-set set) = (loads : Loads) → AreLoads table2-fill (braked 2) loads → Permitted I loads set → ⊥
 Holds (overturning B v x h y figure) = Overturns B (dead-load v x h y) figure
 Holds (pressure B L N M figure) = Presses B L N M (Number figure)
 Holds (pressure-either B L N M figure) = PressesEither B L N M figure
@@ -128,4 +148,19 @@ worked =
     ∷ current 1 20000 6000 60000 60000 5579 60000
     ∷ current 1 1000 0 5000 5000 0 5000
     ∷ optional-rows 12 1 13
+    ∷ []
+
+-- P3, braking needs a train. n6 of LF: 0 and 17 are out of range, and 1 and 16 in it. LF behind DL and LL names LL as the second of all the load
+-- rows: the first is DL, the third itself, and there is no fourth. DL and LF without LL, 5, are no set of I.
+abbrev pub trained : List WorkedFigure
+trained =
+    position 0 false
+    ∷ position 1 true
+    ∷ position 16 true
+    ∷ position 17 false
+    ∷ named 1 false
+    ∷ named 2 true
+    ∷ named 3 false
+    ∷ named 4 false
+    ∷ no-set 5
     ∷ []

@@ -3,9 +3,12 @@ use Prim.Native.Nat.{ℕ}
 use mathlib.Core.Path.{_≡_, refl, sym, ap, _∙_}
 use mathlib.Core.Logic.{⊎-elim}
 use mathlib.Core.List.{List, [], _∷_, map}
+use lib.Dec.{eqb}
 use lib.ListN.{getD}
 use types.Run.{OneOf}
 use denote.Enum.Declared.{tagOf}
+use Rattle.arithmetic.specs.decides.Decides.{Decides}
+use Rattle.arithmetic.proofs.Deciding.{decides-same, decides-equal}
 use Rattle.kinds.specs.declared.Kind.{Kind}
 use Rattle.kinds.specs.declared.Kind.the-variants.{B, S, C, E, W, DL, EP, LL, LF, CF, WC, BU, TM, EX, WL, SF}
 use Rattle.kinds.proofs.Kind.{the-type}
@@ -33,6 +36,11 @@ at-place SF = refl
 
 one-place : (j k : Kind) → tagOf the-type k ≡ tagOf the-type j → j ≡ k
 one-place j k e = sym (at-place j) ∙ ap kind-at (sym e) ∙ at-place k
+
+-- whether a kind is another, by its place
+pub kind-decides : (j k : Kind) → Decides (eqb (tagOf the-type k) (tagOf the-type j)) (k ≡ j)
+kind-decides j k =
+    decides-same (eqb (tagOf the-type k) (tagOf the-type j)) (λ e. sym (one-place j k e)) (ap (tagOf the-type)) (decides-equal (tagOf the-type k) (tagOf the-type j))
 
 pub kind-arm : {A : Type 0} (answer : Kind → A) (a : A) (js : List Kind) (k : Kind) → map answer js ≡ map (λ _. a) js → OneOf (map (tagOf the-type) js) (tagOf the-type k) → a ≡ answer k
 kind-arm answer a [] k all h = absurd h

@@ -1,4 +1,4 @@
--- Document 01, the job book, and 02, P1: the table of kinds, as data. Each kind, how it is written, what it is to its job, and its columns n1 to n6.
+-- Document 01, the job book, and 02, P1 and P3: the table of kinds, as data. Each kind, how it is written, what it is to its job, and its columns n1 to n6.
 use Prim.Native.Nat.{ℕ}
 use mathlib.Core.List.{List, [], _∷_}
 use Rattle.fields.specs.Numbers.{absent}
@@ -14,9 +14,9 @@ use Rattle.kinds.specs.declared.Numbers.{Numbers}
 abbrev pub six : Column → Column → Column → Column → Column → Column → Columns
 six a b c d e f = record { n1 = a; n2 = b; n3 = c; n4 = d; n5 = e; n6 = f }
 
--- V kN, down positive; x mm, measured from the base centre; H kN, positive toward +x; y mm above the base; phase
-abbrev pub load-columns : Columns
-load-columns = six (Signed 50000 50000) (Signed 30000 30000) (Signed 50000 50000) (Filled 0 60000) (Filled 0 2) Empty
+-- V kN, down positive; x mm, measured from the base centre; H kN, positive toward +x; y mm above the base; phase; and n6
+abbrev pub load-columns : Column → Columns
+load-columns n6 = six (Signed 50000 50000) (Signed 30000 30000) (Signed 50000 50000) (Filled 0 60000) (Filled 0 2) n6
 
 -- the columns of each kind, with their ranges:
 -- B: width B mm; length L mm; allowable pressure kN/m²; friction, thousandths; strata, 0 soil, 1 rock
@@ -24,23 +24,24 @@ load-columns = six (Signed 50000 50000) (Signed 30000 30000) (Signed 50000 50000
 -- C: velocity mm/s; area A and obstructed area a, tenths of m²; underside and flood level mm
 -- E: soil; slope; height mm; length mm; phase
 -- W: shape of Table 4; exposed area, hundredths of m²; velocity mm/s; upper and lower wetted height mm; phase
+-- LF and CF, which come with a train: n6, the position of an LL row among the job's load rows (02, P3)
 abbrev pub columns : Kind → Columns
 columns B = six (Filled 500 30000) (Filled 500 60000) (Filled 1 10000) (Filled 1 1000) (Filled 0 1) Empty
 columns S = six (Filled 1 50000000) (Filled 1 3000000) (Filled 100 3000) (Filled 1000 1300000) (Filled 1 5) (Filled 0 200000)
 columns C = six (Filled 0 10000) (Filled 1 100000) (Filled 1 100000) (Signed 500000 9000000) (Signed 500000 9000000) Empty
 columns E = six (Filled 1 5) (Filled 1 5) (Filled 1 15000) (Filled 1 60000) (Filled 0 2) Empty
 columns W = six (Filled 1 6) (Filled 1 20000) (Filled 0 6000) (Filled 0 60000) (Filled 0 60000) (Filled 0 2)
-columns DL = load-columns
-columns EP = load-columns
-columns LL = load-columns
-columns LF = load-columns
-columns CF = load-columns
-columns WC = load-columns
-columns BU = load-columns
-columns TM = load-columns
-columns EX = load-columns
-columns WL = load-columns
-columns SF = load-columns
+columns DL = load-columns Empty
+columns EP = load-columns Empty
+columns LL = load-columns Empty
+columns LF = load-columns (Filled 1 16)
+columns CF = load-columns (Filled 1 16)
+columns WC = load-columns Empty
+columns BU = load-columns Empty
+columns TM = load-columns Empty
+columns EX = load-columns Empty
+columns WL = load-columns Empty
+columns SF = load-columns Empty
 
 -- how a kind is written
 abbrev pub letters : Kind → List ℕ
@@ -98,6 +99,25 @@ phase TM n = n .n5 .size
 phase EX n = n .n5 .size
 phase WL n = n .n5 .size
 phase SF n = n .n5 .size
+
+-- the LL row that a load row comes with, by its position from 1 among the job's load rows: it stands in n6 of LF and CF (02, P3); 0 names none
+abbrev pub train : Kind → Numbers → ℕ
+train B n = 0
+train S n = 0
+train C n = 0
+train E n = 0
+train W n = 0
+train DL n = 0
+train EP n = 0
+train LL n = 0
+train LF n = n .n6 .size
+train CF n = n .n6 .size
+train WC n = 0
+train BU n = 0
+train TM n = 0
+train EX n = 0
+train WL n = 0
+train SF n = 0
 
 -- the numbers of no row
 abbrev pub blank-numbers : Numbers

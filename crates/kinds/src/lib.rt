@@ -1,7 +1,7 @@
-// The table of kinds (document 01, the job book; 02, P1), as data: the form (refusal 3) and the ranges (refusal 11) of a row's numbers.
+// The table of kinds (document 01, the job book; 02, P1 and P3), as data: the form (refusal 3) and the ranges (refusal 11) of a row's numbers.
 //
-// Which columns are filled and in what range, how the kind is written, what a row of it is to its job, and where its phase stands, is stated in
-// one table (`specs/Table.antt`), its class and the source of its forces with `classes`. A kind that is added joins both. The code's copies are
+// Which columns are filled and in what range, how the kind is written, what a row of it is to its job, and where its phase and its train
+// stand, is stated in one table (`specs/Table.antt`), its class and the source of its forces with `classes`. A kind that is added joins both. The code's copies are
 // shown to be the definitions'.
 pub mod classes;
 pub mod letters;
@@ -9,7 +9,7 @@ pub mod ranges;
 
 use fields::Entry;
 ghost use mathlib.Core.Path.{_≡_};
-ghost use Rattle.kinds.specs.Table.{columns, role, phase};
+ghost use Rattle.kinds.specs.Table.{columns, role, phase, train};
 
 // The kinds of a row: the base, the two river rows, earth pressure, water current, and the load rows that give their own forces.
 pub enum Kind {
@@ -72,7 +72,7 @@ pub struct Row {
     pub numbers: Numbers,
 }
 
-// The columns of each kind, as the table gives them; the last are those of every row that gives its own forces.
+// The columns of each kind, as the table gives them; the last two are those of the rows that give their own forces, with a train and without.
 const BASE_COLUMNS: Columns = Columns {
     n1: Column::Filled(500, 30000),
     n2: Column::Filled(500, 60000),
@@ -118,6 +118,15 @@ const CURRENT_COLUMNS: Columns = Columns {
     n6: Column::Filled(0, 2),
 };
 
+const TRAIN_COLUMNS: Columns = Columns {
+    n1: Column::Signed(50000, 50000),
+    n2: Column::Signed(30000, 30000),
+    n3: Column::Signed(50000, 50000),
+    n4: Column::Filled(0, 60000),
+    n5: Column::Filled(0, 2),
+    n6: Column::Filled(1, 16),
+};
+
 const FORCE_COLUMNS: Columns = Columns {
     n1: Column::Signed(50000, 50000),
     n2: Column::Signed(30000, 30000),
@@ -137,11 +146,10 @@ pub fn columns_of(kind: Kind) -> Columns
         Kind::C => CLEARANCE_COLUMNS,
         Kind::E => EARTH_COLUMNS,
         Kind::W => CURRENT_COLUMNS,
+        Kind::LF | Kind::CF => TRAIN_COLUMNS,
         Kind::DL
         | Kind::EP
         | Kind::LL
-        | Kind::LF
-        | Kind::CF
         | Kind::WC
         | Kind::BU
         | Kind::TM
@@ -197,5 +205,29 @@ pub fn phase_of(row: Row) -> u32
         | Kind::EX
         | Kind::WL
         | Kind::SF => row.numbers.n5.size,
+    }
+}
+
+// The LL row that a load row comes with, by its position from 1 among the job's load rows: LF and CF have it in n6, and 0 is none (02, P3).
+pub fn train_of(row: Row) -> u32
+    ensures { λ r. ⌜ r ≡ train (row .kind) (row .numbers) ⌝ }
+{
+    let kind = row.kind;
+    match kind {
+        Kind::LF | Kind::CF => row.numbers.n6.size,
+        Kind::B
+        | Kind::S
+        | Kind::C
+        | Kind::E
+        | Kind::W
+        | Kind::DL
+        | Kind::EP
+        | Kind::LL
+        | Kind::WC
+        | Kind::BU
+        | Kind::TM
+        | Kind::EX
+        | Kind::WL
+        | Kind::SF => 0,
     }
 }

@@ -1,13 +1,13 @@
--- The answer for a job's load rows is one, and the loads that are given are bounded.
+-- The answer for a job's load rows is one, and the loads that are given are bounded and led.
 use mathlib.Core.Path.{_≡_, refl, sym, _∙_, ap, subst, subst⁻¹}
-use mathlib.Core.Logic.{_⊎_, inl, inr, ⊎-elim}
+use mathlib.Core.Logic.{_⊎_, inl, inr}
 use mathlib.Core.Bool.{Bool, true, false, cond}
-use mathlib.Core.List.{List, [], _∷_}
+use mathlib.Core.List.{List}
 use borrow.Author.Tests.{ltb-true}
 use lib.Dec.{ltb}
-use lib.ListN.{getD, length, take}
+use lib.ListN.{length, take}
 use lib.Seq.{take-all}
-use Prim.Native.Nat.{ℕ, zero, suc, _≤_, _<_}
+use Prim.Native.Nat.{ℕ, _<_}
 use native.Mathlib.Decide.{decLe}
 use native.Mathlib.Omega.{arith}
 use Rattle.arithmetic.specs.rounding.Least.{Least}
@@ -18,81 +18,63 @@ use Rattle.kinds.specs.ranges.Range.{Ranged}
 use Rattle.kinds.proofs.ranges.Ranges.{ranged-unless}
 use Rattle.earth.specs.declared.table2.Coefficient.{Coefficient}
 use Rattle.earth.specs.steps.LowCoefficient.{LowCoefficient}
-use Rattle.sets.specs.declared.Load.{Load}
 use Rattle.sets.specs.declared.Loads.{Loads}
-use Rattle.sets.specs.Sets.{row, no-load}
-use Rattle.sets.specs.Bounded.{BoundedLoad, Bounded}
+use Rattle.sets.specs.Sets.{row}
+use Rattle.sets.specs.Bounded.{Bounded}
+use Rattle.sets.specs.Led.{Led}
 use Rattle.loads.proofs.forces.Exerting.{exerts-bounded}
 use Rattle.loads.specs.forces.Blank.{BlankThere}
 use Rattle.loads.specs.forces.Wetted.{UpperBelowLower}
-use Rattle.loads.specs.LoadRows.{Every, AllRanged, optionals, Laid, AreLoads}
-use Rattle.loads.proofs.FirstRows.{every-map}
+use Rattle.loads.specs.LoadRows.{Every, optionals, AllNamed, AreLoads}
+use Rattle.loads.proofs.FirstRows.{every-at, every-map, none-some, some-row, laid-at}
 use Rattle.loads.proofs.InRange.{all-ranged}
+use Rattle.loads.proofs.Naming.{all-named, loads-led}
+use Rattle.loads.proofs.Lowest.{Where}
 use Rattle.loads.proofs.Loaded.{loads-one, loads-few}
 use Rattle.loads.specs.declared.LoadsAnswer.{LoadsAnswer}
 use Rattle.loads.specs.declared.LoadsAnswer.the-variants.{Refused, Given}
 use Rattle.loads.specs.declared.LoadsRead.{LoadsRead}
-use Rattle.loads.specs.Answer.{LoadsTold, refused, given, loads-told, loads-told-by, RowsWhen, out-of-range, blank, too-many, upper-below-lower, LoadsSays, refuses, loaded, no-loads, Beside, LoadsAnswered}
+use Rattle.loads.specs.Answer.{LoadsTold, refused, given, loads-told, loads-told-by, RowsWhen, out-of-range, blank, too-many, upper-below-lower, no-train, LoadsSays, refuses, loaded, no-loads, Beside, LoadsAnswered}
 use Rattle.loads.specs.steps.Exerted as rows
-use Rattle.loads.specs.steps.Asking.{row-count, Lower, alone, before, after, Some, FirstShown}
+use Rattle.loads.specs.steps.Asking.{row-count, Lowest, ShownBy}
 
--- ---- what the rows show, from what each shows by itself and the number of the optional ones
-module _ {fill : ℕ → ℕ → Coefficient} where
-  first-shows : {r : Row} {others : List Row} {n : ℕ} → rows.RowWhen fill r n → RowsWhen fill (r ∷ others) n
-  unfolding Every
-  first-shows (rows.out-of-range h) = out-of-range (λ all. h (all .0))
-  first-shows (rows.blank b) = blank (λ all. all .0 b)
-  first-shows (rows.upper-below-lower u) = upper-below-lower (λ all. all .0 u)
+-- ---- what the rows show: what one shows by itself, 16 where too many are optional, and 18 where a row named is no LL row
+abbrev pub Shown : (ℕ → ℕ → Coefficient) → List Row → ℕ → Type 0
+Shown fill rs n = (ShownBy fill rs n ⊎ Where (12 < optionals rs) 16 n) ⊎ Where (AllNamed rs → ⊥) 18 n
 
-  others-show : {r : Row} {others : List Row} {n : ℕ} → RowsWhen fill others n → RowsWhen fill (r ∷ others) n
-  unfolding Every optionals
-  others-show (out-of-range h) = out-of-range (λ all. h (all .1))
-  others-show (blank h) = blank (λ all. h (all .1))
-  others-show (too-many h) = too-many (omega arith)
-  others-show (upper-below-lower h) = upper-below-lower (λ all. h (all .1))
+module _ (fill : ℕ → ℕ → Coefficient) (rs : List Row) where
+  -- what is asked of every row is asked of this one
+  row-shows : {r : Row} {n : ℕ} → rows.RowWhen fill r n → ((P : Row → Type 0) → Every P rs → P r) → RowsWhen fill rs n
+  row-shows (rows.out-of-range h) one = out-of-range (λ all. h (one (λ row. Ranged (row .kind) (row .numbers)) all))
+  row-shows (rows.blank b) one = blank (λ all. one (λ row. BlankThere fill row → ⊥) all b)
+  row-shows (rows.upper-below-lower u) one = upper-below-lower (λ all. one (λ row. UpperBelowLower row → ⊥) all u)
 
-  some-show : (rs : List Row) {n : ℕ} → Some (λ row. rows.RowWhen fill row n) rs → RowsWhen fill rs n
-  unfolding Some
-  some-show [] s = absurd s
-  some-show (r ∷ rs) s = ⊎-elim first-shows (λ t. others-show (some-show rs t)) s
+  shown-given : (n : ℕ) → Shown fill rs n → RowsWhen fill rs n
+  shown-given n (inl (inl s)) = some-row (λ row. rows.RowWhen fill row n) rs s (λ r w one. row-shows w one)
+  shown-given n (inl (inr w)) = subst⁻¹ (RowsWhen fill rs) (w .0) (too-many (w .1))
+  shown-given n (inr w) = subst⁻¹ (RowsWhen fill rs) (w .0) (no-train (w .1))
 
-  -- a number that no row shows, and that is not 16 of too many, is not given
-  not-shown : (rs : List Row) {n : ℕ} → Every (λ row. rows.RowWhen fill row n → ⊥) rs → (n ≡ 16 → optionals rs ≤ 12) → RowsWhen fill rs n → ⊥
-  not-shown rs clear few (out-of-range h) = h (every-map (λ row. rows.RowWhen fill row 11 → ⊥) (λ row. Ranged (row .kind) (row .numbers)) (λ row no. ranged-unless (row .kind) (row .numbers) (λ u. no (rows.out-of-range u))) rs clear)
-  not-shown rs clear few (blank h) = h (every-map (λ row. rows.RowWhen fill row 15 → ⊥) (λ row. BlankThere fill row → ⊥) (λ row no b. no (rows.blank b)) rs clear)
-  not-shown rs clear few (too-many h) = let k = few refl in omega arith
-  not-shown rs clear few (upper-below-lower h) = h (every-map (λ row. rows.RowWhen fill row 17 → ⊥) (λ row. UpperBelowLower row → ⊥) (λ row no u. no (rows.upper-below-lower u)) rs clear)
+  -- a number that is not shown is not given
+  hidden : (n : ℕ) → (Shown fill rs n → ⊥) → Every (λ row. rows.RowWhen fill row n → ⊥) rs
+  hidden n h = none-some (λ row. rows.RowWhen fill row n) rs (λ s. h (inl (inl s)))
 
--- the lowest number, with 16 where too many rows are optional
-abbrev pub With16 : List Row → ℕ → ℕ → Type 0
-With16 rs first number = ((12 < optionals rs) × Lower first 16 number) ⊎ ((optionals rs ≤ 12) × (number ≡ first))
+  not-given : {n : ℕ} → (Shown fill rs n → ⊥) → RowsWhen fill rs n → ⊥
+  not-given clear (out-of-range h) = h (every-map (λ row. rows.RowWhen fill row 11 → ⊥) (λ row. Ranged (row .kind) (row .numbers)) (λ row no. ranged-unless (row .kind) (row .numbers) (λ u. no (rows.out-of-range u))) rs (hidden 11 clear))
+  not-given clear (blank h) = h (every-map (λ row. rows.RowWhen fill row 15 → ⊥) (λ row. BlankThere fill row → ⊥) (λ row no b. no (rows.blank b)) rs (hidden 15 clear))
+  not-given clear (too-many h) = clear (inl (inr (refl, h)))
+  not-given clear (upper-below-lower h) = h (every-map (λ row. rows.RowWhen fill row 17 → ⊥) (λ row. UpperBelowLower row → ⊥) (λ row no u. no (rows.upper-below-lower u)) rs (hidden 17 clear))
+  not-given clear (no-train h) = clear (inr (refl, h))
 
-module _ {fill : ℕ → ℕ → Coefficient} {rs : List Row} {first : ℕ} (shown : FirstShown fill rs first) where
-  lower-shows : {number : ℕ} → 12 < optionals rs → Lower first 16 number → (number ≡ 0 → ⊥) × RowsWhen fill rs number × (number ≤ 16) × ((first ≡ 0) ⊎ (number ≤ first))
-  lower-shows many (alone e) = ((λ z. omega arith), too-many many, omega arith, inl e)
-  lower-shows many (before b) = ((λ z. omega arith), too-many many, omega arith, inr (omega arith))
-  lower-shows many (after n l) = (n, some-show rs (shown .shown n), l, inr (omega arith))
+  module _ {number : ℕ} (lowest : Lowest (Shown fill rs) number) where
+    pub first-refused : (number ≡ 0 → ⊥) → Least (RowsWhen fill rs) number
+    first-refused some =
+        record {
+          holds = shown-given number (lowest .shown some);
+          least = λ n h. by-cases (decLe number n) (λ k. k) (λ k. absurd (not-given (lowest .clear n (inr (omega arith))) h));
+        }
 
-  -- a lower number than the lowest is shown by no row
-  below : {number : ℕ} → (first ≡ 0) ⊎ (number ≤ first) → (n : ℕ) → n < number → Every (λ row. rows.RowWhen fill row n → ⊥) rs
-  below low n l = shown .clear n (⊎-elim inl (λ k. inr (omega arith)) low)
-
-  pub first-refused : {number : ℕ} → With16 rs first number → (number ≡ 0 → ⊥) → Least (RowsWhen fill rs) number
-  first-refused {number} (inl w) some =
-      let l = lower-shows (w .0) (w .1) in
-      record { holds = l .1; least = λ n h. by-cases (decLe number n) (λ k. k) (λ k. absurd (not-shown rs (below (l .3) n (omega arith)) (λ e. absurd (omega (arith, l .2))) h)) }
-  first-refused {number} (inr w) some =
-      let same = w .1 in
-      let few = w .0 in
-      let there : first ≡ 0 → ⊥ = λ e. some (same ∙ e) in
-      record {
-        holds = subst⁻¹ (RowsWhen fill rs) same (some-show rs (shown .shown there));
-        least = λ n h. by-cases (decLe number n) (λ k. k) (λ k. absurd (not-shown rs (shown .clear n (inr (omega arith))) (λ e. few) h));
-      }
-
-  pub none-refused : {number : ℕ} → With16 rs first number → number ≡ 0 → (first ≡ 0) × ((n : ℕ) → RowsWhen fill rs n → ⊥)
-  none-refused (inl w) e = absurd (lower-shows (w .0) (w .1) .0 e)
-  none-refused (inr w) e = let z = sym (w .1) ∙ e in (z, λ n h. not-shown rs (shown .clear n (inl z)) (λ _. w .0) h)
+    pub none-refused : number ≡ 0 → (n : ℕ) → RowsWhen fill rs n → ⊥
+    none-refused e n h = not-given (lowest .clear n (inl e)) h
 
 -- ---- the rows are told one answer
 module _ (fill : ℕ → ℕ → Coefficient) (rs : List Row) where
@@ -133,14 +115,6 @@ pub given-loads : (fill : ℕ → ℕ → Coefficient) (rs : List Row) {t : Load
 given-loads fill rs (refuses p) loads e = impossible cc
 given-loads fill rs (loaded n l) loads e = (n, subst (AreLoads fill rs) (cc) l)
 
-laid-bounded : (fill : ℕ → ℕ → Coefficient) → ((soil slope : ℕ) → LowCoefficient (fill soil slope)) → (rs : List Row) (loads : List Load) → AllRanged rs → Laid fill rs loads
-    → (i : ℕ) → i < length rs → BoundedLoad (getD loads i no-load)
-unfolding Every Laid
-laid-bounded fill small [] loads r l i h = absurd (omega arith)
-laid-bounded fill small (x ∷ rs) [] r l i h = absurd l
-laid-bounded fill small (x ∷ rs) (y ∷ loads) r l zero h = exerts-bounded fill small x y (r .0) (l .0)
-laid-bounded fill small (x ∷ rs) (y ∷ loads) r l (suc i) h = laid-bounded fill small rs loads (r .1) (l .1) i (omega arith)
-
 pub given-bounded : (fill : ℕ → ℕ → Coefficient) → ((soil slope : ℕ) → LowCoefficient (fill soil slope)) → (rs : List Row) (count : ℕ) (taken : LoadsRead) → LoadsAnswered fill rs count taken
     → taken .answer ≡ Given → Bounded (taken .loads)
 unfolding loads-told loads-told-by row
@@ -149,7 +123,11 @@ given-bounded fill small rs count taken a e =
     let ranged = all-ranged (take count rs) (λ n. w .0 11 (out-of-range n)) in
     record {
       count = loads-few fill (take count rs) (taken .loads) (w .1);
-      each = λ i h. laid-bounded fill small (take count rs) (taken .loads .loads) ranged (w .1 .laid) i (subst (λ (m : ℕ). i < m) (w .1 .count) h);
+      each =
+          λ i h.
+          let here = subst (λ (m : ℕ). i < m) (w .1 .count) h in
+          let in-range = every-at (λ row. Ranged (row .kind) (row .numbers)) (take count rs) ranged i here in
+          exerts-bounded fill small _ _ in-range (laid-at fill (take count rs) (taken .loads .loads) (w .1 .laid) i here);
     }
 
 -- whatever the answer, the loads that stand beside it are bounded
@@ -161,3 +139,10 @@ beside-bounded fill small rs count taken a = go (taken .answer) refl (a .beside)
     go : (x : LoadsAnswer) → taken .answer ≡ x → Beside x (taken .loads) → Bounded (taken .loads)
     go (Refused n) e b = subst⁻¹ Bounded b (record { count = omega arith; each = λ i h. absurd (omega arith) })
     go Given e b = given-bounded fill small rs count taken a e
+
+-- ---- and what is named in them is a train
+pub given-led : (fill : ℕ → ℕ → Coefficient) (rs : List Row) (count : ℕ) (taken : LoadsRead) → LoadsAnswered fill rs count taken → taken .answer ≡ Given → Led (taken .loads)
+unfolding loads-told loads-told-by
+given-led fill rs count taken a e =
+    let w = given-loads fill (take count rs) (a .says) (taken .loads) (ap (λ (x : LoadsAnswer). loads-told-by x (taken .loads)) e) in
+    loads-led fill (take count rs) (taken .loads) (w .1) (all-named (take count rs) (λ n. w .0 18 (no-train n)))

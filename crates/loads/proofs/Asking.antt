@@ -2,23 +2,23 @@
 use native.Mathlib.Omega.{arith}
 use native.Mathlib.Numerals.{add-one}
 use mathlib.Core.Path.{_≡_, refl, _∙_, ap, subst⁻¹}
-use mathlib.Core.Logic.{inl, inr, ⊎-elim}
+use mathlib.Core.Logic.{_⊎_, ⊎-elim}
 use mathlib.Core.List.{List, [], _∷_, _++_}
 use Prim.Native.Nat.{ℕ, _+_, _≤_, _<_}
 use lib.ListN.{length, take, set, length-set}
 use lib.Seq.{take-suc}
-use Rattle.arithmetic.specs.rounding.Least.{Least}
 use Rattle.kinds.specs.declared.Row.{Row}
 use Rattle.kinds.specs.classes.Classes.{class-of, optional}
 use Rattle.earth.specs.declared.table2.Coefficient.{Coefficient}
 use Rattle.sets.specs.declared.Class.{Class}
 use Rattle.sets.specs.declared.Class.the-variants.{Permanent, Free, Wind, Earthquake}
 use Rattle.sets.specs.declared.Load.{Load}
-use Rattle.loads.specs.LoadRows.{Every, optionals}
+use Rattle.loads.specs.LoadRows.{optionals}
 use Rattle.loads.specs.steps.Exerted.{RowWhen, out-of-range, blank, upper-below-lower, LoadOf}
-use Rattle.loads.specs.steps.Asking.{Lower, alone, before, after, FirstShown, AskedIs}
+use Rattle.loads.specs.steps.Asking.{Lower, Some, Lowest, ShownBy, AskedIs}
 use Rattle.loads.specs.declared.forces.RowLoad.the-variants.{Refused, Exerted}
-use Rattle.loads.proofs.FirstRows.{load-row, every-more, some-last, some-more, optionals-more}
+use Rattle.loads.proofs.FirstRows.{load-row, some-last, some-more, some-either, optionals-more}
+use Rattle.loads.proofs.Lowest.{lower-some, lowest-same, lowest-alone, lowest-more}
 use Rattle.loads.proofs.Laying.{LaidFirst, laid-more, laid-all}
 
 pub optional-low : (c : Class) → optional c ≤ 1
@@ -35,44 +35,18 @@ row-number (blank h) e = omega arith
 row-number (upper-below-lower h) e = omega arith
 
 module _ (fill : ℕ → ℕ → Coefficient) where
-  shown-none : FirstShown fill [] 0
-  unfolding Every
-  shown-none = record { shown = λ n. absurd (n refl); clear = λ n h. tt }
+  shown-none : Lowest (ShownBy fill []) 0
+  unfolding Some
+  shown-none = record { shown = λ n. absurd (n refl); clear = λ n h s. s }
 
-  -- a row that shows a number, and one that does not
-  abbrev Shows : ℕ → Row → Type 0
-  Shows n row = RowWhen fill row n
-
-  abbrev Hides : ℕ → Row → Type 0
-  Hides n row = RowWhen fill row n → ⊥
-
-  module _ (rows : List Row) (r : Row) {first : ℕ} (f : FirstShown fill rows first) where
-    -- one row more that shows nothing
-    shown-load : ((n : ℕ) → RowWhen fill r n → ⊥) → FirstShown fill (rows ++ r ∷ []) first
-    shown-load none = record { shown = λ n. some-more (Shows first) rows r (f .shown n); clear = λ n h. every-more (Hides n) rows r (f .clear n h) (none n) }
-
-    -- one row more that is refused
-    shown-more : {number next : ℕ} → Least (RowWhen fill r) number → Lower first number next → FirstShown fill (rows ++ r ∷ []) next
-    shown-more {number} l (alone e) = record {
-      shown = λ n. some-last (Shows number) rows r (l .holds);
-      clear = λ n h. every-more (Hides n) rows r (f .clear n (inl e)) (λ w. let low = l .least n w in ⊎-elim (row-number (l .holds)) (λ k. omega arith) h);
-    }
-    shown-more {number} l (before b) = record {
-      shown = λ n. some-last (Shows number) rows r (l .holds);
-      clear =
-          λ n h.
-          let early : n < number = ⊎-elim (λ e. absurd (row-number (l .holds) e)) (λ k. k) h in
-          every-more (Hides n) rows r (f .clear n (inr (omega arith))) (λ w. let low = l .least n w in omega arith);
-    }
-    shown-more l (after n a) = record {
-      shown = λ m. some-more (Shows first) rows r (f .shown m);
-      clear = λ m h. every-more (Hides m) rows r (f .clear m h) (λ w. let low = l .least m w in ⊎-elim n (λ k. omega arith) h);
-    }
+  -- what the rows passed show, or one row more
+  shown-more : (rows : List Row) (r : Row) {next : ℕ} → Lowest (λ n. ShownBy fill rows n ⊎ RowWhen fill r n) next → Lowest (ShownBy fill (rows ++ r ∷ [])) next
+  shown-more rows r = lowest-same (λ n. ⊎-elim (some-more (λ row. RowWhen fill row n) rows r) (some-last (λ row. RowWhen fill row n) rows r)) (λ n. some-either (λ row. RowWhen fill row n) rows r)
 
 -- the rows passed: what was asked of them, and, as long as none was refused, their loads
 pub record RowsAsked (fill : ℕ → ℕ → Coefficient) (rows : List Row) (n first count : ℕ) (loads : List Load) : Type 0 where
   pub size : length loads ≡ 16
-  pub told : FirstShown fill (take n rows) first
+  pub told : Lowest (ShownBy fill (take n rows)) first
   pub optional : count ≡ optionals (take n rows)
   pub laid : first ≡ 0 → LaidFirst fill rows n loads
 
@@ -94,14 +68,12 @@ module _ (fill : ℕ → ℕ → Coefficient) (rows : List Row) where
         → RowsAsked fill rows (n + 1) next (count + optional (class-of (load-row rows n .kind))) loads
     unfolding LoadOf
     asked-refused {number} {next} t l =
-        let s = shown-more fill (take n rows) (load-row rows n) (p .told) t l in
-        let some : next ≡ 0 → ⊥ = λ e. lower-number l (row-number (t .holds)) e in
-        record { size = p .size; told = subst⁻¹ (λ (x : List Row). FirstShown fill x next) more s; optional = counted; laid = λ e. absurd (some e) }
-      where
-        lower-number : {next : ℕ} → Lower first number next → (number ≡ 0 → ⊥) → next ≡ 0 → ⊥
-        lower-number (alone a) n e = n e
-        lower-number (before b) n e = n e
-        lower-number (after a b) n e = a e
+        record {
+          size = p .size;
+          told = subst⁻¹ (λ (x : List Row). Lowest (ShownBy fill x) next) more (shown-more fill (take n rows) (load-row rows n) (lowest-more (p .told) t (row-number (t .holds)) l));
+          optional = counted;
+          laid = λ e. absurd (lower-some l (row-number (t .holds)) e);
+        }
 
     pub asked-load : (load : Load) → n < 16 → LoadOf fill (load-row rows n) (Exerted load)
         → RowsAsked fill rows (n + 1) first (count + optional (class-of (load-row rows n .kind))) (set loads n load)
@@ -109,7 +81,7 @@ module _ (fill : ℕ → ℕ → Coefficient) (rows : List Row) where
     asked-load load h t =
         record {
           size = length-set loads n load ∙ p .size;
-          told = subst⁻¹ (λ (x : List Row). FirstShown fill x first) more (shown-load fill (take n rows) (load-row rows n) (p .told) (t .0));
+          told = subst⁻¹ (λ (x : List Row). Lowest (ShownBy fill x) first) more (shown-more fill (take n rows) (load-row rows n) (lowest-alone (p .told) (t .0)));
           optional = counted;
           laid = λ e. laid-more fill rows n loads h (p .laid e) (t .1);
         }

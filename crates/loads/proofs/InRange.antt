@@ -18,16 +18,18 @@ use Rattle.sets.specs.declared.Load.{Load}
 use Rattle.loads.specs.LoadRows.{Every, AllRanged}
 use Rattle.loads.specs.forces.Exerts.{PushLoad, Forces, Exerts}
 
-pub all-ranged : (rows : List Row) → ((AllRanged rows → ⊥) → ⊥) → AllRanged rows
+-- where it cannot be otherwise of one row than that it has P, it cannot be otherwise of all
+pub all-unless : (P : Row → Type 0) → ((row : Row) → ((P row → ⊥) → ⊥) → P row) → (rows : List Row) → ((Every P rows → ⊥) → ⊥) → Every P rows
 unfolding Every
-all-ranged [] n = tt
-all-ranged (row ∷ rows) n = (ranged-unless (row .kind) (row .numbers) (λ h. n (λ all. h (all .0))), all-ranged rows (λ h. n (λ all. h (all .1))))
+all-unless P one [] n = tt
+all-unless P one (row ∷ rows) n = (one row (λ h. n (λ all. h (all .0))), all-unless P one rows (λ h. n (λ all. h (all .1))))
+
+pub all-ranged : (rows : List Row) → ((AllRanged rows → ⊥) → ⊥) → AllRanged rows
+all-ranged = all-unless (λ row. Ranged (row .kind) (row .numbers)) (λ row. ranged-unless (row .kind) (row .numbers))
 
 -- where it cannot be otherwise than that no row has P, none has it
 pub every-unless : (P : Row → Type 0) (rows : List Row) → ((Every (λ row. P row → ⊥) rows → ⊥) → ⊥) → Every (λ row. P row → ⊥) rows
-unfolding Every
-every-unless P [] n = tt
-every-unless P (row ∷ rows) n = ((λ p. n (λ all. all .0 p)), every-unless P rows (λ h. n (λ all. h (all .1))))
+every-unless P = all-unless (λ row. P row → ⊥) (λ row n p. n (λ h. h p))
 
 -- an E row in range exerts what it is told as a whole row
 pub earth-pressed : {fill : ℕ → ℕ → Coefficient} {row : Row} {load : Load} → row .kind ≡ E → Ranged (row .kind) (row .numbers) → Exerts fill row load

@@ -36,16 +36,19 @@ exerts-one fill r a b p q = go (source (r .kind)) (p .forces) (q .forces)
     phase : a .phase ≡ b .phase
     phase = p .phase ∙ sym (q .phase)
 
+    train : a .train ≡ b .train
+    train = p .train ∙ sym (q .train)
+
     same : {H y G z : ℕ} → (H ≡ G) × (y ≡ z) → PushLoad H y a → PushLoad G z b → a ≡ b
     same e f g =
         let k = subst₂ (λ (H y : ℕ). PushLoad H y a) (e .0) (e .1) f in
-        same-load class phase (k .v ∙ sym (g .v)) (k .x ∙ sym (g .x)) (k .h ∙ sym (g .h)) (k .twist ∙ sym (g .twist))
+        same-load class phase train (k .v ∙ sym (g .v)) (k .x ∙ sym (g .x)) (k .h ∙ sym (g .h)) (k .twist ∙ sym (g .twist))
 
     go : (s : Source) → Forces fill s (r .numbers) a → Forces fill s (r .numbers) b → a ≡ b
     go Absent f g = same (refl, refl) f g
     go Earth f g = same (same-push (pushed-one (f .pressed) (g .pressed))) (f .exerts) (g .exerts)
     go Current f g = same (same-current (rule-one (f .rule) (g .rule))) (f .exerts) (g .exerts)
-    go Own f g = same-load class phase (f .v ∙ sym (g .v)) (f .x ∙ sym (g .x)) (f .h ∙ sym (g .h)) (f .twist ∙ sym (g .twist))
+    go Own f g = same-load class phase train (f .v ∙ sym (g .v)) (f .x ∙ sym (g .x)) (f .h ∙ sym (g .h)) (f .twist ∙ sym (g .twist))
 
 -- ---- and the rows of a job one table of loads
 module _ (fill : ℕ → ℕ → Coefficient) where

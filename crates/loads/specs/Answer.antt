@@ -1,4 +1,4 @@
--- Document 01, Refusals of a job, and 02, P1: what the load rows of a job are told, the lowest of 11, 15, 16 and 17, or the loads.
+-- Document 01, Refusals of a job, and 02, P1 and P3: what the load rows of a job are told, the lowest of 11 and 15 to 18, or the loads.
 use mathlib.Core.Path.{_≡_}
 use mathlib.Core.List.{List}
 use Prim.Native.Nat.{ℕ, _<_}
@@ -8,7 +8,7 @@ use Rattle.kinds.specs.declared.Row.{Row}
 use Rattle.earth.specs.declared.table2.Coefficient.{Coefficient}
 use Rattle.sets.specs.declared.Loads.{Loads}
 use Rattle.sets.specs.Sets.{no-load}
-use Rattle.loads.specs.LoadRows.{AllRanged, NoneBlank, AllUpright, optionals, AreLoads}
+use Rattle.loads.specs.LoadRows.{AllRanged, NoneBlank, AllUpright, AllNamed, optionals, AreLoads}
 use Rattle.loads.specs.declared.LoadsAnswer.{LoadsAnswer}
 use Rattle.loads.specs.declared.LoadsAnswer.the-variants.{Refused, Given}
 use Rattle.loads.specs.declared.LoadsRead.{LoadsRead}
@@ -32,6 +32,7 @@ pub data RowsWhen (fill : ℕ → ℕ → Coefficient) (rows : List Row) : ℕ �
   blank : (NoneBlank fill rows → ⊥) → RowsWhen fill rows 15
   too-many : 12 < optionals rows → RowsWhen fill rows 16
   upper-below-lower : (AllUpright rows → ⊥) → RowsWhen fill rows 17
+  no-train : (AllNamed rows → ⊥) → RowsWhen fill rows 18
 
 -- "Order as numbered": the least of their numbers, or the loads
 pub data LoadsSays (fill : ℕ → ℕ → Coefficient) (rows : List Row) : LoadsTold → Type 0 where

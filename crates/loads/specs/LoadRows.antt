@@ -1,9 +1,11 @@
--- Document 01, Refusals of a job, and 02, P1: what 11, 15, 16 and 17 ask of the load rows of a job, and the loads that the rows exert.
+-- Document 01, Refusals of a job, and 02, P1 and P3: what 11 and 15 to 18 ask of the load rows of a job, and the loads that the rows exert.
 use mathlib.Core.Path.{_≡_}
 use mathlib.Core.List.{List, [], _∷_}
-use Prim.Native.Nat.{ℕ, _+_}
+use Prim.Native.Nat.{ℕ, zero, suc, _+_}
 use lib.ListN.{length}
+use Rattle.kinds.specs.declared.Kind.the-variants.{LL}
 use Rattle.kinds.specs.declared.Row.{Row}
+use Rattle.kinds.specs.Table.{train}
 use Rattle.kinds.specs.ranges.Range.{Ranged}
 use Rattle.earth.specs.declared.table2.Coefficient.{Coefficient}
 use Rattle.sets.specs.declared.Load.{Load}
@@ -35,6 +37,21 @@ optionals (row ∷ rows) = optional (class-of (row .kind)) + optionals rows
 -- what 17 asks: in no W row upper is below lower
 abbrev pub AllUpright : List Row → Type 0
 AllUpright rows = Every (λ row. UpperBelowLower row → ⊥) rows
+
+-- an LL row stands at this place, from 0
+unfoldable pub LiveAt : List Row → ℕ → Type 0
+LiveAt [] i = ⊥
+LiveAt (row ∷ rows) zero = row .kind ≡ LL
+LiveAt (row ∷ rows) (suc i) = LiveAt rows i
+
+-- the row named by its position, from 1, is there and is LL; 0 names no row
+unfoldable pub NamesLive : List Row → ℕ → Type 0
+NamesLive rows zero = Unit {0}
+NamesLive rows (suc i) = LiveAt rows i
+
+-- what 18 asks: of no LF or CF row "the row named is missing or is not LL"
+abbrev pub AllNamed : List Row → Type 0
+AllNamed rows = Every (λ row. NamesLive rows (train (row .kind) (row .numbers))) rows
 
 -- each row exerts the load in its place, and past the last row there stands no load
 unfoldable pub Laid : (ℕ → ℕ → Coefficient) → List Row → List Load → Type 0

@@ -1,5 +1,5 @@
-// What one load row exerts (document 01, the job book and Earth pressure; 02, P1): its class, its phase, and its forces, from its own numbers,
-// from its fill or from the water current; or why its job is refused, with 11, 15 or 17.
+// What one load row exerts (document 01, the job book and Earth pressure; 02, P1 and P3): its class, its phase, its train, and its forces, from its
+// own numbers, from its fill or from the water current; or why its job is refused, with 11, 15 or 17.
 use arithmetic::signed::Amount;
 use current::CurrentAnswer;
 use earth::EarthAnswer;
@@ -34,9 +34,9 @@ fn amount_of(minus: bool, size: u64) -> Amount
 }
 
 // The load of a push toward +x at a height, and no V.
-fn push_load(class: Class, phase: u32, force: u64, arm: u64) -> Load
+fn push_load(class: Class, phase: u32, train: u32, force: u64, arm: u64) -> Load
     requires { ⌜ (force ≤ 300000) × (arm ≤ 60000) ⌝ }
-    ensures { λ r. ⌜ (r .class ≡ class) × (r .phase ≡ phase) × PushLoad force arm r ⌝ }
+    ensures { λ r. ⌜ (r .class ≡ class) × (r .phase ≡ phase) × (r .train ≡ train) × PushLoad force arm r ⌝ }
 {
     let none = amount_of(false, 0);
     let h = amount_of(false, force);
@@ -44,6 +44,7 @@ fn push_load(class: Class, phase: u32, force: u64, arm: u64) -> Load
     Load {
         class,
         phase,
+        train,
         v: none,
         x: none,
         h,
@@ -52,13 +53,14 @@ fn push_load(class: Class, phase: u32, force: u64, arm: u64) -> Load
 }
 
 // The load of a row's own numbers.
-fn own_load(class: Class, phase: u32, numbers: Numbers) -> Load
+fn own_load(class: Class, phase: u32, train: u32, numbers: Numbers) -> Load
     requires { ⌜ (numbers .n3 .size ≤ 50000) × (numbers .n4 .size ≤ 60000) × (numbers .n4 .minus ≡ false) ⌝ }
-    ensures { λ r. ⌜ (r .class ≡ class) × (r .phase ≡ phase) × OwnForces numbers r ⌝ }
+    ensures { λ r. ⌜ (r .class ≡ class) × (r .phase ≡ phase) × (r .train ≡ train) × OwnForces numbers r ⌝ }
 {
     Load {
         class,
         phase,
+        train,
         v: amount_of(numbers.n1.minus, numbers.n1.size as u64),
         x: amount_of(numbers.n2.minus, numbers.n2.size as u64),
         h: amount_of(numbers.n3.minus, numbers.n3.size as u64),
@@ -77,20 +79,21 @@ pub(crate) fn load_of(row: Row, class: Class) -> RowLoad
     let kind = row.kind;
     let numbers = row.numbers;
     let phase = kinds::phase_of(row);
+    let train = kinds::train_of(row);
     let source = kinds::classes::source_of(kind);
     match source {
         Source::Earth => match earth::pressure(numbers) {
             EarthAnswer::OutOfRange => RowLoad::Refused(11),
             EarthAnswer::NoCoefficient => RowLoad::Refused(15),
             EarthAnswer::Push { thrust, arm } => {
-                RowLoad::Exerted(push_load(class, phase, thrust, arm))
+                RowLoad::Exerted(push_load(class, phase, train, thrust, arm))
             }
         },
         Source::Current => match current::pressure(numbers) {
             CurrentAnswer::OutOfRange => RowLoad::Refused(11),
             CurrentAnswer::UpperBelowLower => RowLoad::Refused(17),
             CurrentAnswer::Push { force, arm } => {
-                RowLoad::Exerted(push_load(class, phase, force, arm))
+                RowLoad::Exerted(push_load(class, phase, train, force, arm))
             }
         },
         Source::Own | Source::Absent => {
@@ -99,9 +102,9 @@ pub(crate) fn load_of(row: Row, class: Class) -> RowLoad
             }
             // a row of no source: no job has one among its load rows
             if let Source::Absent = source {
-                return RowLoad::Exerted(push_load(class, phase, 0, 0));
+                return RowLoad::Exerted(push_load(class, phase, train, 0, 0));
             }
-            RowLoad::Exerted(own_load(class, phase, numbers))
+            RowLoad::Exerted(own_load(class, phase, train, numbers))
         }
     }
 }

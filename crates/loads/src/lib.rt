@@ -1,16 +1,20 @@
-// The loads of a job's load rows, or their refusal (document 01, refusals 11, 15 and 16 of a job; 02, P1, refusal 17).
+// The loads of a job's load rows, or their refusal (document 01, refusals 11, 15 and 16 of a job; 02, P1, refusal 17, and P3, refusal 18).
 //
-// Everything above sees loads and no rows. One loop asks each row once. The order of the refusals is over all the rows and by number, and
-// past the rows of the job there stands no load.
+// Everything above sees loads and no rows. One loop asks each row once, and another which row it names. The order of the refusals is over
+// all the rows and by number, and past the rows of the job there stands no load.
 mod forces;
 
 use forces::RowLoad;
+use kinds::Kind;
 use kinds::Row;
 use sets::Loads;
 ghost use mathlib.Core.Path.{_≡_};
 ghost use Prim.Native.Nat.{_≤_};
 ghost use lib.ListN.{take};
+ghost use Rattle.arithmetic.specs.decides.Decides.{Decides};
+ghost use Rattle.kinds.specs.declared.Kind.the-variants.{LL};
 ghost use Rattle.earth.specs.table2.Table2.{table2-fill};
+ghost use Rattle.loads.specs.LoadRows.{AllNamed};
 ghost use Rattle.loads.specs.Answer.{no-loads, LoadsAnswered};
 ghost use Rattle.loads.specs.steps.Asking.{row-count, Lower, AskedIs};
 
@@ -95,24 +99,62 @@ fn asked_of(rows: [Row; 16], n: usize) -> Asked
     }
 }
 
-// The loads of a job's load rows, which are the first `count` of `rows`, at most 16; or the lowest of the refusals 11, 15, 16 and 17.
+// Whether a kind is LL, a train.
+fn is_live(kind: Kind) -> bool
+    ensures { λ r. ⌜ Decides r (kind ≡ LL) ⌝ }
+{
+    if let Kind::LL = kind {
+        return true;
+    }
+    false
+}
+
+// Whether each of the first n rows that names a row names an LL row among them, before or behind it (02, P3, refusal 18).
+fn all_named(rows: [Row; 16], n: usize) -> bool
+    requires { ⌜ n ≤ 16 ⌝ }
+    ensures { λ r. ⌜ Decides r (AllNamed (take n rows)) ⌝ }
+{
+    let mut i: usize = 0;
+    while i < n {
+        let row = rows[i];
+        let train = kinds::train_of(row) as usize;
+        if n < train {
+            return false;
+        }
+        if 0 < train {
+            let named = rows[train - 1];
+            let kind = named.kind;
+            if !is_live(kind) {
+                return false;
+            }
+        }
+        i = i + 1;
+    }
+    true
+}
+
+// The loads of a job's load rows, which are the first `count` of `rows`, at most 16; or the lowest of the refusals 11 and 15 to 18.
 pub fn loads_of(rows: [Row; 16], count: usize) -> LoadsRead
     ensures { λ r. ⌜ LoadsAnswered table2-fill rows count r ⌝ }
 {
-    let asked = asked_of(rows, row_count(count));
+    let n = row_count(count);
+    let asked = asked_of(rows, n);
     let mut first = asked.first;
     if 12 < asked.optional {
         first = lower(first, 16);
     }
-    if first == 0 {
-        let loads = asked.loads;
+    if !all_named(rows, n) {
+        first = lower(first, 18);
+    }
+    if 0 < first {
         return LoadsRead {
-            answer: LoadsAnswer::Given,
-            loads,
+            answer: LoadsAnswer::Refused(first),
+            loads: no_loads(),
         };
     }
+    let loads = asked.loads;
     LoadsRead {
-        answer: LoadsAnswer::Refused(first),
-        loads: no_loads(),
+        answer: LoadsAnswer::Given,
+        loads,
     }
 }

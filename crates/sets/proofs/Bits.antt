@@ -1,8 +1,8 @@
 -- A set's bits as a loop reads them, by halving, and the bits of a set that has one row more.
-use mathlib.Core.Path.{_≡_, sym, _∙_, ap, subst}
-use Prim.Native.Nat.{ℕ, _+_, _*_, _-_, _/_, _%_, _^_, _≤_, _<_}
+use mathlib.Core.Path.{_≡_, refl, sym, _∙_, ap, subst}
+use Prim.Native.Nat.{ℕ, zero, suc, _+_, _*_, _-_, _/_, _%_, _^_, _≤_, _<_}
 use native.Mathlib.Omega.{arith}
-use native.Mathlib.Numerals.{add-one}
+use native.Mathlib.Numerals.{add-one, one-add}
 use native.Mathlib.Nat.{add-div-right, add-mod-right, div-lt-iff-lt-mul, div-eq-of-lt, le-antisymm, one-mul, pow-suc}
 use lib.Pow.{shr-shr, field, mod-mod-pow, pow-pos}
 use lib.Dec.{lit<}
@@ -36,6 +36,42 @@ no-rest s n i rest p q e z =
 pub no-bits-left : (s n i rest : ℕ) → i ≤ n → n ≤ i → rest ≡ s / 2 ^ i → s < 2 ^ n → rest ≡ 0
 no-bits-left s n i rest p q e h = let m : i ≡ n = le-antisymm p q in e ∙ rw m (div-eq-of-lt h)
 
+-- ---- by halving
+pub half-part : (s j : ℕ) → s / 2 ^ suc j ≡ s / 2 / 2 ^ j
+half-part s j = sym (shr-shr s 1 j ∙ ap (λ (x : ℕ). s / 2 ^ x) (one-add j))
+
+pub half-bit : (s j : ℕ) → bit s (suc j) ≡ bit (s / 2) j
+unfolding bit
+half-bit s j = ap (λ (x : ℕ). x % 2) (half-part s j)
+
+pub first-bit : (s : ℕ) → bit s 0 ≡ s % 2
+unfolding bit
+first-bit s = omega arith
+
+-- ---- one row more
+half-added : (s j : ℕ) → (s + 2 ^ suc j) / 2 ≡ s / 2 + 2 ^ j
+half-added s j = omega (arith, pow-suc 2 j)
+
+-- row j added to a set that has it not: its own bit, the others, and the set is one of as many rows
+pub added-own : (s j : ℕ) → bit s j ≡ 0 → bit (s + 2 ^ j) j ≡ 1
+unfolding bit
+added-own s j e = let d : (s + 2 ^ j) / 2 ^ j ≡ s / 2 ^ j + 1 = add-div-right s (pow-pos j) in omega (arith, e)
+
+pub added-others : (s i j : ℕ) → bit s j ≡ 0 → (i ≡ j → ⊥) → bit (s + 2 ^ j) i ≡ bit s i
+added-others s zero zero e n = absurd (n refl)
+added-others s zero (suc j) e n = first-bit (s + 2 ^ suc j) ∙ omega (arith, pow-suc 2 j) ∙ sym (first-bit s)
+added-others s (suc i) zero e n =
+    let same : (s + 1) / 2 ≡ s / 2 = omega (arith, e, first-bit s) in
+    half-bit (s + 1) i ∙ ap (λ (x : ℕ). bit x i) same ∙ sym (half-bit s i)
+added-others s (suc i) (suc j) e n =
+    half-bit (s + 2 ^ suc j) i ∙ ap (λ (x : ℕ). bit x i) (half-added s j) ∙ added-others (s / 2) i j (sym (half-bit s j) ∙ e) (λ d. n (ap suc d)) ∙ sym (half-bit s i)
+
+pub added-low : (s j n : ℕ) → j < n → s < 2 ^ n → bit s j ≡ 0 → s + 2 ^ j < 2 ^ n
+added-low s j zero l h e = absurd (omega arith)
+added-low s zero (suc n) l h e = omega (arith, e, first-bit s, pow-suc 2 n, pow-pos n)
+added-low s (suc j) (suc n) l h e =
+    omega (arith, pow-suc 2 n, pow-suc 2 j, added-low (s / 2) j n (omega arith) (omega (arith, pow-suc 2 n)) (sym (half-bit s j) ∙ e))
+
 -- a set of the rows below i has none of the others
 pub bit-above : (s i : ℕ) → s < 2 ^ i → bit s i ≡ 0
 unfolding bit
@@ -43,8 +79,7 @@ bit-above s i h = ap (λ (x : ℕ). x % 2) (div-eq-of-lt h)
 
 -- row i added to such a set: its own bit, and the bits below it
 pub bit-own : (s i : ℕ) → s < 2 ^ i → bit (s + 2 ^ i) i ≡ 1
-unfolding bit
-bit-own s i h = let e : (s + 2 ^ i) / 2 ^ i ≡ s / 2 ^ i + 1 = add-div-right s (pow-pos i) in omega (arith, div-eq-of-lt h)
+bit-own s i h = added-own s i (bit-above s i h)
 
 bit-low : (s i j : ℕ) → i < j → bit s i ≡ s % 2 ^ j / 2 ^ i % 2
 unfolding bit

@@ -9,11 +9,11 @@ use Rattle.sets.proofs.Occasions.{arises-erected}
 
 module _ (combination : Combination) (loads : Loads) (set : ℕ) where
   unfoldable pub Fit : Type 0
-  Fit = (set < 2 ^ loads .count) × ((i : ℕ) → i < loads .count → RowFits combination (row loads i) (bit set i))
+  Fit = (set < 2 ^ loads .count) × ((i : ℕ) → i < loads .count → RowFits combination (row loads i) set (bit set i))
 
   pub permitted-fits : Permitted combination loads set → Fit
   unfolding Fit
-  permitted-fits p = (p .within, λ i h. record { acting = p .acting i h; permanent = p .permanent i h })
+  permitted-fits p = (p .within, λ i h. record { acting = p .acting i h; permanent = p .permanent i h; trained = p .trained i h })
 
   pub fits-permitted : Fit → Arises combination loads → 0 < set → Mixed combination loads set → Permitted combination loads set
   unfolding Fit
@@ -24,5 +24,6 @@ module _ (combination : Combination) (loads : Loads) (set : ℕ) where
         permanent = λ i h. f .1 i h .permanent;
         acting = λ i h. f .1 i h .acting;
         mixed = mixed;
+        trained = λ i h. f .1 i h .trained;
         erection = arises-erected loads combination arises;
       }

@@ -1,3 +1,4 @@
 pub mod Sets
 pub mod Bounded
+pub mod Led
 pub mod steps

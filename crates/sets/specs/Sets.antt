@@ -1,8 +1,8 @@
--- Document 01, Load sets (002, 5.13): which sets of a job's load rows a combination permits.
+-- Document 01, Load sets (002, 5.13), and 02, P3: which sets of a job's load rows a combination permits.
 use mathlib.Core.Path.{_≡_}
 use mathlib.Core.Logic.{_⊎_}
 use mathlib.Core.Bool.{false}
-use Prim.Native.Nat.{ℕ, _/_, _%_, _^_, _<_}
+use Prim.Native.Nat.{ℕ, zero, suc, _/_, _%_, _^_, _<_}
 use lib.ListN.{getD}
 use Rattle.arithmetic.specs.declared.signed.Amount.{Amount}
 use Rattle.sets.specs.declared.Class.{Class}
@@ -21,7 +21,7 @@ abbrev pub no-amount : Amount
 no-amount = record { minus = false; size = 0 }
 
 abbrev pub no-load : Load
-no-load = record { class = Permanent; phase = 0; v = no-amount; x = no-amount; h = no-amount; twist = no-amount }
+no-load = record { class = Permanent; phase = 0; train = 0; v = no-amount; x = no-amount; h = no-amount; twist = no-amount }
 
 -- row i, from 0
 unfoldable pub row : Loads → ℕ → Load
@@ -53,6 +53,11 @@ Mixed II loads set = Has Wind loads set × (Has Earthquake loads set → ⊥)
 Mixed III loads set = (Has Wind loads set → ⊥) × Has Earthquake loads set
 Mixed IV loads set = Has Wind loads set → Has Earthquake loads set → ⊥
 
+-- the row at this position, from 1, is in the set; 0 names no row
+unfoldable pub HasTrain : ℕ → ℕ → Type 0
+HasTrain zero set = Unit {0}
+HasTrain (suc i) set = bit set i ≡ 1
+
 pub record Permitted (combination : Combination) (loads : Loads) (set : ℕ) : Type 0 where
   -- A set has at least one row,
   pub some : 0 < set
@@ -62,7 +67,9 @@ pub record Permitted (combination : Combination) (loads : Loads) (set : ℕ) : T
   pub permanent : (i : ℕ) → i < loads .count → (row loads i) .class ≡ Permanent → Acts combination ((row loads i) .phase) → bit set i ≡ 1
   -- any optional of those phases, and of no other,
   pub acting : (i : ℕ) → i < loads .count → bit set i ≡ 1 → Acts combination ((row loads i) .phase)
-  -- with WL and SF as the combination says.
+  -- with WL and SF as the combination says,
   pub mixed : Mixed combination loads set
+  -- and LF and CF with the LL row that they name: "a set that holds one without that LL row is no set" (02, P3).
+  pub trained : (i : ℕ) → i < loads .count → bit set i ≡ 1 → HasTrain ((row loads i) .train) set
   -- IV, only if some row has phase 1.
   pub erection : combination ≡ IV → Erected loads

@@ -1,11 +1,11 @@
-// Which phases a combination is over, and whether a row may stand in a set of it (document 01, Load sets; 002, 5.13).
+// Which phases a combination is over, and whether a row may stand in a set of it (document 01, Load sets; 02, P3; 002, 5.13).
 //
-// I, II and III are over phases 0 and 2, IV over 1 and 2. A permanent row that acts may not be left out, and a row that does not act may
-// not be in.
+// I, II and III are over phases 0 and 2, IV over 1 and 2. A permanent row that acts may not be left out, and a row that does not act, or
+// whose train is not there, may not be in.
 use crate::Class;
 use crate::Combination;
 use crate::Load;
-ghost use Prim.Native.Nat.{_<_};
+ghost use Prim.Native.Nat.{_≤_, _<_};
 ghost use Rattle.arithmetic.specs.decides.Decides.{Decides};
 ghost use Rattle.sets.specs.Sets.{Acts};
 ghost use Rattle.sets.specs.steps.Deciding.{RowFits};
@@ -22,10 +22,16 @@ pub fn acts(combination: Combination, phase: u32) -> bool
 }
 
 // Whether a row may stand in a set as its bit says.
-pub fn row_fits(combination: Combination, load: Load, held: u64) -> bool
+pub fn row_fits(combination: Combination, load: Load, set: u64, held: u64) -> bool
     requires { ⌜ held < 2 ⌝ }
-    ensures { λ r. ⌜ Decides r (RowFits combination load held) ⌝ }
+    requires { ⌜ load .train ≤ 16 ⌝ }
+    ensures { λ r. ⌜ Decides r (RowFits combination load set held) ⌝ }
 {
+    if held == 1 {
+        if !crate::trains::has_train(load.train, set) {
+            return false;
+        }
+    }
     let class = load.class;
     let acting = acts(combination, load.phase);
     match class {

@@ -1,4 +1,4 @@
-// Whether a combination permits a set of a job's load rows (document 01, Load sets; 002, 5.13).
+// Whether a combination permits a set of a job's load rows (document 01, Load sets; 02, P3; 002, 5.13).
 //
 // The decision for any one set, whatever its number, also one that names rows that the job has not: for whoever asks of a set, as a
 // reviewer does. The search for the worst set goes through the choices among the rows and does not ask it.
@@ -19,7 +19,7 @@ pub fn permitted(combination: Combination, loads: Loads, set: u64) -> bool
     let mut rest = set;
     while i < loads.count {
         let load = loads.loads[i];
-        fits = fits & sets::phases::row_fits(combination, load, rest % 2);
+        fits = fits & sets::phases::row_fits(combination, load, set, rest % 2);
         rest = rest / 2;
         i = i + 1;
     }

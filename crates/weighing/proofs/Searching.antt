@@ -36,6 +36,10 @@ module _ (s : Side) (P : ℕ → Type 0) (Shown : ℕ → Figure → Type 0) whe
   pub nothing-yet : {F : ℕ → Type 0} {b : RankedSet} → ((t : ℕ) → F t → ⊥) → Extends F b b
   nothing-yet none = record { from = inl refl; kept = le-refl _; first = λ t f. absurd (none t f) }
 
+  -- over fewer sets
+  pub smaller : {F H : ℕ → Type 0} {b r : RankedSet} → ((t : ℕ) → H t → F t) → Extends F b r → Extends H b r
+  smaller f e = record { from = e .from; kept = e .kept; first = λ t h. e .first t (f t h) }
+
   later : {c r : RankedSet} {t : ℕ} → weight-of r ≤ weight-of c → NotAfter c t → NotAfter r t
   later h w = record { rank = w .rank; ranks = w .ranks; weighs = le-trans h (w .weighs) }
 

@@ -3,12 +3,12 @@ use mathlib.Core.Path.{_≡_, refl, sym, _∙_, ap, ap₂, subst}
 use Prim.Native.Nat.{ℕ, zero, suc, _+_, _*_, _/_, _%_, _^_, _≤_, _<_}
 use native.Mathlib.Omega.{arith}
 use native.Mathlib.Nat.{pow-suc, lt-of-lt-of-le}
-use native.Mathlib.Numerals.{one-add}
 use native.Mathlib.Decide.{decLt, ℕ-discrete}
-use lib.Pow.{shr-shr, pow-mono}
+use lib.Pow.{pow-mono}
 use lib.Count.{trailingZeros, under}
 use Rattle.arithmetic.proofs.Cases.{by-cases}
 use Rattle.sets.specs.Sets.{bit}
+use Rattle.sets.proofs.Bits.{half-part, half-bit, first-bit}
 use Rattle.sums.specs.declared.Sums.{Sums}
 use Rattle.sums.specs.steps.Sums.{add, add-if}
 use Rattle.sums.proofs.Adding.{add-if-in, add-if-out}
@@ -17,24 +17,13 @@ use Rattle.worst.specs.steps.Order.{held-at, choice, changed, taken}
 use Rattle.worst.proofs.choices.Choices.{add-if-swap}
 
 -- ---- the parts of a number from a place on, by halving
-half-part : (k j : ℕ) → k / 2 ^ suc j ≡ k / 2 / 2 ^ j
-half-part k j = sym (shr-shr k 1 j ∙ ap (λ (x : ℕ). k / 2 ^ x) (one-add j))
-
 half-held : (k j : ℕ) → held-at k (suc j) ≡ held-at (k / 2) j
 unfolding held-at
 half-held k j = ap (λ (x : ℕ). (x + 1) / 2 % 2) (half-part k j)
 
-half-bit : (s j : ℕ) → bit s (suc j) ≡ bit (s / 2) j
-unfolding bit
-half-bit s j = ap (λ (x : ℕ). x % 2) (half-part s j)
-
 first-held : (k : ℕ) → held-at k 0 ≡ (k / 2 + k % 2) % 2
 unfolding held-at
 first-held k = let e : (k / 2 ^ 0 + 1) / 2 ≡ k / 2 + k % 2 = omega arith in ap (λ (x : ℕ). x % 2) e
-
-first-bit : (s : ℕ) → bit s 0 ≡ s % 2
-unfolding bit
-first-bit s = omega arith
 
 -- ---- even and odd
 by-half : {A : Type 0} (n : ℕ) → (n % 2 ≡ 0 → A) → (n % 2 ≡ 1 → A) → A

@@ -21,10 +21,12 @@ use Rattle.sums.proofs.carried.Carrying.{row-added, row-taken}
 use Rattle.worst.specs.declared.choices.Stance.{Stance}
 use Rattle.worst.specs.declared.choices.Stance.the-variants.{Choosable}
 use Rattle.worst.specs.declared.step_table.StepTable.{StepTable}
-use Rattle.worst.specs.steps.Stance.{choosable, pick, fixed, chosen, row-terms, stance-at}
+use Rattle.worst.specs.steps.Stance.{choosable, fixed, chosen, row-terms, stance-at}
 use Rattle.worst.specs.steps.Order.{choice, changed, taken}
 use Rattle.worst.specs.steps.Steps.{change-at, reached}
 use Rattle.worst.specs.steps.StepTable.{TableIs}
+use Rattle.worst.specs.declared.trains.Trains.{Trains}
+use Rattle.worst.specs.steps.Search.{count-of, set-of, carried-of}
 use Rattle.worst.proofs.choices.Choices.{choosable-room, Tabled, pick-sums, chosen-nothing}
 use Rattle.worst.proofs.step_table.Filling.{choosable-step, choosable-onto, terms-room}
 use Rattle.worst.proofs.Order.{choice-none, changed-low, taken-two, walk-added, walk-taken}
@@ -48,54 +50,50 @@ pub reached-more : (steps : List ℕ) (first : Carried) (k : ℕ) → reached st
 unfolding reached
 reached-more steps first k = rw add-one
 
--- ---- the set of step k
-unfoldable pub set-of : Combination → Loads → ℕ → ℕ
-set-of combination loads k = pick (stance-at combination loads) (loads .count) (choice (choosable (stance-at combination loads) (loads .count)) k)
-
 -- ---- a walk by the table of a combination
-module _ (combination : Combination) (width : ℕ) (loads : Loads) (table : StepTable) (f : TableIs combination width loads table) (wide : width ≤ 30000) (b : Bounded loads) where
+module _ (combination : Combination) (width : ℕ) (loads : Loads) (trains : Trains) (table : StepTable) (f : TableIs combination width loads trains table) (wide : width ≤ 30000) (b : Bounded loads) where
   abbrev count : ℕ
-  count = choosable (stance-at combination loads) (loads .count)
+  count = choosable (stance-at combination loads trains) (loads .count)
 
   rows : ℕ → Sums
-  rows = placed (stance-at combination loads) (row-terms width loads) (loads .count)
+  rows = placed (stance-at combination loads trains) (row-terms width loads) (loads .count)
 
   few : count ≤ 16
-  few = omega (arith, choosable-room (stance-at combination loads) (loads .count), b .count)
+  few = omega (arith, choosable-room (stance-at combination loads trains) (loads .count), b .count)
 
   -- the sums of step k
   sums-at : ℕ → Sums
-  sums-at k = chosen (fixed (stance-at combination loads) (row-terms width loads) (loads .count)) rows (choice count k) count
+  sums-at k = chosen (fixed (stance-at combination loads trains) (row-terms width loads) (loads .count)) rows (choice count k) count
 
-  sums-are : (k : ℕ) → sums-at k ≡ sums-of width loads (set-of combination loads k)
-  unfolding sums-at set-of sums-of Tabled rows
+  sums-are : (k : ℕ) → sums-at k ≡ sums-of width loads (set-of combination loads trains k)
+  unfolding sums-at set-of count-of sums-of Tabled rows
   sums-are k =
-      sym (pick-sums (stance-at combination loads) width loads rows (loads .count) (choice count k) (λ i h e. placed-own (stance-at combination loads) (row-terms width loads) (loads .count) i h e))
+      sym (pick-sums (stance-at combination loads trains) width loads rows (loads .count) (choice count k) (λ i h e. placed-own (stance-at combination loads trains) (row-terms width loads) (loads .count) i h e))
 
   sums-room : (k : ℕ) → Room 16 (sums-at k)
-  sums-room k = subst⁻¹ (Room 16) (sums-are k) (room-all width loads (set-of combination loads k) wide b)
+  sums-room k = subst⁻¹ (Room 16) (sums-are k) (room-all width loads (set-of combination loads trains k) wide b)
 
   -- every place below the count is that of a choosable row
   module _ (j : ℕ) (h : j < count) where
-    held : (i : ℕ) × (i < loads .count) × (stance-at combination loads i ≡ Choosable) × (choosable (stance-at combination loads) i ≡ j)
-    held = choosable-onto (stance-at combination loads) (loads .count) j h
+    held : (i : ℕ) × (i < loads .count) × (stance-at combination loads trains i ≡ Choosable) × (choosable (stance-at combination loads trains) i ≡ j)
+    held = choosable-onto (stance-at combination loads trains) (loads .count) j h
 
     row-is : rows j ≡ row-terms width loads (held .0)
     unfolding rows
     row-is =
-        ap (placed (stance-at combination loads) (row-terms width loads) (loads .count)) (sym (held .3)) ∙ placed-own (stance-at combination loads) (row-terms width loads) (loads .count) (held .0) (held .1) (held .2)
+        ap (placed (stance-at combination loads trains) (row-terms width loads) (loads .count)) (sym (held .3)) ∙ placed-own (stance-at combination loads trains) (row-terms width loads) (loads .count) (held .0) (held .1) (held .2)
 
     row-room : Room 16 (rows j)
-    row-room = subst⁻¹ (Room 16) row-is (room-more (omega arith) (terms-room combination width loads wide b (held .0) (held .1)))
+    row-room = subst⁻¹ (Room 16) row-is (room-more (omega arith) (terms-room combination width loads trains wide b (held .0) (held .1)))
 
     entry-added : change-at (table .steps) (2 * j + 0) ≡ shift-of (rows j) no-sums
     entry-added =
-        let e : 2 * j + 0 ≡ 2 * choosable (stance-at combination loads) (held .0) = omega (arith, held .3) in
+        let e : 2 * j + 0 ≡ 2 * choosable (stance-at combination loads trains) (held .0) = omega (arith, held .3) in
         ap (change-at (table .steps)) e ∙ f .added (held .0) (held .1) (held .2) ∙ ap (λ (s : Sums). shift-of s no-sums) (sym row-is)
 
     entry-taken : change-at (table .steps) (2 * j + 1) ≡ shift-of no-sums (rows j)
     entry-taken =
-        let e : 2 * j + 1 ≡ 2 * choosable (stance-at combination loads) (held .0) + 1 = omega (arith, held .3) in
+        let e : 2 * j + 1 ≡ 2 * choosable (stance-at combination loads trains) (held .0) + 1 = omega (arith, held .3) in
         ap (change-at (table .steps)) e ∙ f .taken (held .0) (held .1) (held .2) ∙ ap (shift-of no-sums) (sym row-is)
 
   -- one step on
@@ -119,10 +117,11 @@ module _ (combination : Combination) (width : ℕ) (loads : Loads) (table : Step
   carried-at zero h =
       f .first
       ∙ ap (λ (s : Sums). shift-of s no-sums)
-      (sym (ap (λ (c : ℕ). chosen (fixed (stance-at combination loads) (row-terms width loads) (loads .count)) rows c count) (choice-none count) ∙ chosen-nothing _ rows count))
+      (sym (ap (λ (c : ℕ). chosen (fixed (stance-at combination loads trains) (row-terms width loads) (loads .count)) rows c count) (choice-none count) ∙ chosen-nothing _ rows count))
   carried-at (suc k) h =
       subst (λ (n : ℕ). moved (reached (table .steps) (table .first) k) (change-at (table .steps) (2 * changed n + taken n)) ≡ shift-of (sums-at n) no-sums) (add-one k)
       (ap (λ (c : Carried). moved c (change-at (table .steps) (2 * changed (k + 1) + taken (k + 1)))) (carried-at k (omega arith)) ∙ stepped k (omega arith) (taken (k + 1)) (taken-two (k + 1)) refl)
 
-  pub carried-is : (k : ℕ) → k < 2 ^ count → reached (table .steps) (table .first) k ≡ shift-of (sums-of width loads (set-of combination loads k)) no-sums
+  pub carried-is : (k : ℕ) → k < 2 ^ count → reached (table .steps) (table .first) k ≡ carried-of combination width loads trains k
+  unfolding carried-of
   carried-is k h = carried-at k h ∙ ap (λ (s : Sums). shift-of s no-sums) (sums-are k)

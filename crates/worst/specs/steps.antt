@@ -1,4 +1,5 @@
 pub mod Stance
+pub mod Trains
 pub mod Order
 pub mod Steps
 pub mod StepTable

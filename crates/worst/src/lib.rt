@@ -1,10 +1,12 @@
-// The worst permitted set of a combination for each check, and the line that names it (document 01, Load sets).
+// The worst permitted set of a combination for each check, and the line that names it (document 01, Load sets; 02, P3).
 //
-// One walk goes through the choices of the combination's choosable rows. Neighbours differ by one row, and the sums are carried from one to
-// the next; what is plainly no worse is passed over, and the rest is weighed in all checks at once. What is hard is that the promise of
-// the walk names no order: it is only that no permitted set comes before the one that is named.
+// One walk goes through the ways in which trains may be there or not, and beside each through the choices of the rows that are left to choose.
+// Neighbours differ by one row, and the sums are carried from one to the next; what is plainly no worse is passed over, and the rest is weighed
+// in all checks at once. What is hard is that the promise of the walk names no order: it is only that no permitted set comes before the one that
+// is named.
 mod choices;
 mod step_table;
+mod trains;
 
 use checks::Base;
 use checks::Check;
@@ -14,6 +16,7 @@ use lines::Lines;
 use sets::Combination;
 use sets::Loads;
 use sums::carried::Carried;
+use trains::Trains;
 use weighing::Worst;
 use weighing::bounds::Bounds;
 use weighing::ranked::RankedSet;
@@ -21,12 +24,14 @@ ghost use mathlib.Core.Path.{_≡_};
 ghost use Prim.Native.Nat.{_≤_};
 ghost use Rattle.sets.specs.declared.Loads.{Loads};
 ghost use Rattle.sets.specs.Bounded.{Bounded};
+ghost use Rattle.sets.specs.Led.{Led};
 ghost use Rattle.sets.specs.steps.Deciding.{Arises};
 ghost use Rattle.checks.specs.Sized.{Sized};
 ghost use Rattle.checks.specs.steps.HasCheck.{HasCheck};
 ghost use Rattle.worst.specs.Lines.{LineSays, line};
 ghost use Rattle.weighing.specs.steps.Bounds.{Fitting};
-ghost use Rattle.worst.specs.steps.Search.{FoundWorst, Walked};
+ghost use Rattle.weighing.specs.steps.Weighs.{Low, Words};
+ghost use Rattle.worst.specs.steps.Search.{FoundWorst, Walked, WalkedChoices};
 ghost use Rattle.worst.specs.steps.Steps.{Ahead, Passed};
 
 // Where a walk stands: the step that it has reached, and the sums of the choice there.
@@ -58,29 +63,28 @@ fn pass_over(steps: &[u64; 256], last: u64, width: u64, bounds: Bounds, from: St
     Standing { step: k, carried }
 }
 
-// The worst of all choices: every permitted set of the combination is one of them. A choice within the bounds of the worst so far is
-// passed over, and the others are weighed.
-fn walk(combination: Combination, base: Base, loads: Loads) -> Worst
+// The worst so far with all choices beside these trains. A choice within the bounds of the worst so far is passed over, and the others are
+// weighed.
+fn walk_choices(
+    combination: Combination,
+    serves: bool,
+    base: Base,
+    loads: Loads,
+    trains: Trains,
+    before: Worst,
+) -> Worst
     requires { ⌜ Sized base ⌝ }
     requires { ⌜ Bounded loads ⌝ }
-    requires { ⌜ Arises combination loads ⌝ }
-    ensures { λ r. ⌜ Walked combination base loads r ⌝ }
+    requires { ⌜ Low before ⌝ }
+    requires { ⌜ Words before ⌝ }
+    ensures { λ r. ⌜ WalkedChoices combination serves base loads trains before r ⌝ }
 {
-    let serves = checks::service::serves(combination);
     let width = base.width;
-    let table = step_table::table_of(combination, width, loads);
+    let table = step_table::table_of(combination, width, loads, trains);
     let steps = table.steps;
     let first = table.first;
     let last = table.last;
-    let none = RankedSet { rank: TOP, set: 0 };
-    let unweighed = Worst {
-        op: none,
-        om: none,
-        sl: none,
-        pr: none,
-        rk: none,
-    };
-    let mut worst = weighing::visit(combination, serves, base, first, unweighed);
+    let mut worst = weighing::visit(combination, serves, base, first, before);
     let mut standing = Standing {
         step: 0,
         carried: first,
@@ -89,6 +93,37 @@ fn walk(combination: Combination, base: Base, loads: Loads) -> Worst
         let bounds = weighing::bounds::bounds_of(serves, base, worst);
         standing = pass_over(&steps, last, width, bounds, standing);
         worst = weighing::visit(combination, serves, base, standing.carried, worst);
+    }
+    worst
+}
+
+// The worst of all choices beside all trains: every permitted set of the combination is one of them.
+fn walk(combination: Combination, base: Base, loads: Loads) -> Worst
+    requires { ⌜ Sized base ⌝ }
+    requires { ⌜ Bounded loads ⌝ }
+    requires { ⌜ Led loads ⌝ }
+    requires { ⌜ Arises combination loads ⌝ }
+    ensures { λ r. ⌜ Walked combination base loads r ⌝ }
+{
+    let serves = checks::service::serves(combination);
+    let leaders = trains::leaders_of(combination, loads);
+    let ways = trains::ways_of(leaders);
+    let none = RankedSet { rank: TOP, set: 0 };
+    let mut worst = Worst {
+        op: none,
+        om: none,
+        sl: none,
+        pr: none,
+        rk: none,
+    };
+    let mut way: u64 = 0;
+    while way < ways {
+        let trains = Trains {
+            leaders,
+            present: trains::present_in(leaders, way),
+        };
+        worst = walk_choices(combination, serves, base, loads, trains, worst);
+        way = way + 1;
     }
     worst
 }
@@ -119,6 +154,7 @@ fn line_at(combination: Combination, check: Check, base: Base, found: RankedSet)
 pub fn worst_lines(combination: Combination, base: Base, loads: Loads) -> Lines
     requires { ⌜ Sized base ⌝ }
     requires { ⌜ Bounded loads ⌝ }
+    requires { ⌜ Led loads ⌝ }
     ensures { λ r. ⌜ ((check : Check) → LineSays combination check base loads (line check r)) ⌝ }
 {
     if !sets::arising::arises(combination, loads) {

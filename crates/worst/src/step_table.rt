@@ -1,9 +1,10 @@
-// The table of a combination's steps (document 01, Load sets): what adding a choosable row does to the sums of a set, and behind it what
+// The table of a combination's steps (document 01, Load sets; 02, P3): what adding a choosable row does to the sums of a set, and behind it what
 // taking it away does, 8 numbers each and at most 16 rows, so 256 numbers; and the sums of the rows in every set of it.
 //
 // A walk goes from choice to choice by one row at a time, so what leads to the next lies ready in one lent array. A choosable row's number is
 // that of the choosable rows before it, by which a choice holds it; its entries stand at twice that number and next to it.
 use crate::choices::Stance;
+use crate::trains::Trains;
 use sets::Combination;
 use sets::Loads;
 use sums::Balance;
@@ -70,11 +71,16 @@ pub(crate) fn change_at(steps: &[u64; 256], place: usize) -> Carried
     }
 }
 
-// The table of a combination.
-pub(crate) fn table_of(combination: Combination, width: u64, loads: Loads) -> StepTable
+// The table of a combination beside these trains.
+pub(crate) fn table_of(
+    combination: Combination,
+    width: u64,
+    loads: Loads,
+    trains: Trains,
+) -> StepTable
     requires { ⌜ width ≤ 30000 ⌝ }
     requires { ⌜ Bounded loads ⌝ }
-    ensures { λ r. ⌜ TableIs combination width loads r ⌝ }
+    ensures { λ r. ⌜ TableIs combination width loads trains r ⌝ }
 {
     let count = loads.count;
     let none = sums::no_sums();
@@ -86,7 +92,8 @@ pub(crate) fn table_of(combination: Combination, width: u64, loads: Loads) -> St
     let mut i: usize = 0;
     while i < count {
         let load = loads.loads[i];
-        let stance = crate::choices::stance_of(combination, load);
+        let alone = crate::choices::stance_of(combination, load);
+        let stance = crate::choices::stance_beside(trains, i, load.train, alone);
         let sums = sums::row_terms::terms_of(width, load, place);
         match stance {
             Stance::Never => {}

@@ -1,5 +1,5 @@
 -- Refusal 11 of the B row comes first, and `told-first` orders the rest. Where it leaves the river's lines the loads are given,
--- and their bounds and the base's are what `whole` asks.
+-- and their bounds, their trains and the base's bounds are what `whole` asks.
 use mathlib.Core.Path.{sym, ap, subst, _∙_}
 use borrow.Author.Tests.{not-true, not-false}
 use Rattle.arithmetic.proofs.Deciding.{decided, refuted}
@@ -7,7 +7,7 @@ use Rattle.earth.specs.table2.Table2.{table2-fill}
 use Rattle.earth.proofs.table2.Marks.{table2-small}
 use Rattle.checks.specs.Sized.{Sized}
 use Rattle.checks.specs.declared.Base.{Base}
-use Rattle.loads.proofs.Answering.{given-bounded}
+use Rattle.loads.proofs.Answering.{given-bounded, given-led}
 use Rattle.kinds.specs.ranges.Range.{Ranged}
 use Rattle.kinds.specs.declared.Kind.the-variants.{B}
 use Rattle.answer.specs.river.steps.Says.{RiverSays}
@@ -66,7 +66,10 @@ whole-requires c κs =
     let job = at-base at-river .before .before .before .args .job in
     let given = first-given (loads .loads-of .result .answer) _ (sym (at-first .first-told .ensures) ∙ c .before .depth .given .1) in (
       subst (λ (b : Base). Sized b) (sym (at-base at-river .base-at .ensures)) (sized (job .base) (ranged at-river)),
-      given-bounded table2-fill table2-small (job .loads) (job .count) (loads .loads-of .result) (loads .loads-of .ensures) (given .0),
+      (
+        given-bounded table2-fill table2-small (job .loads) (job .count) (loads .loads-of .result) (loads .loads-of .ensures) (given .0),
+        given-led table2-fill (job .loads) (job .count) (loads .loads-of .result) (loads .loads-of .ensures) (given .0),
+      ),
     )
 
 returns-2 : tie.Need-returns-2

@@ -1,4 +1,4 @@
--- Document 01, The printed answer: the figures of OP and OM in the whole example, as theorems about the definitions. Each is a computed test. (The
+-- Document 01, The printed answer, and 02, P3: the figures of OP and OM in the whole example, as theorems about the definitions. Each is a computed test. (The
 -- starred figures are a list of their own, in the crate `figures`.)
 use mathlib.Core.Path.{refl}
 use mathlib.Core.Bool.{false}
@@ -24,21 +24,22 @@ plain n = record { minus = false; size = n }
 pub base : Base
 base = record { width = 4000; length = 8000; allowable = 300; friction = 600; rock = false }
 
--- the two rows of the example
-pub two : Loads
+-- the three rows of the example, which comes with its train since P3: the last names the second
+pub three : Loads
 unfolding plain
-two =
+three =
     record {
-      count = 2;
-      loads = record { class = Permanent; phase = 0; v = plain 6000; x = plain 0; h = plain 0; twist = plain 0 }
-          ∷ record { class = Free; phase = 0; v = plain 0; x = plain 0; h = plain 300; twist = plain 1800000 } ∷ [];
+      count = 3;
+      loads = record { class = Permanent; phase = 0; train = 0; v = plain 6000; x = plain 0; h = plain 0; twist = plain 0 }
+          ∷ record { class = Free; phase = 0; train = 0; v = plain 0; x = plain 0; h = plain 0; twist = plain 0 }
+          ∷ record { class = Free; phase = 0; train = 2; v = plain 0; x = plain 0; h = plain 300; twist = plain 1800000 } ∷ [];
     }
 
 tips : (r o v : ℕ) → T (ltb 0 o) → T (is-down (100 * r) o v) → Tips r o (Number v)
 unfolding Tips
 tips r o v p q = (lit< p, down-test (100 * r) o v q)
 
--- set 3 is both rows, and set 1 the first
-pub tipping : Shows OP base two 3 (Number 666) × Shows OM base two 1 Nothing
-unfolding base two plain Shows Tips resisting overturning resists overturns sum counted v-moment arm h-moment bit row worth signed above below
+-- set 7 is all rows, and set 1 the first
+pub tipping : Shows OP base three 7 (Number 666) × Shows OM base three 1 Nothing
+unfolding base three plain Shows Tips resisting overturning resists overturns sum counted v-moment arm h-moment bit row worth signed above below
 tipping = (tips 24000000 3600000 666 tt tt, refl)

@@ -1,8 +1,10 @@
--- B, S, C, E and W have columns of their own. The eleven kinds of the table's last line share theirs, which `kind-arm` shows of their list.
+-- B, S, C, E and W have columns of their own. LF and CF share theirs, and so do the nine other kinds of the table's last line, which `kind-arm` shows of
+-- their lists.
 use mathlib.Core.Path.{refl, sym, ap}
 use mathlib.Core.List.{[], _∷_}
 use borrow.Author.Needs.{needs}
 use Rattle.kinds.specs.Table.{columns, load-columns}
+use Rattle.kinds.specs.declared.Column.the-variants.{Empty, Filled}
 use Rattle.kinds.specs.declared.Kind.the-variants.{DL, EP, LL, LF, CF, WC, BU, TM, EX, WL, SF}
 use Rattle.kinds.proofs.Arms.{kind-arm}
 use Rattle.kinds.proofs.columns_of.Statement.{statement}
@@ -39,7 +41,10 @@ returns-5 : tie.Need-returns-5
 returns-5 c = sym (ap columns (c .enum-told5 .given .1))
 
 returns-6 : tie.Need-returns-6
-returns-6 c = kind-arm columns load-columns (DL ∷ EP ∷ LL ∷ LF ∷ CF ∷ WC ∷ BU ∷ TM ∷ EX ∷ WL ∷ SF ∷ []) (c .before .args .kind) refl (c .match .keys6)
+returns-6 c = kind-arm columns (load-columns (Filled 1 16)) (LF ∷ CF ∷ []) (c .before .args .kind) refl (c .match .keys6)
+
+returns-7 : tie.Need-returns-7
+returns-7 c = kind-arm columns (load-columns Empty) (DL ∷ EP ∷ LL ∷ WC ∷ BU ∷ TM ∷ EX ∷ WL ∷ SF ∷ []) (c .before .args .kind) refl (c .match .keys7)
 
 pub columns-of-spec : {M : Type 1} → statement M
-columns-of-spec = tie.close (tie.spec enum-told enum-told-2 enum-told-3 enum-told-4 enum-told-5 returns returns-2 returns-3 returns-4 returns-5 returns-6)
+columns-of-spec = tie.close (tie.spec enum-told enum-told-2 enum-told-3 enum-told-4 enum-told-5 returns returns-2 returns-3 returns-4 returns-5 returns-6 returns-7)

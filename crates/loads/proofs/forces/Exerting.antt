@@ -12,8 +12,8 @@ use Rattle.kinds.specs.declared.Kind.{Kind}
 use Rattle.kinds.specs.declared.Kind.the-variants.{B, S, C, E, W, DL, EP, LL, LF, CF, WC, BU, TM, EX, WL, SF}
 use Rattle.kinds.specs.declared.Numbers.{Numbers}
 use Rattle.kinds.specs.declared.Row.{Row}
-use Rattle.kinds.specs.Table.{columns, load-columns, phase}
-use Rattle.kinds.specs.declared.Columns.{Columns}
+use Rattle.kinds.specs.Table.{load-columns, phase, train}
+use Rattle.kinds.specs.declared.Column.the-variants.{Empty, Filled}
 use Rattle.kinds.specs.ranges.Range.{Around, InColumns, Ranged, value}
 use Rattle.earth.specs.declared.table2.Coefficient.{Coefficient}
 use Rattle.earth.specs.steps.LowCoefficient.{LowCoefficient}
@@ -34,6 +34,7 @@ use Rattle.sets.specs.Bounded.{BoundedLoad}
 use Rattle.kinds.specs.declared.classes.Source.{Source}
 use Rattle.kinds.specs.declared.classes.Source.the-variants.{Absent, Earth, Current, Own}
 use Rattle.kinds.specs.classes.Classes.{class-of, source}
+use Rattle.kinds.proofs.Trains.{train-low}
 use Rattle.kinds.proofs.classes.Sources.{current-earth, earth-current}
 use Rattle.loads.specs.forces.Blank.{BlankThere}
 use Rattle.loads.specs.forces.Wetted.{UpperBelowLower}
@@ -48,7 +49,11 @@ abbrev OfSource : Source → Kind → Type 0
 OfSource Absent k = Unit {0}
 OfSource Earth k = k ≡ E
 OfSource Current k = k ≡ W
-OfSource Own k = columns k ≡ load-columns
+OfSource Own k = (n : Numbers) → Ranged k n → InColumns (load-columns Empty) n
+
+-- where a row with a train is in range, so is the row without it
+without-train : (n : Numbers) → InColumns (load-columns (Filled 1 16)) n → InColumns (load-columns Empty) n
+without-train n r = record { n1 = r .n1; n2 = r .n2; n3 = r .n3; n4 = r .n4; n5 = r .n5; n6 = tt }
 
 of-source : (k : Kind) → OfSource (source k) k
 unfolding source
@@ -57,23 +62,23 @@ of-source S = tt
 of-source C = tt
 of-source E = refl
 of-source W = refl
-of-source DL = refl
-of-source EP = refl
-of-source LL = refl
-of-source LF = refl
-of-source CF = refl
-of-source WC = refl
-of-source BU = refl
-of-source TM = refl
-of-source EX = refl
-of-source WL = refl
-of-source SF = refl
+of-source DL = λ n r. r
+of-source EP = λ n r. r
+of-source LL = λ n r. r
+of-source LF = without-train
+of-source CF = without-train
+of-source WC = λ n r. r
+of-source BU = λ n r. r
+of-source TM = λ n r. r
+of-source EX = λ n r. r
+of-source WL = λ n r. r
+of-source SF = λ n r. r
 
 kind-by : (k : Kind) (s : Source) → source k ≡ s → OfSource s k
 kind-by k s e = subst (λ (x : Source). OfSource x k) e (of-source k)
 
-pub own-columns : (k : Kind) (n : Numbers) → source k ≡ Own → Ranged k n → InColumns load-columns n
-own-columns k n e = subst (λ (c : Columns). InColumns c n) (kind-by k Own e)
+pub own-columns : (k : Kind) (n : Numbers) → source k ≡ Own → Ranged k n → InColumns (load-columns Empty) n
+own-columns k n e = kind-by k Own e n
 
 pub around-size : (a : ℕ) (e : Entry) → Around a a e → e .size ≤ a
 around-size a e h = go (e .minus) refl
@@ -109,7 +114,7 @@ current-else (currents.in-range r s) n = (r, s)
 
 module _ (fill : ℕ → ℕ → Coefficient) (row : Row) where
   unfoldable pub Kept : Load → Type 0
-  Kept load = (load .class ≡ class-of (row .kind)) × (load .phase ≡ phase (row .kind) (row .numbers))
+  Kept load = (load .class ≡ class-of (row .kind)) × (load .phase ≡ phase (row .kind) (row .numbers)) × (load .train ≡ train (row .kind) (row .numbers))
 
   -- 11 is the lowest of a row's numbers
   pub told-out : (Ranged (row .kind) (row .numbers) → ⊥) → LoadOf fill row (RowLoad.Refused 11)
@@ -146,7 +151,7 @@ module _ (fill : ℕ → ℕ → Coefficient) (row : Row) where
     pub earth-told-push : {H y : ℕ} (load : Load) → Pressed fill (row .numbers) (push H y) → Kept load → PushLoad H y load → LoadOf fill row (RowLoad.Exerted load)
     unfolding LoadOf BlankThere UpperBelowLower Kept Forces
     earth-told-push {H} {y} load p k f =
-        (none, record { class = k .0; phase = k .1; forces = subst⁻¹ (λ (s : Source). Forces fill s (row .numbers) load) is-earth (record { H = H; y = y; pressed = q .1; exerts = f }) })
+        (none, record { class = k .0; phase = k .1; train = k .2; forces = subst⁻¹ (λ (s : Source). Forces fill s (row .numbers) load) is-earth (record { H = H; y = y; pressed = q .1; exerts = f }) })
       where
         q : Ranged E (row .numbers) × Pushed fill (backfill-of (row .numbers)) (push H y)
         q = earth-else p (λ e. impossible cc)
@@ -181,7 +186,7 @@ module _ (fill : ℕ → ℕ → Coefficient) (row : Row) where
     pub current-told-push : {H y : ℕ} (load : Load) → currents.CurrentSays (row .numbers) (current.push H y) → Kept load → PushLoad H y load → LoadOf fill row (RowLoad.Exerted load)
     unfolding LoadOf BlankThere UpperBelowLower Kept Forces
     current-told-push {H} {y} load p k f =
-        (none, record { class = k .0; phase = k .1; forces = subst⁻¹ (λ (s : Source). Forces fill s (row .numbers) load) is-current (record { H = H; y = y; rule = q .1; exerts = f }) })
+        (none, record { class = k .0; phase = k .1; train = k .2; forces = subst⁻¹ (λ (s : Source). Forces fill s (row .numbers) load) is-current (record { H = H; y = y; rule = q .1; exerts = f }) })
       where
         q : Ranged W (row .numbers) × current.CurrentRule (current.shaft-of (row .numbers)) (current.push H y)
         q = current-else p (λ e. impossible cc)
@@ -194,7 +199,7 @@ module _ (fill : ℕ → ℕ → Coefficient) (row : Row) where
   module _ {s : Source} (is : source (row .kind) ≡ s) (not-earth : s ≡ Earth → ⊥) (not-current : s ≡ Current → ⊥) (r : Ranged (row .kind) (row .numbers)) where
     pub told-load : (load : Load) → Kept load → Forces fill s (row .numbers) load → LoadOf fill row (RowLoad.Exerted load)
     unfolding LoadOf BlankThere UpperBelowLower Kept
-    told-load load k f = (none, record { class = k .0; phase = k .1; forces = subst⁻¹ (λ (x : Source). Forces fill x (row .numbers) load) is f })
+    told-load load k f = (none, record { class = k .0; phase = k .1; train = k .2; forces = subst⁻¹ (λ (x : Source). Forces fill x (row .numbers) load) is f })
       where
         none : (n : ℕ) → rows.RowWhen fill row n → ⊥
         none n (rows.out-of-range x) = x r
@@ -202,18 +207,19 @@ module _ (fill : ℕ → ℕ → Coefficient) (row : Row) where
         none n (rows.upper-below-lower x) = not-current (sym is ∙ x .0)
 
 -- ---- how large a load is
-push-bounded : {H y : ℕ} {load : Load} → H ≤ 300000 → H * y ≤ 3000000000 → PushLoad H y load → BoundedLoad load
+push-bounded : {H y : ℕ} {load : Load} → load .train ≤ 16 → H ≤ 300000 → H * y ≤ 3000000000 → PushLoad H y load → BoundedLoad load
 unfolding amount
-push-bounded {H} {y} p q f =
+push-bounded {H} {y} t p q f =
     record {
       v = subst (λ (a : Amount). a .size ≤ 50000) (sym (f .v)) (lit≤ tt);
       x = subst (λ (a : Amount). a .size ≤ 32000) (sym (f .x)) (lit≤ tt);
       h = subst (λ (a : Amount). a .size ≤ 300000) (sym (f .h)) p;
       twist = subst (λ (a : Amount). a .size ≤ 3000000000) (sym (f .twist)) q;
+      train = t;
     }
 
-own-bounded : {n : Numbers} {load : Load} → InColumns load-columns n → OwnForces n load → BoundedLoad load
-own-bounded {n} r f =
+own-bounded : {n : Numbers} {load : Load} → load .train ≤ 16 → InColumns (load-columns Empty) n → OwnForces n load → BoundedLoad load
+own-bounded {n} t r f =
     let h = around-size 50000 (n .n3) (r .n3) in
     record {
       v = subst (λ (a : Amount). a .size ≤ 50000) (sym (f .v)) (rw (amount-size (value (n .n1)), value-size (n .n1)) (around-size 50000 (n .n1) (r .n1)));
@@ -221,6 +227,7 @@ own-bounded {n} r f =
       h = subst (λ (a : Amount). a .size ≤ 300000) (sym (f .h)) (rw (amount-size (value (n .n3)), value-size (n .n3)) (le-trans h (lit≤ tt)));
       twist = subst (λ (a : Amount). a .size ≤ 3000000000) (sym (f .twist))
           (rw (amount-size (value (n .n3) *ℤ value (n .n4)), product-size (value (n .n3)) (value (n .n4)), value-size (n .n3), value-size (n .n4)) (mul-le-mul h (r .n4 .to)));
+      train = t;
     }
 
 -- What a row in range exerts is bounded, whatever coefficients up to 40,000 are held.
@@ -228,12 +235,15 @@ pub exerts-bounded : (fill : ℕ → ℕ → Coefficient) → ((soil slope : ℕ
 unfolding Forces
 exerts-bounded fill small row load r e = go (source (row .kind)) refl (e .forces)
   where
+    low : load .train ≤ 16
+    low = subst⁻¹ (λ (t : ℕ). t ≤ 16) (e .train) (train-low (row .kind) (row .numbers) r)
+
     go : (s : Source) → source (row .kind) ≡ s → Forces fill s (row .numbers) load → BoundedLoad load
-    go Absent d f = push-bounded (lit≤ tt) (lit≤ tt) f
-    go Earth d f = let m = pressed-modest small (in-range (earth-range fill row d r) (f .pressed)) in push-bounded (m .thrust) (m .moment) (f .exerts)
-    go Current d f = let m = push-mild (current-range fill row d r) (f .rule) in push-bounded (le-trans (m .force) (lit≤ tt)) (m .moment) (f .exerts)
-    go Own d f = own-bounded (own-columns (row .kind) (row .numbers) d r) f
+    go Absent d f = push-bounded low (lit≤ tt) (lit≤ tt) f
+    go Earth d f = let m = pressed-modest small (in-range (earth-range fill row d r) (f .pressed)) in push-bounded low (m .thrust) (m .moment) (f .exerts)
+    go Current d f = let m = push-mild (current-range fill row d r) (f .rule) in push-bounded low (le-trans (m .force) (lit≤ tt)) (m .moment) (f .exerts)
+    go Own d f = own-bounded low (own-columns (row .kind) (row .numbers) d r) f
 
 -- loads are the same if their parts are
-pub same-load : {a b : Load} → a .class ≡ b .class → a .phase ≡ b .phase → a .v ≡ b .v → a .x ≡ b .x → a .h ≡ b .h → a .twist ≡ b .twist → a ≡ b
-same-load p q r s t u = λ i. record { class = p i; phase = q i; v = r i; x = s i; h = t i; twist = u i }
+pub same-load : {a b : Load} → a .class ≡ b .class → a .phase ≡ b .phase → a .train ≡ b .train → a .v ≡ b .v → a .x ≡ b .x → a .h ≡ b .h → a .twist ≡ b .twist → a ≡ b
+same-load p q r s t u w = λ i. record { class = p i; phase = q i; train = r i; v = s i; x = t i; h = u i; twist = w i }

@@ -1,10 +1,10 @@
--- What a load row exerts (document 01, the job book, Earth pressure and Load sets; 02, P1). `fill` is what is held for a soil and a slope: today Table 2.
+-- What a load row exerts (document 01, the job book, Earth pressure and Load sets; 02, P1 and P3). `fill` is what is held for a soil and a slope: today Table 2.
 use mathlib.Core.Path.{_≡_}
 use Prim.Native.Nat.{ℕ, _*_}
 use lib.IntN.{pos, _*ℤ_}
 use Rattle.kinds.specs.declared.Numbers.{Numbers}
 use Rattle.kinds.specs.declared.Row.{Row}
-use Rattle.kinds.specs.Table.{phase}
+use Rattle.kinds.specs.Table.{phase, train}
 use Rattle.kinds.specs.ranges.Range.{value}
 use Rattle.earth.specs.declared.table2.Coefficient.{Coefficient}
 use Rattle.earth.specs.Earth.{push, backfill-of, Pushed}
@@ -55,8 +55,9 @@ Forces fill Earth numbers load = EarthForces fill numbers load
 Forces fill Current numbers load = CurrentForces numbers load
 Forces fill Own numbers load = OwnForces numbers load
 
--- the load of a row: its class, its phase and its forces
+-- the load of a row: its class, its phase, its train and its forces
 pub record Exerts (fill : ℕ → ℕ → Coefficient) (row : Row) (load : Load) : Type 0 where
   pub class : load .class ≡ class-of (row .kind)
   pub phase : load .phase ≡ phase (row .kind) (row .numbers)
+  pub train : load .train ≡ train (row .kind) (row .numbers)
   pub forces : Forces fill (source (row .kind)) (row .numbers) load

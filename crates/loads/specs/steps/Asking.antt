@@ -8,7 +8,7 @@ use Prim.Native.Nat.{ℕ, _≤_, _<_}
 use lib.Dec.{ltb}
 use Rattle.kinds.specs.declared.Row.{Row}
 use Rattle.earth.specs.declared.table2.Coefficient.{Coefficient}
-use Rattle.loads.specs.LoadRows.{Every, optionals, AreLoads}
+use Rattle.loads.specs.LoadRows.{optionals, AreLoads}
 use Rattle.loads.specs.steps.Exerted.{RowWhen}
 use Rattle.loads.specs.declared.Asked.{Asked}
 
@@ -27,12 +27,16 @@ unfoldable pub Some : (Row → Type 0) → List Row → Type 0
 Some P [] = ⊥
 Some P (row ∷ rows) = P row ⊎ Some P rows
 
--- the lowest number that one of the rows shows by itself; or 0, if none shows any
-pub record FirstShown (fill : ℕ → ℕ → Coefficient) (rows : List Row) (first : ℕ) : Type 0 where
-  pub shown : (first ≡ 0 → ⊥) → Some (λ row. RowWhen fill row first) rows
-  pub clear : (n : ℕ) → (first ≡ 0) ⊎ (n < first) → Every (λ row. RowWhen fill row n → ⊥) rows
+-- the lowest number that is shown; or 0, if none is
+pub record Lowest (Shown : ℕ → Type 0) (first : ℕ) : Type 0 where
+  pub shown : (first ≡ 0 → ⊥) → Shown first
+  pub clear : (n : ℕ) → (first ≡ 0) ⊎ (n < first) → Shown n → ⊥
+
+-- one of the rows shows a number by itself
+abbrev pub ShownBy : (ℕ → ℕ → Coefficient) → List Row → ℕ → Type 0
+ShownBy fill rows n = Some (λ row. RowWhen fill row n) rows
 
 pub record AskedIs (fill : ℕ → ℕ → Coefficient) (rows : List Row) (asked : Asked) : Type 0 where
-  pub first : FirstShown fill rows (asked .first)
+  pub first : Lowest (ShownBy fill rows) (asked .first)
   pub optional : asked .optional ≡ optionals rows
   pub loads : asked .first ≡ 0 → AreLoads fill rows (asked .loads)

@@ -1,4 +1,4 @@
--- What `row_fits`, `raised_by`, `arises` and `admits` decide: which sets a combination permits, row by row and by counts.
+-- What `row_fits`, `has_train`, `raised_by`, `arises` and `admits` decide: which sets a combination permits, row by row and by counts.
 use mathlib.Core.Path.{_≡_}
 use mathlib.Core.Logic.{_⊎_}
 use Prim.Native.Nat.{ℕ, _<_}
@@ -8,12 +8,13 @@ use Rattle.sets.specs.declared.Combination.{Combination}
 use Rattle.sets.specs.declared.Combination.the-variants.{I, II, III, IV}
 use Rattle.sets.specs.declared.Load.{Load}
 use Rattle.sets.specs.declared.Loads.{Loads}
-use Rattle.sets.specs.Sets.{row, Acts}
+use Rattle.sets.specs.Sets.{row, Acts, HasTrain}
 
 -- a row may stand in a set as its bit says
-pub record RowFits (combination : Combination) (load : Load) (held : ℕ) : Type 0 where
+pub record RowFits (combination : Combination) (load : Load) (set held : ℕ) : Type 0 where
   pub acting : held ≡ 1 → Acts combination (load .phase)
   pub permanent : load .class ≡ Permanent → Acts combination (load .phase) → held ≡ 1
+  pub trained : held ≡ 1 → HasTrain (load .train) set
 
 -- the combination is raised by a row of this class and phase: by any row I, a WL row II, an SF row III, a row of phase 1 IV
 unfoldable pub RaisedBy : Combination → Class → ℕ → Type 0

@@ -30,7 +30,7 @@ use Rattle.weighing.specs.declared.ranked.RankedSet.{RankedSet}
 use Rattle.weighing.specs.declared.bounds.Bounds.{Bounds}
 use Rattle.weighing.specs.declared.Worst.{Worst}
 use Rattle.weighing.specs.steps.Ranked.{tie-order, weight-of, Offered}
-use Rattle.weighing.specs.steps.Weighs.{ShowsCarried, SmallCarried, ranked-of, Weighed, Low, Visits}
+use Rattle.weighing.specs.steps.Weighs.{ShowsCarried, SmallCarried, ranked-of, Weighed, Low, Words, Visits}
 use Rattle.weighing.specs.steps.Bounds.{later, bound-of, tied-from, number-below, lean-of, bounds-of, PressedWithin, Within, Fitting}
 use Rattle.weighing.proofs.Weighing.{weighed-or-not}
 use Rattle.weighing.proofs.ranked.Weights.{weight-tie-order, worse-of-old, offered-old}
@@ -228,10 +228,6 @@ pressed b set width length n m lean low few wide narrow long small some most lea
     (subst (λ (k : ℕ). 4000 * (n * n) ≤ k * (n * width - m)) part (within .part (omega arith))))
 
 -- ---- a set within the bounds leaves the worst so far as it is
--- every rank of the worst so far is a word
-abbrev pub Words : Worst → Type 0
-Words worst = (check : Check) → (ranked-of check worst) .rank ≤ 2 ^ 64 - 1
-
 module _ (serves : Bool) (base : Base) (worst : Worst) (c : Carried) (sized : Sized base) (low : Low worst) (words : Words worst) (light : SmallCarried c)
     (keyed : c .key / 65536 ≡ tie-order (set-in c)) (within : Within (base .width) (bounds-of serves base worst) c) where
   few : set-in c < 65536

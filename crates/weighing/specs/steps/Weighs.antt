@@ -2,7 +2,7 @@
 use mathlib.Core.Path.{_≡_}
 use mathlib.Core.Logic.{_⊎_}
 use mathlib.Core.Bool.{Bool, true}
-use Prim.Native.Nat.{_^_, _≤_, _<_}
+use Prim.Native.Nat.{_-_, _^_, _≤_, _<_}
 use Rattle.sets.specs.declared.Combination.{Combination}
 use Rattle.sums.specs.declared.carried.Carried.{Carried}
 use Rattle.sums.specs.steps.Carried.{over-zero, from-zero, winds-in, earthquakes-in, set-in}
@@ -56,6 +56,10 @@ Weighed serves base RK = base .rock ≡ true
 -- every set of the worst so far is one of 16 rows
 unfoldable pub Low : Worst → Type 0
 Low worst = (check : Check) → (ranked-of check worst) .set < 65536
+
+-- and every rank a word
+abbrev pub Words : Worst → Type 0
+Words worst = (check : Check) → (ranked-of check worst) .rank ≤ 2 ^ 64 - 1
 
 -- r is the worst so far with the set of these carried sums weighed; a check that is not weighed stays as it was
 pub record Weighs (serves : Bool) (base : Base) (c : Carried) (b r : Worst) : Type 0 where

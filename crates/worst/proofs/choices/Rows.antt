@@ -14,7 +14,6 @@ use Rattle.sets.specs.declared.Combination.the-variants.{I, II, III, IV}
 use Rattle.sets.specs.declared.Load.{Load}
 use Rattle.sets.specs.declared.Loads.{Loads}
 use Rattle.sets.specs.Sets.{bit, row, own-phase, Acts, Has, Mixed, Permitted}
-use Rattle.sets.specs.steps.Deciding.{RowFits}
 use Rattle.sets.proofs.Bits.{bit-not-one}
 use Rattle.worst.specs.declared.choices.Stance.{Stance}
 use Rattle.worst.specs.declared.choices.Stance.the-variants.{Never, Always, Choosable}
@@ -104,15 +103,26 @@ module _ (k : Combination) (loads : Loads) (t i : ℕ) (p : Permitted k loads t)
   held-always e = let s = subst (StanceSays k (row loads i)) e (stance-says k (row loads i)) in p .permanent i h (s .1) (s .0)
 
 -- ---- a row held as its stance says may stand so
-pub stance-fits : (k : Combination) (load : Load) (a : Stance) (b : ℕ) → StanceSays k load a → RowFits k load (held-by a b)
-unfolding StanceSays held-by by-class
-stance-fits k load Never b s =
-    record {
-      acting = λ e. absurd (omega arith);
-      permanent = λ c a. absurd (⊎-elim (λ n. n a) (λ n. permanent-never c n) s);
-    }
-  where
-    permanent-never : load .class ≡ Permanent → by-class k (load .class) ≡ Never → ⊥
-    permanent-never c n = let q : _≡_ {A = Stance} Always Never = sym (ap (by-class k) c) ∙ n in impossible cc
-stance-fits k load Always b s = record { acting = λ _. s .0; permanent = λ _ _. refl }
-stance-fits k load Choosable b s = record { acting = λ _. s .0; permanent = λ c. absurd (s .1 c) }
+-- what a stance must say for that
+unfoldable pub MayStand : Combination → Load → Stance → Type 0
+MayStand k load Never = load .class ≡ Permanent → Acts k (load .phase) → ⊥
+MayStand k load Always = Acts k (load .phase)
+MayStand k load Choosable = Acts k (load .phase) × (load .class ≡ Permanent → ⊥)
+
+pub says-may : (k : Combination) (load : Load) (a : Stance) → StanceSays k load a → MayStand k load a
+unfolding StanceSays MayStand by-class
+says-may k load Never s = λ c a. ⊎-elim (λ n. n a) (λ n. let q : _≡_ {A = Stance} Always Never = sym (ap (by-class k) c) ∙ n in impossible cc) s
+says-may k load Always s = s .0
+says-may k load Choosable s = s
+
+pub may-acting : (k : Combination) (load : Load) (a : Stance) (b : ℕ) → MayStand k load a → held-by a b ≡ 1 → Acts k (load .phase)
+unfolding MayStand held-by
+may-acting k load Never b m e = absurd (omega arith)
+may-acting k load Always b m e = m
+may-acting k load Choosable b m e = m .0
+
+pub may-permanent : (k : Combination) (load : Load) (a : Stance) (b : ℕ) → MayStand k load a → load .class ≡ Permanent → Acts k (load .phase) → held-by a b ≡ 1
+unfolding MayStand held-by
+may-permanent k load Never b m p a = absurd (m p a)
+may-permanent k load Always b m p a = refl
+may-permanent k load Choosable b m p a = absurd (m .1 p)

@@ -19,6 +19,7 @@ use Rattle.sums.specs.steps.Carried.{shift-of}
 use Rattle.sums.proofs.Adding.{room-none, room-add, room-more, room-row, low-place}
 use Rattle.worst.specs.declared.choices.Stance.{Stance}
 use Rattle.worst.specs.declared.choices.Stance.the-variants.{Never, Always, Choosable}
+use Rattle.worst.specs.declared.trains.Trains.{Trains}
 use Rattle.worst.specs.steps.Stance.{next, choosable, fixed-by, fixed, row-terms, stance-at}
 use Rattle.worst.specs.steps.Steps.{change-at, Puts}
 use Rattle.worst.proofs.choices.Choices.{next-le}
@@ -36,15 +37,15 @@ choosable-step stance i (suc n) h e =
     subst (λ (j : ℕ). choosable stance j < next (stance n) (choosable stance n)) (sym d)
     (subst⁻¹ (λ (a : Stance). choosable stance n < next a (choosable stance n)) f (omega arith)))
 
-module _ (combination : Combination) (width : ℕ) (loads : Loads) where
+module _ (combination : Combination) (width : ℕ) (loads : Loads) (trains : Trains) where
   -- the table of the first n rows: m of them are choosable
   pub record Filled (n : ℕ) (steps : List ℕ) (m last : ℕ) (always : Sums) : Type 0 where
     pub size : length steps ≡ 256
-    pub count : m ≡ choosable (stance-at combination loads) n
+    pub count : m ≡ choosable (stance-at combination loads trains) n
     pub last-made : last + 1 ≡ 2 ^ m
-    pub always-there : always ≡ fixed (stance-at combination loads) (row-terms width loads) n
-    pub added : (i : ℕ) → i < n → stance-at combination loads i ≡ Choosable → change-at steps (2 * choosable (stance-at combination loads) i) ≡ shift-of (row-terms width loads i) no-sums
-    pub taken : (i : ℕ) → i < n → stance-at combination loads i ≡ Choosable → change-at steps (2 * choosable (stance-at combination loads) i + 1) ≡ shift-of no-sums (row-terms width loads i)
+    pub always-there : always ≡ fixed (stance-at combination loads trains) (row-terms width loads) n
+    pub added : (i : ℕ) → i < n → stance-at combination loads trains i ≡ Choosable → change-at steps (2 * choosable (stance-at combination loads trains) i) ≡ shift-of (row-terms width loads i) no-sums
+    pub taken : (i : ℕ) → i < n → stance-at combination loads trains i ≡ Choosable → change-at steps (2 * choosable (stance-at combination loads trains) i + 1) ≡ shift-of no-sums (row-terms width loads i)
 
   pub filled-none : (steps : List ℕ) {always : Sums} → length steps ≡ 256 → always ≡ no-sums → Filled 0 steps 0 0 always
   unfolding choosable fixed
@@ -58,7 +59,7 @@ module _ (combination : Combination) (width : ℕ) (loads : Loads) where
   -- ---- one row more
   module _ (n : ℕ) {steps : List ℕ} {m last : ℕ} {always : Sums} (f : Filled n steps m last always) where
     -- one that is not choosable is written nowhere
-    unwritten : (a : Stance) → stance-at combination loads n ≡ a → (a ≡ Choosable → ⊥) → {sums : Sums} → next a m ≡ m → sums ≡ fixed-by a always (row-terms width loads n)
+    unwritten : (a : Stance) → stance-at combination loads trains n ≡ a → (a ≡ Choosable → ⊥) → {sums : Sums} → next a m ≡ m → sums ≡ fixed-by a always (row-terms width loads n)
         → Filled (n + 1) steps m last sums
     unfolding choosable fixed
     unwritten a e not {sums} same s =
@@ -72,21 +73,21 @@ module _ (combination : Combination) (width : ℕ) (loads : Loads) where
           taken = λ i h c. f .taken i (below i c h) c;
         })
       where
-        below : (i : ℕ) → stance-at combination loads i ≡ Choosable → i < suc n → i < n
+        below : (i : ℕ) → stance-at combination loads trains i ≡ Choosable → i < suc n → i < n
         below i c h =
             by-cases (decLt i n) (λ l. l)
-            (λ l. let d : i ≡ n = omega arith in absurd (not (sym e ∙ sym (ap (stance-at combination loads) d) ∙ c)))
+            (λ l. let d : i ≡ n = omega arith in absurd (not (sym e ∙ sym (ap (stance-at combination loads trains) d) ∙ c)))
 
-    pub more-never : stance-at combination loads n ≡ Never → Filled (n + 1) steps m last always
+    pub more-never : stance-at combination loads trains n ≡ Never → Filled (n + 1) steps m last always
     unfolding next fixed-by
     more-never e = unwritten Never e (λ q. impossible cc) refl refl
 
-    pub more-always : stance-at combination loads n ≡ Always → {sums : Sums} → sums ≡ add always (row-terms width loads n) → Filled (n + 1) steps m last sums
+    pub more-always : stance-at combination loads trains n ≡ Always → {sums : Sums} → sums ≡ add always (row-terms width loads n) → Filled (n + 1) steps m last sums
     unfolding next fixed-by
     more-always e s = unwritten Always e (λ q. impossible cc) refl s
 
     -- one that is choosable is written behind those before it, which stay
-    pub more-choosable : stance-at combination loads n ≡ Choosable → {mid after : List ℕ} {x y : Carried} → x ≡ shift-of (row-terms width loads n) no-sums → y ≡ shift-of no-sums (row-terms width loads n)
+    pub more-choosable : stance-at combination loads trains n ≡ Choosable → {mid after : List ℕ} {x y : Carried} → x ≡ shift-of (row-terms width loads n) no-sums → y ≡ shift-of no-sums (row-terms width loads n)
         → Puts steps (2 * m) x mid → Puts mid (2 * m + 1) y after → Filled (n + 1) after (m + 1) (2 * last + 1) always
     unfolding choosable fixed next fixed-by
     more-choosable e {mid} {after} {x} {y} by-x by-y p q =
@@ -95,23 +96,23 @@ module _ (combination : Combination) (width : ℕ) (loads : Loads) where
           size = q .size ∙ p .size ∙ f .size;
           count = add-one m ∙ ap₂ next (sym e) (f .count);
           last-made = omega (arith, f .last-made, ap (λ (k : ℕ). 2 ^ k) (add-one m) ∙ pow-suc 2 m);
-          always-there = f .always-there ∙ ap (λ (k : Stance). fixed-by k (fixed (stance-at combination loads) (row-terms width loads) n) (row-terms width loads n)) (sym e);
-          added = λ i h c. by-cases (decLt i n) (λ l. earlier (2 * choosable (stance-at combination loads) i) (omega (arith, place i l c)) ∙ f .added i l c)
+          always-there = f .always-there ∙ ap (λ (k : Stance). fixed-by k (fixed (stance-at combination loads trains) (row-terms width loads) n) (row-terms width loads n)) (sym e);
+          added = λ i h c. by-cases (decLt i n) (λ l. earlier (2 * choosable (stance-at combination loads trains) i) (omega (arith, place i l c)) ∙ f .added i l c)
               (λ l. own i (omega arith) (puts-others q (2 * m) (omega arith) ∙ puts-own p ∙ by-x));
-          taken = λ i h c. by-cases (decLt i n) (λ l. earlier (2 * choosable (stance-at combination loads) i + 1) (omega (arith, place i l c)) ∙ f .taken i l c)
+          taken = λ i h c. by-cases (decLt i n) (λ l. earlier (2 * choosable (stance-at combination loads trains) i + 1) (omega (arith, place i l c)) ∙ f .taken i l c)
               (λ l. own-taken i (omega arith) (puts-own q ∙ by-y));
         })
       where
-        place : (i : ℕ) → i < n → stance-at combination loads i ≡ Choosable → choosable (stance-at combination loads) i < m
-        place i l c = subst⁻¹ (λ (k : ℕ). choosable (stance-at combination loads) i < k) (f .count) (choosable-step (stance-at combination loads) i n l c)
+        place : (i : ℕ) → i < n → stance-at combination loads trains i ≡ Choosable → choosable (stance-at combination loads trains) i < m
+        place i l c = subst⁻¹ (λ (k : ℕ). choosable (stance-at combination loads trains) i < k) (f .count) (choosable-step (stance-at combination loads trains) i n l c)
 
         earlier : (k : ℕ) → k < 2 * m → change-at after k ≡ change-at steps k
         earlier k h = puts-others q k (omega arith) ∙ puts-others p k h
 
-        own : (i : ℕ) → i ≡ n → change-at after (2 * m) ≡ shift-of (row-terms width loads n) no-sums → change-at after (2 * choosable (stance-at combination loads) i) ≡ shift-of (row-terms width loads i) no-sums
+        own : (i : ℕ) → i ≡ n → change-at after (2 * m) ≡ shift-of (row-terms width loads n) no-sums → change-at after (2 * choosable (stance-at combination loads trains) i) ≡ shift-of (row-terms width loads i) no-sums
         own i d w = rw (d, ← f .count) w
 
-        own-taken : (i : ℕ) → i ≡ n → change-at after (2 * m + 1) ≡ shift-of no-sums (row-terms width loads n) → change-at after (2 * choosable (stance-at combination loads) i + 1) ≡ shift-of no-sums (row-terms width loads i)
+        own-taken : (i : ℕ) → i ≡ n → change-at after (2 * m + 1) ≡ shift-of no-sums (row-terms width loads n) → change-at after (2 * choosable (stance-at combination loads trains) i + 1) ≡ shift-of no-sums (row-terms width loads i)
         own-taken i d w = rw (d, ← f .count) w
 
   -- ---- sizes
@@ -126,11 +127,11 @@ module _ (combination : Combination) (width : ℕ) (loads : Loads) where
     fixed-room-by Always n s t p q = room-more (omega arith) (room-add p q)
     fixed-room-by Choosable n s t p q = room-more (omega arith) p
 
-    pub fixed-room : (n : ℕ) → n ≤ loads .count → Room n (fixed (stance-at combination loads) (row-terms width loads) n)
+    pub fixed-room : (n : ℕ) → n ≤ loads .count → Room n (fixed (stance-at combination loads trains) (row-terms width loads) n)
     unfolding fixed
     fixed-room zero h = room-none 0
     fixed-room (suc n) h =
-        fixed-room-by (stance-at combination loads n) n _ _ (fixed-room n (omega arith)) (terms-room n (omega arith))
+        fixed-room-by (stance-at combination loads trains n) n _ _ (fixed-room n (omega arith)) (terms-room n (omega arith))
 
 -- every place of the table that is in use is that of a choosable row
 pub choosable-onto : (stance : ℕ → Stance) (n j : ℕ) → j < choosable stance n → (i : ℕ) × (i < n) × (stance i ≡ Choosable) × (choosable stance i ≡ j)

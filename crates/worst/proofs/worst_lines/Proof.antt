@@ -53,7 +53,7 @@ returns c =
 
 walk-requires : tie.Need-walk-requires
 walk-requires c κs =
-    (c .before .before .pre .0, (c .before .before .pre .1, decided (c .before .arises .result) (not-false (c .before .arises .result) (c .if1 .left)) (c .before .arises .ensures)))
+    (c .before .before .pre .0, (c .before .before .pre .1 .0, (c .before .before .pre .1 .1, decided (c .before .arises .result) (not-false (c .before .arises .result) (c .if1 .left)) (c .before .arises .ensures))))
 
 line-at-requires : tie.Need-line-at-requires
 unfolding ranked-of

@@ -1,4 +1,4 @@
--- What `stance_of` answers, and the choices that a walk goes through: what a row is to the sets of a combination, as the program sorts the rows first.
+-- What `stance_of` and `stance_beside` answer, and the choices that a walk goes through: what a row is to the sets of a combination, as the program sorts the rows first.
 use mathlib.Core.Bool.{Bool, true, cond}
 use Prim.Native.Nat.{ℕ, zero, suc, _+_, _^_}
 use lib.Dec.{eqb}
@@ -13,6 +13,7 @@ use Rattle.sets.specs.Sets.{bit, own-phase, row}
 use Rattle.sums.specs.steps.Sums.{no-sums, add, add-if, terms-of}
 use Rattle.worst.specs.declared.choices.Stance.{Stance}
 use Rattle.worst.specs.declared.choices.Stance.the-variants.{Never, Always, Choosable}
+use Rattle.worst.specs.declared.trains.Trains.{Trains}
 
 -- a row that acts: WL and SF stand apart where the combination has none of them
 unfoldable pub by-class : Combination → Class → Stance
@@ -35,6 +36,17 @@ acting k phase = cond (eqb phase (own-phase k)) true (eqb phase 2)
 unfoldable pub stance-of : Combination → Load → Stance
 unfolding acting
 stance-of k load = cond (acting k (load .phase)) (by-class k (load .class)) Never
+
+-- beside these trains: a row that comes with one is choosable where that is present, and in no set where it is not; a leading row is in as it is present
+unfoldable pub beside : Trains → ℕ → ℕ → Stance → Stance
+beside trains i train Never = Never
+beside trains i train Always = Always
+beside trains i zero Choosable = cond (eqb (bit (trains .leaders) i) 1) (cond (eqb (bit (trains .present) i) 1) Always Never) Choosable
+beside trains i (suc n) Choosable = cond (eqb (bit (trains .present) n) 1) Choosable Never
+
+-- the ways in which the leading rows may be there or not are the choices among them alone
+unfoldable pub leading : ℕ → ℕ → Stance
+leading leaders i = cond (eqb (bit leaders i) 1) Choosable Never
 
 -- ---- the choices of the choosable rows: choice k of the first rows holds row i as the row's stance says, and by the next bit of k where it is choosable
 unfoldable pub held-by : Stance → ℕ → ℕ
@@ -79,6 +91,6 @@ chosen first table k (suc m) = add-if (bit k m) (chosen first table k m) (table 
 unfoldable pub row-terms : ℕ → Loads → ℕ → Sums
 row-terms width loads i = terms-of width (row loads i) (2 ^ i)
 
--- what row i is to the sets of the combination
-unfoldable pub stance-at : Combination → Loads → ℕ → Stance
-stance-at combination loads i = stance-of combination (row loads i)
+-- what row i is to the sets of the combination beside these trains
+unfoldable pub stance-at : Combination → Loads → Trains → ℕ → Stance
+stance-at combination loads trains i = beside trains i ((row loads i) .train) (stance-of combination (row loads i))

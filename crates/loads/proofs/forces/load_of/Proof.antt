@@ -35,6 +35,9 @@ use Rattle.loads.proofs.forces.load_of.Tie as tie
 phase-of-requires : tie.Need-phase-of-requires
 phase-of-requires c κs = search needs
 
+train-of-requires : tie.Need-train-of-requires
+train-of-requires c κs = search needs
+
 source-of-requires : tie.Need-source-of-requires
 source-of-requires c κs = search needs
 
@@ -53,14 +56,15 @@ enum-told-3 c = search needs
 enum-known-thrust : tie.Need-enum-known-thrust
 enum-known-thrust c = search needs
 
--- the row, and what a load of its class and its phase has
+-- the row, and what a load of its class, its phase and its train has
 module _ (c : tie.After-source-of) where
   abbrev row : Row
-  row = c .before .before .before .args .row
+  row = c .before .before .before .before .args .row
 
-  kept : (load : Load) → load .class ≡ c .before .before .before .args .class → load .phase ≡ c .before .phase-of .result → Kept table2-fill row load
+  kept : (load : Load) → load .class ≡ c .before .before .before .before .args .class → load .phase ≡ c .before .before .phase-of .result → load .train ≡ c .before .train-of .result
+      → Kept table2-fill row load
   unfolding Kept
-  kept load p q = (p ∙ c .before .before .before .pre, q ∙ c .before .phase-of .ensures)
+  kept load p q r = (p ∙ c .before .before .before .before .pre, q ∙ c .before .before .phase-of .ensures, r ∙ c .before .train-of .ensures)
 
 -- ---- by its fill
 module _ (c : tie.After-pressure) where
@@ -128,7 +132,7 @@ returns-2 c =
     let test = c .before .before .before in
     let at = test .before .before .before in
     told-load table2-fill _ (sym (at .source-of .ensures) ∙ c .before .enum-told7 .given .1) absent-earth absent-current (in-range test) _
-    (kept at _ (c .push-load3 .ensures .0) (c .push-load3 .ensures .1)) (c .push-load3 .ensures .2)
+    (kept at _ (c .push-load3 .ensures .0) (c .push-load3 .ensures .1) (c .push-load3 .ensures .2)) (c .push-load3 .ensures .3)
 
 -- and where it has a source that is no rule, that is its own numbers
 own-left : (k : Source) → OneOf (3 ∷ 0 ∷ []) (tagOf sources.the-type k) → OneOf (1 ∷ 2 ∷ 3 ∷ []) (tagOf sources.the-type k) → k ≡ Own
@@ -154,7 +158,7 @@ returns-4 c = earth-told-blank table2-fill _ (is-earth (c .before .before)) (tol
 returns-5 : tie.Need-returns-5
 returns-5 c =
     let at = c .before .before .before .before in
-    earth-told-push table2-fill _ (is-earth at) _ (told at (c .before .before .thrust .given .1)) (kept (asked at) _ (c .push-load .ensures .0) (c .push-load .ensures .1)) (c .push-load .ensures .2)
+    earth-told-push table2-fill _ (is-earth at) _ (told at (c .before .before .thrust .given .1)) (kept (asked at) _ (c .push-load .ensures .0) (c .push-load .ensures .1) (c .push-load .ensures .2)) (c .push-load .ensures .3)
 
 returns-6 : tie.Need-returns-6
 returns-6 c = current-told-out table2-fill _ (is-current (c .before .before)) (said (c .before .before) (c .enum-told5 .given .1))
@@ -165,19 +169,20 @@ returns-7 c = current-told-below table2-fill _ (is-current (c .before .before)) 
 returns-8 : tie.Need-returns-8
 returns-8 c =
     let at = c .before .before .before .before in
-    current-told-push table2-fill _ (is-current at) _ (said at (c .before .before .force .given .1)) (kept (wet at) _ (c .push-load2 .ensures .0) (c .push-load2 .ensures .1)) (c .push-load2 .ensures .2)
+    current-told-push table2-fill _ (is-current at) _ (said at (c .before .before .force .given .1)) (kept (wet at) _ (c .push-load2 .ensures .0) (c .push-load2 .ensures .1) (c .push-load2 .ensures .2)) (c .push-load2 .ensures .3)
 
 returns-9 : tie.Need-returns-9
 unfolding Forces
 returns-9 c =
     let test = c .before .before in
-    told-load table2-fill _ (is-own (c .before)) own-earth own-current (in-range test) _ (kept (test .before .before .before) _ (c .own-load .ensures .0) (c .own-load .ensures .1)) (c .own-load .ensures .2)
+    told-load table2-fill _ (is-own (c .before)) own-earth own-current (in-range test) _ (kept (test .before .before .before) _ (c .own-load .ensures .0) (c .own-load .ensures .1) (c .own-load .ensures .2)) (c .own-load .ensures .3)
 
 pub load-of-spec : {M : Type 1} → statement M
 load-of-spec =
     tie.close
     (tie.spec
     phase-of-requires
+    train-of-requires
     source-of-requires
     enum-told
     pressure-requires

@@ -47,6 +47,7 @@ returns c =
     let n = start .args .numbers in (
       refl,
       refl,
+      refl,
       record {
         v = c .before .before .before .before .before .before .before .amount-of .ensures;
         x = c .before .before .before .before .before .amount-of2 .ensures;

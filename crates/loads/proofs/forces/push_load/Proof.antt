@@ -22,7 +22,7 @@ amount-of-requires-3 c κs = search needs
 returns : tie.Need-returns
 unfolding signed
 returns c =
-    (refl, refl, record { v = c .before .before .amount-of .ensures; x = c .before .before .amount-of .ensures; h = c .before .amount-of2 .ensures; twist = c .amount-of3 .ensures })
+    (refl, refl, refl, record { v = c .before .before .amount-of .ensures; x = c .before .before .amount-of .ensures; h = c .before .amount-of2 .ensures; twist = c .amount-of3 .ensures })
 
 pub push-load-spec : {M : Type 1} → statement M
 push-load-spec =

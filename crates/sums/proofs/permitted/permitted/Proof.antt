@@ -26,12 +26,12 @@ use Rattle.sums.proofs.permitted.permitted.Tie as tie
 module _ (combination : Combination) (loads : Loads) (set : ℕ) where
   -- the rows before i fit
   abbrev Fitting : ℕ → Type 0
-  Fitting i = (j : ℕ) → j < i → RowFits combination (row loads j) (bit set j)
+  Fitting i = (j : ℕ) → j < i → RowFits combination (row loads j) set (bit set j)
 
-  one-more : (i : ℕ) (fits next : Bool) → Decides fits (Fitting i) → Decides next (RowFits combination (row loads i) (bit set i)) → Decides (fits && next) (Fitting (i + 1))
+  one-more : (i : ℕ) (fits next : Bool) → Decides fits (Fitting i) → Decides next (RowFits combination (row loads i) set (bit set i)) → Decides (fits && next) (Fitting (i + 1))
   one-more i fits next d e =
       decides-same (fits && next) (λ p. below-more _ _ (p .0) (p .1)) (λ f. (λ j h. f j (omega arith), f i (omega arith)))
-      (decides-both (Fitting i) (RowFits combination (row loads i) (bit set i)) fits next d e)
+      (decides-both (Fitting i) (RowFits combination (row loads i) set (bit set i)) fits next d e)
 
   all-rows : (i rest : ℕ) (fits : Bool) → i ≤ loads .count → loads .count ≤ i → rest ≡ set / 2 ^ i → Decides fits (Fitting i) → Decides (fits && eqb rest 0) (Fit combination loads set)
   unfolding Fit
@@ -62,7 +62,8 @@ element-copy-out-load : tie.Need-element-copy-out-load Inv-loop μ-loop
 element-copy-out-load c = omega (arith, c .before .before .pre .count)
 
 row-fits-requires : tie.Need-row-fits-requires Inv-loop μ-loop
-row-fits-requires c κs = omega arith
+unfolding row
+row-fits-requires c κs = (omega arith, c .before .before .before .pre .each _ (c .before .loop-test .taken) .train)
 
 add-i : tie.Need-add-i Inv-loop μ-loop
 add-i c = omega (arith, c .before .before .before .before .pre .count)
@@ -79,7 +80,7 @@ loop-again c =
       omega arith,
       next-bits _ _ _ (inv .1),
       one-more (a .combination) (a .t2) (a .set) (at .loop .i) (at .loop .fits) (c .row-fits .result) (inv .2)
-          (subst (λ (held : ℕ). Decides (c .row-fits .result) (RowFits (a .combination) (row (a .t2) (at .loop .i)) held)) (bit-is _ _ _ (inv .1)) (c .row-fits .ensures)),
+          (subst (λ (held : ℕ). Decides (c .row-fits .result) (RowFits (a .combination) (row (a .t2) (at .loop .i)) (a .set) held)) (bit-is _ _ _ (inv .1)) (c .row-fits .ensures)),
     )
 
 arises-requires : tie.Need-arises-requires Inv-loop μ-loop

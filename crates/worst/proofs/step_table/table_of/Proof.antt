@@ -12,51 +12,51 @@ use Rattle.sums.specs.steps.Sums.{no-sums, add, terms-of, Room}
 use Rattle.sums.specs.steps.Carried.{shift-of}
 use Rattle.sets.proofs.Bits.{next-place}
 use Rattle.sums.proofs.Adding.{room-none, room-more, low-place}
-use Rattle.worst.specs.steps.Stance.{stance-at, row-terms}
+use Rattle.worst.specs.steps.Stance.{beside, stance-at, row-terms}
 use Rattle.worst.proofs.choices.Choices.{choosable-room}
 use Rattle.worst.proofs.step_table.Filling.{Filled, filled-none, filled-as, more-never, more-always, more-choosable, terms-room, fixed-room}
 use Rattle.worst.proofs.step_table.table_of.Statement.{statement}
 use Rattle.worst.proofs.step_table.table_of.Tie as tie
 
 abbrev Inv-loop : tie.InvT-loop
-Inv-loop combination width loads count none steps₀ choosable₀ last₀ fixed₀ place₀ i₀ steps choosable last fixed place i = (i ≤ count) × (place ≡ 2 ^ i)
-    × Filled combination width loads i steps choosable last fixed
+Inv-loop combination width trains loads count none steps₀ choosable₀ last₀ fixed₀ place₀ i₀ steps choosable last fixed place i = (i ≤ count) × (place ≡ 2 ^ i)
+    × Filled combination width loads trains i steps choosable last fixed
 
 abbrev μ-loop : tie.MeasureT-loop
-μ-loop combination width loads count none steps₀ choosable₀ last₀ fixed₀ place₀ i₀ steps choosable last fixed place i = count - i
+μ-loop combination width trains loads count none steps₀ choosable₀ last₀ fixed₀ place₀ i₀ steps choosable last fixed place i = count - i
 
 none-room : (c : tie.After-no-sums Inv-loop μ-loop) → Room 16 (c .no-sums .result)
 none-room c = subst⁻¹ (Room 16) (c .no-sums .ensures) (room-none 16)
 
 module _ (c : tie.After-terms-of Inv-loop μ-loop) where
   abbrev start : tie.Start Inv-loop μ-loop
-  start = c .before .before .before .before .before .before
+  start = c .before .before .before .before .before .before .before
 
   abbrev turn : tie.At-loop Inv-loop μ-loop
-  turn = c .before .before .before .before
+  turn = c .before .before .before .before .before
 
   -- there is room for one row more
   unfilled : turn .loop .choosable < 16
   unfilled =
-      omega (arith, start .pre .1 .count, c .before .before .before .loop-test .taken, turn .loop .inv .2 .count, choosable-room (stance-at (start .args .combination) (start .args .t3)) (turn .loop .i))
+      omega (arith, start .pre .1 .count, c .before .before .before .before .loop-test .taken, turn .loop .inv .2 .count, choosable-room (stance-at (start .args .combination) (start .args .t3) (start .args .trains)) (turn .loop .i))
 
   low : turn .loop .i ≤ 15
-  low = omega (arith, start .pre .1 .count, c .before .before .before .loop-test .taken)
+  low = omega (arith, start .pre .1 .count, c .before .before .before .before .loop-test .taken)
 
   fixed-fits : Room 64 (turn .loop .fixed)
-  fixed-fits = subst⁻¹ (Room 64) (turn .loop .inv .2 .always-there) (room-more (omega (arith, low)) (fixed-room _ _ _ (start .pre .0) (start .pre .1) _ (turn .loop .inv .0)))
+  fixed-fits = subst⁻¹ (Room 64) (turn .loop .inv .2 .always-there) (room-more (omega (arith, low)) (fixed-room _ _ _ _ (start .pre .0) (start .pre .1) _ (turn .loop .inv .0)))
 
   -- what the row gives, and what it is to the sets
   row-is : c .terms-of .result ≡ row-terms (start .args .width) (start .args .t3) (turn .loop .i)
   unfolding row row-terms
   row-is = c .terms-of .ensures ∙ ap (terms-of _ _) (turn .loop .inv .1)
 
-  stance-is : c .before .stance-of .result ≡ stance-at (start .args .combination) (start .args .t3) (turn .loop .i)
+  stance-is : c .before .stance-beside .result ≡ stance-at (start .args .combination) (start .args .t3) (start .args .trains) (turn .loop .i)
   unfolding row stance-at
-  stance-is = c .before .stance-of .ensures
+  stance-is = c .before .stance-beside .ensures ∙ ap (beside _ _ _) (c .before .before .stance-of .ensures)
 
   row-room : Room 1 (c .terms-of .result)
-  row-room = subst⁻¹ (Room 1) row-is (terms-room (start .args .combination) _ _ (start .pre .0) (start .pre .1) _ (c .before .before .before .loop-test .taken))
+  row-room = subst⁻¹ (Room 1) row-is (terms-room (start .args .combination) _ _ (start .args .trains) (start .pre .0) (start .pre .1) _ (c .before .before .before .before .loop-test .taken))
 
   row-fits : Room 16 (c .terms-of .result)
   row-fits = room-more (omega arith) row-room
@@ -65,7 +65,7 @@ no-sums-requires : tie.Need-no-sums-requires Inv-loop μ-loop
 no-sums-requires c κs = search needs
 
 loop-holds : tie.Need-loop-holds Inv-loop μ-loop
-loop-holds c = (search needs, omega arith, filled-none _ _ _ _ (length-replicate {A = ℕ} 256 0) (c .no-sums .ensures))
+loop-holds c = (search needs, omega arith, filled-none _ _ _ _ _ (length-replicate {A = ℕ} 256 0) (c .no-sums .ensures))
 
 mul-load : tie.Need-mul-load Inv-loop μ-loop
 mul-load c = omega (arith, c .before .before .before .pre .1 .count)
@@ -76,11 +76,18 @@ element-copy-out-load c = omega (arith, c .before .before .before .pre .1 .count
 stance-of-requires : tie.Need-stance-of-requires Inv-loop μ-loop
 stance-of-requires c κs = search needs
 
+stance-beside-requires : tie.Need-stance-beside-requires Inv-loop μ-loop
+unfolding row
+stance-beside-requires c κs =
+    let e = c .before .before .before .before .before in
+    let test = c .before .before .loop-test .taken in
+    (omega (arith, e .pre .1 .count, test), e .pre .1 .each _ test .train)
+
 terms-of-requires : tie.Need-terms-of-requires Inv-loop μ-loop
 unfolding row
 terms-of-requires c κs =
-    let e = c .before .before .before .before .before in
-    (e .pre .0, e .pre .1 .each _ (c .before .before .loop-test .taken))
+    let e = c .before .before .before .before .before .before in
+    (e .pre .0, e .pre .1 .each _ (c .before .before .before .loop-test .taken))
 
 enum-told : tie.Need-enum-told Inv-loop μ-loop
 enum-told c = search needs
@@ -143,16 +150,16 @@ loop-less c = omega arith
 
 -- the table with the row, whichever way it stands
 grows : (c : tie.At-match-came Inv-loop μ-loop) → let d = c .before in
-    Filled ((start d) .args .combination) ((start d) .args .width) ((start d) .args .t3) ((turn d) .loop .i + 1) (c .match .steps) (c .match .choosable) (c .match .last) (c .match .fixed)
+    Filled ((start d) .args .combination) ((start d) .args .width) ((start d) .args .t3) ((start d) .args .trains) ((turn d) .loop .i + 1) (c .match .steps) (c .match .choosable) (c .match .last) (c .match .fixed)
 grows c =
     let d = c .before in
     let f = (turn d) .loop .inv .2 in
     let none-is = (turn d) .before .no-sums .ensures in
-    ⊎-elim (λ w. filled-as _ _ _ _ (more-never _ _ _ _ f (sym (stance-is d) ∙ w .1 .given .1)) (w .2) (w .3) (w .4) (w .5))
-    (⊎-elim (λ w. filled-as _ _ _ _ (more-always _ _ _ _ f (sym (stance-is d) ∙ w .1 .given .1) (w .2 .ensures ∙ ap (add _) (row-is d))) (w .3) (w .4) (w .5) (w .6))
+    ⊎-elim (λ w. filled-as _ _ _ _ _ (more-never _ _ _ _ _ f (sym (stance-is d) ∙ w .1 .given .1)) (w .2) (w .3) (w .4) (w .5))
+    (⊎-elim (λ w. filled-as _ _ _ _ _ (more-always _ _ _ _ _ f (sym (stance-is d) ∙ w .1 .given .1) (w .2 .ensures ∙ ap (add _) (row-is d))) (w .3) (w .4) (w .5) (w .6))
     (λ w.
-    filled-as _ _ _ _
-    (more-choosable _ _ _ _ f (sym (stance-is d) ∙ w .1 .given .1) (w .2 .ensures ∙ ap₂ shift-of (row-is d) none-is) (w .3 .ensures ∙ ap₂ shift-of none-is (row-is d)) (w .5 .ensures) (w .7 .ensures))
+    filled-as _ _ _ _ _
+    (more-choosable _ _ _ _ _ f (sym (stance-is d) ∙ w .1 .given .1) (w .2 .ensures ∙ ap₂ shift-of (row-is d) none-is) (w .3 .ensures ∙ ap₂ shift-of none-is (row-is d)) (w .5 .ensures) (w .7 .ensures))
     (w .8) (w .9) (w .10) (w .11))) (c .match .came)
 
 loop-again : tie.Need-loop-again Inv-loop μ-loop
@@ -162,13 +169,13 @@ shift-of-requires-3 : tie.Need-shift-of-requires-3 Inv-loop μ-loop
 shift-of-requires-3 c κs =
     let e = c .before .before .before in
     let f = c .before .loop .inv in
-    (subst⁻¹ (Room 16) (f .2 .always-there) (room-more (omega (arith, e .pre .1 .count, f .0)) (fixed-room _ _ _ (e .pre .0) (e .pre .1) _ (f .0))), none-room (c .before .before))
+    (subst⁻¹ (Room 16) (f .2 .always-there) (room-more (omega (arith, e .pre .1 .count, f .0)) (fixed-room _ _ _ _ (e .pre .0) (e .pre .1) _ (f .0))), none-room (c .before .before))
 
 returns : tie.Need-returns Inv-loop μ-loop
 returns c =
     let d = c .before in
     let e = d .before .before .before in
-    let f = subst (λ (n : ℕ). Filled (e .args .combination) (e .args .width) (e .args .t3) n (d .before .loop .steps) (d .before .loop .choosable) (d .before .loop .last) (d .before .loop .fixed))
+    let f = subst (λ (n : ℕ). Filled (e .args .combination) (e .args .width) (e .args .t3) (e .args .trains) n (d .before .loop .steps) (d .before .loop .choosable) (d .before .loop .last) (d .before .loop .fixed))
     (le-antisymm (d .before .loop .inv .0) (d .loop-test .left)) (d .before .loop .inv .2) in
     record {
       last = f .last-made ∙ ap (λ (n : ℕ). 2 ^ n) (f .count);
@@ -188,6 +195,7 @@ table-of-spec =
     mul-load
     element-copy-out-load
     stance-of-requires
+    stance-beside-requires
     terms-of-requires
     enum-told
     enum-told-2

@@ -1,0 +1,2 @@
+-- The laws of leading rows.
+pub mod Leaders
