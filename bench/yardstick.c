@@ -1,5 +1,5 @@
-/* The yardstick: document 01's printing program in plain C, with 02's kind W. A book on standard input, its lines on standard output.
-   The book is read once; load sets are walked as two tables of half sums with carried sums, all checks of a combination
+/* The yardstick: document 01's printing program in plain C, with 02's kind W and its trains. A book on standard input, its lines on standard
+   output. The book is read once; load sets are walked as two tables of half sums with carried sums, all checks of a combination
    at once, and a quotient is only worked out where the figure gets worse. What it takes from the C library is declared
    here, so that the kit's compiler, which has no headers, compiles it. */
 typedef long i64;
@@ -17,7 +17,7 @@ i64 write(int, const void *, u64);
 #define INLINE static inline __attribute__((always_inline))
 #define COLD static __attribute__((noinline, cold))
 
-enum { MAX_BOOK = 65536, MAX_JOBS = 64, MAX_LOADS = 16 };
+enum { MAX_BOOK = 65536, MAX_JOBS = 64, MAX_LOADS = 16, MAX_OPTIONAL = 12 };
 enum { KB, KS, KC, KE, KDL, KEP, KLL, KLF, KCF, KWC, KBU, KTM, KEX, KW, KWL, KSF, NO_KIND };
 
 /* ---- RFC 4180 rows */
@@ -88,9 +88,11 @@ static const i32 ranges[6][6][2] = {
     {{1, 50000000}, {1, 3000000}, {100, 3000}, {1000, 1300000}, {1, 5}, {0, 200000}},
     {{0, 10000}, {1, 100000}, {1, 100000}, {-500000, 9000000}, {-500000, 9000000}},
     {{1, 5}, {1, 5}, {1, 15000}, {1, 60000}, {0, 2}},
-    {{-50000, 50000}, {-30000, 30000}, {-50000, 50000}, {0, 60000}, {0, 2}},
+    {{-50000, 50000}, {-30000, 30000}, {-50000, 50000}, {0, 60000}, {0, 2}, {1, MAX_LOADS}},
     {{1, 6}, {1, 20000}, {0, 6000}, {0, 60000}, {0, 60000}, {0, 2}},
 };
+
+INLINE int train_kind(int kind) { return kind == KLF || kind == KCF; }
 
 static int kind_of(const u8 *s, u32 n) {
     if (n == 1) switch (s[0]) { case 'B': return KB; case 'S': return KS; case 'C': return KC; case 'E': return KE; case 'W': return KW; default: return NO_KIND; }
@@ -138,7 +140,7 @@ static int row_form(const u8 *book, int count, const Field *f, Row *r) {
     if (!name_form(m, mn) || !name_form(j, jn)) return 0;
     r->kind = kind_of(book + f[2].start, f[2].end - f[2].start);
     if (r->kind == NO_KIND) return 0;
-    int want = r->kind == KS || r->kind == KW ? 6 : 5;
+    int want = r->kind == KS || r->kind == KW || train_kind(r->kind) ? 6 : 5;
     const i32(*g)[2] = ranges[r->kind < 4 ? r->kind : r->kind == KW ? 5 : 4];
     r->in_range = 1;
     r->n[5] = 0;
@@ -250,7 +252,12 @@ static const u64 table4[6] = {79, 35, 37, 47, 24, 26};
 typedef struct { i64 n, h, m, op, om; u64 key; } Sums;
 typedef struct { u64 value, key; } Worst;
 typedef struct { i64 b, l, friction; Worst op, om, sl, pr, rk; } Search;
-typedef struct { Sums fixed, plain[16], wind[16], quake[16]; int np, nw, nq; } Choice;
+typedef struct { Sums lead, rows[MAX_OPTIONAL]; int n; } Train; /* an LL row, and the LF and CF rows that name it */
+typedef struct {
+    Sums fixed, plain[16], wind[16], quake[16];
+    Train trains[MAX_OPTIONAL / 2];
+    int np, nw, nq, nt;
+} Choice;
 
 INLINE Sums plus(Sums a, const Sums *b) {
     a.n += b->n; a.h += b->h; a.m += b->m; a.op += b->op; a.om += b->om; a.key += b->key;
@@ -355,15 +362,55 @@ static void power_of(Search *w, const Sums *f, const Sums *r, int n, int full, i
     else { if (rock) power_ft(w, f, r, n); else power_ff(w, f, r, n); }
 }
 
-/* Every set of `fixed`, at least one of `must`, and any of `free`: by the first of `must` that is taken. */
-static void power_with(Search *w, const Sums *fixed, const Sums *must, int nm, const Sums *free, int nf, int full, int rock) {
+/* The same with any choice of the trains: without its LL row none of a train's rows is taken, with it they are free.
+   `rows` has room for them. */
+static void power_trains(Search *w, const Sums *fixed, Sums *rows, int n, const Train *t, int nt, int full, int rock) {
+    if (nt == 0) { power_of(w, fixed, rows, n, full, rock); return; }
+    power_trains(w, fixed, rows, n, t + 1, nt - 1, full, rock);
+    Sums f = plus(*fixed, &t->lead);
+    memcpy(rows + n, t->rows, t->n * sizeof(Sums));
+    power_trains(w, &f, rows, n + t->n, t + 1, nt - 1, full, rock);
+}
+
+/* Every set of the fixed rows, at least one of `must`, and any other: by the first of `must` that is taken. */
+static void power_with(Search *w, const Choice *c, const Sums *must, int nm, int full, int rock) {
     Sums rows[16];
     for (int i = 0; i < nm; i++) {
         int rest = nm - i - 1;
         memcpy(rows, must + i + 1, rest * sizeof(Sums));
-        memcpy(rows + rest, free, nf * sizeof(Sums));
-        Sums f = plus(*fixed, &must[i]);
-        power_of(w, &f, rows, rest + nf, full, rock);
+        memcpy(rows + rest, c->plain, c->np * sizeof(Sums));
+        Sums f = plus(c->fixed, &must[i]);
+        power_trains(w, &f, rows, rest + c->np, c->trains, c->nt, full, rock);
+    }
+}
+
+INLINE int phase(const Load *o) { return o->n[o->kind == KW ? 5 : 4]; }
+
+/* The LL row `at` as the head of a train; 0 if no row outside phase `other` names it. */
+static int add_train(Choice *c, const Job *j, const Sums *rows, int at, int other) {
+    Train *t = &c->trains[c->nt];
+    t->n = 0;
+    for (int i = 0; i < j->count; i++) {
+        const Load *o = &j->loads[i];
+        if (train_kind(o->kind) && o->n[5] == at + 1 && phase(o) != other) t->rows[t->n++] = rows[i];
+    }
+    if (t->n == 0) return 0;
+    t->lead = rows[at];
+    c->nt++;
+    return 1;
+}
+
+/* The rows of a job that are not of phase `other`, sorted. */
+static void choose(Choice *c, const Job *j, const Sums *rows, int other) {
+    memset(&c->fixed, 0, sizeof c->fixed);
+    c->np = c->nw = c->nq = c->nt = 0;
+    for (int i = 0; i < j->count; i++) {
+        int kind = j->loads[i].kind;
+        if (phase(&j->loads[i]) == other || train_kind(kind)) continue;
+        if (kind == KWL) c->wind[c->nw++] = rows[i];
+        else if (kind == KSF) c->quake[c->nq++] = rows[i];
+        else if (kind <= KEP) c->fixed = plus(c->fixed, &rows[i]);
+        else if (kind != KLL || !add_train(c, j, rows, i, other)) c->plain[c->np++] = rows[i];
     }
 }
 
@@ -419,13 +466,6 @@ static int lines_of(const Job *j, const char *name, const Search *s, u64 over, u
     return y;
 }
 
-static void add(Choice *c, int kind, const Sums *s) {
-    if (kind == KWL) c->wind[c->nw++] = *s;
-    else if (kind == KSF) c->quake[c->nq++] = *s;
-    else if (kind <= KEP) c->fixed = plus(c->fixed, s);
-    else c->plain[c->np++] = *s;
-}
-
 /* 0, or the refusal of the job. */
 static u32 lines(const Job *j) {
     if (j->out_of_range) return 11;
@@ -446,55 +486,52 @@ static u32 lines(const Job *j) {
     if (j->has_clear && j->clear[2] > j->clear[1]) return 14;
 
     i64 b = j->base[0], l = j->base[1], p = j->base[2], friction = j->base[3];
-    Choice service, erection;
-    memset(&service.fixed, 0, sizeof(Sums));
-    memset(&erection.fixed, 0, sizeof(Sums));
-    service.np = service.nw = service.nq = erection.np = erection.nw = erection.nq = 0;
-    int some_1 = 0, optional = 0, upside_down = 0;
+    Sums rows[MAX_LOADS];
+    int some_1 = 0, optional = 0;
+    u32 bad = 0; /* a bit for each refusal; the lowest is given */
     for (int i = 0; i < j->count; i++) {
         const Load *o = &j->loads[i];
-        Sums s;
+        const i32 *n = o->n;
         if (o->kind == KE) {
-            u64 k = table2[o->n[0] - 1][o->n[1] - 1], ht = o->n[2];
-            if (k == 0) return 15;
-            s = sums_row(b, i, 0, 0, div_up(k * ht * ht * o->n[3], 2000000000000ull), div_up(ht, 3));
+            u64 k = table2[n[0] - 1][n[1] - 1], ht = n[2];
+            if (k == 0) bad |= 1u << 15;
+            rows[i] = sums_row(b, i, 0, 0, div_up(k * ht * ht * n[3], 2000000000000ull), div_up(ht, 3));
         } else if (o->kind == KW) {
-            u64 v = o->n[2];
-            upside_down |= o->n[3] < o->n[4];
-            s = sums_row(b, i, 0, 0, div_up(table4[o->n[0] - 1] * o->n[1] * v * v * 196133, 2000000000000000ull), div_up(2 * o->n[3] + o->n[4], 3));
-        } else s = sums_row(b, i, o->n[0], o->n[1], o->n[2], o->n[3]);
-        optional += o->kind > KEP;
-        int phase = o->n[o->kind == KW ? 5 : 4];
-        some_1 |= phase == 1;
-        if (optional <= 12) {
-            if (phase != 1) add(&service, o->kind, &s);
-            if (phase != 0) add(&erection, o->kind, &s);
+            u64 v = n[2];
+            if (n[3] < n[4]) bad |= 1u << 17;
+            rows[i] = sums_row(b, i, 0, 0, div_up(table4[n[0] - 1] * n[1] * v * v * 196133, 2000000000000000ull), div_up(2 * n[3] + n[4], 3));
+        } else {
+            if (train_kind(o->kind) && (n[5] > j->count || j->loads[n[5] - 1].kind != KLL)) bad |= 1u << 18;
+            rows[i] = sums_row(b, i, n[0], n[1], n[2], n[3]);
         }
+        optional += o->kind > KEP;
+        some_1 |= phase(o) == 1;
     }
-    if (optional > 12) return 16;
-    if (upside_down) return 17;
+    if (optional > MAX_OPTIONAL) bad |= 1u << 16;
+    if (bad) return __builtin_ctz(bad);
 
     head(j);
     PUT("VERDICT,");
     u32 at = out_len;
     PUT("A,,,\r\n");
     int y = 1;
+    Choice c;
+    choose(&c, j, rows, 1);
     Search s = fresh(b, l, friction);
-    power_of(&s, &service.fixed, service.plain, service.np, 1, rock);
+    power_trains(&s, &c.fixed, c.plain, c.np, c.trains, c.nt, 1, rock);
     y &= lines_of(j, "I-", &s, 200, 150, p, 1, rock);
     s = fresh(b, l, friction);
-    power_with(&s, &service.fixed, service.wind, service.nw, service.plain, service.np, 1, rock);
+    power_with(&s, &c, c.wind, c.nw, 1, rock);
     y &= lines_of(j, "II-", &s, 150, 125, p * 4 / 3, 1, rock);
     s = fresh(b, l, friction);
-    power_with(&s, &service.fixed, service.quake, service.nq, service.plain, service.np, 1, rock);
+    power_with(&s, &c, c.quake, c.nq, 1, rock);
     y &= lines_of(j, "III-", &s, 150, 125, p * 4 / 3, 1, rock);
     if (some_1) {
-        Sums rows[16];
+        choose(&c, j, rows, 0);
         s = fresh(b, l, friction);
-        memcpy(rows, erection.plain, erection.np * sizeof(Sums));
-        memcpy(rows + erection.np, erection.wind, erection.nw * sizeof(Sums));
-        power_of(&s, &erection.fixed, rows, erection.np + erection.nw, 0, rock);
-        power_with(&s, &erection.fixed, erection.quake, erection.nq, erection.plain, erection.np, 0, rock);
+        power_with(&s, &c, c.quake, c.nq, 0, rock);
+        memcpy(c.plain + c.np, c.wind, c.nw * sizeof(Sums));
+        power_trains(&s, &c.fixed, c.plain, c.np + c.nw, c.trains, c.nt, 0, rock);
         y &= lines_of(j, "IV-", &s, 0, 0, p * 7 / 5, 0, rock);
     }
     if (j->has_scour && !rock) {
