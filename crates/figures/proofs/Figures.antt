@@ -2,6 +2,7 @@
 use mathlib.Core.Path.{refl}
 use native.Mathlib.Nat.{not-le-of-lt}
 use lib.Dec.{lit<, lit≤}
+use Rattle.arithmetic.proofs.Cases.{impossible}
 use Rattle.arithmetic.proofs.rounding.Compute.{up-test, cube-test, cube-test′}
 use Rattle.scour.specs.discharge.Discharge.{to-500, to-5000, to-25000}
 use Rattle.earth.specs.Earth.{has-coefficient}
@@ -12,9 +13,9 @@ use Rattle.sums.specs.Totals.{counted, sum, arm, v-moment, h-moment, resists, o
 use Rattle.checks.specs.ranks.Figures.{Presses}
 use Rattle.kinds.specs.classes.Classes.{class-of, optional}
 use Rattle.loads.specs.LoadRows.{optionals}
-use Rattle.figures.specs.Figures.{needed, optional-rows, position, named, no-set, pressure, pressure-either, AllHold, none, more, starred, worked, trained}
+use Rattle.figures.specs.Figures.{needed, optional-rows, position, named, braked-set, pressure, pressure-either, AllHold, none, more, starred, worked, trained}
 use Rattle.figures.proofs.Loaded.{overturns-test}
-use Rattle.figures.proofs.Trained.{position-0, braking-ranged, position-17, first-named, second-named, itself-named, past-named, without-train}
+use Rattle.figures.proofs.Trained.{position-0, braking-ranged, position-17, first-named, second-named, itself-named, past-named, braked-permitted, without-train}
 
 pub figures : AllHold starred
 unfolding worth amount bit row sum counted resists overturns v-moment h-moment arm above below resisting overturning Presses
@@ -59,6 +60,7 @@ worked-figures =
     none)))))))))))
 
 pub train-figures : AllHold trained
+unfolding bit
 train-figures =
     more {x = position _ _} position-0
     (more {x = position _ _} (braking-ranged 1 (lit≤ tt) (lit≤ tt))
@@ -68,5 +70,8 @@ train-figures =
     (more {x = named _ _} second-named
     (more {x = named _ _} itself-named
     (more {x = named _ _} past-named
-    (more {x = no-set _} without-train
-    none))))))))
+    (more {x = braked-set _ _} (braked-permitted 1 (lit< tt) refl (λ b. impossible cc))
+    (more {x = braked-set _ _} (braked-permitted 3 (lit< tt) refl (λ b. refl))
+    (more {x = braked-set _ _} without-train
+    (more {x = braked-set _ _} (braked-permitted 7 (lit< tt) refl (λ b. refl))
+    none)))))))))))

@@ -1,4 +1,4 @@
--- What one DL row exerts, the loads of that row alone, and OP of the set of it: by a test that is computed of what resists and what overturns.
+-- What a row of its own forces exerts, the loads of one DL row alone, and OP of the set of it: by a test that is computed of what resists and what overturns.
 use mathlib.Core.Path.{refl, subst⁻¹}
 use mathlib.Core.List.{[], _∷_}
 use Prim.Native.Nat.{ℕ, zero, suc, _*_}
@@ -8,6 +8,7 @@ use lib.ListN.{replicate}
 use Rattle.arithmetic.proofs.rounding.Compute.{is-down, down-test}
 use Rattle.earth.specs.table2.Table2.{table2-fill}
 use Rattle.arithmetic.specs.signed.Whole.{signed, amount}
+use Rattle.sets.specs.declared.Class.{Class}
 use Rattle.sets.specs.declared.Class.the-variants.{Permanent}
 use Rattle.sets.specs.declared.Load.{Load}
 use Rattle.sets.specs.declared.Loads.{Loads}
@@ -21,28 +22,28 @@ use Rattle.loads.specs.forces.Exerts.{Forces, Exerts}
 use Rattle.loads.specs.LoadRows.{Laid, AreLoads}
 use Rattle.figures.specs.Figures.{dead-load, Overturns}
 
-no-more : (n : ℕ) → Laid table2-fill [] (replicate n no-load)
+pub no-more : (n : ℕ) → Laid table2-fill [] (replicate n no-load)
 unfolding Laid
 no-more zero = tt
 no-more (suc n) = (refl, no-more n)
 
+abbrev pub exerted : Class → (train v x h y : ℕ) → Load
+exerted class train v x h y =
+    record {
+      class = class;
+      phase = 0;
+      train = train;
+      v = amount (pos v);
+      x = amount (pos x);
+      h = amount (pos h);
+      twist = amount (pos h *ℤ pos y);
+    }
+
 module _ (v x h y : ℕ) where
-  abbrev pub exerted : Load
-  exerted =
-      record {
-        class = Permanent;
-        phase = 0;
-        train = 0;
-        v = amount (pos v);
-        x = amount (pos x);
-        h = amount (pos h);
-        twist = amount (pos h *ℤ pos y);
-      }
-
   abbrev pub alone : Loads
-  alone = record { count = 1; loads = exerted ∷ replicate 15 no-load }
+  alone = record { count = 1; loads = exerted Permanent 0 v x h y ∷ replicate 15 no-load }
 
-  exerts : Exerts table2-fill (dead-load v x h y) exerted
+  pub exerts : Exerts table2-fill (dead-load v x h y) (exerted Permanent 0 v x h y)
   unfolding class-of source Forces signed
   exerts = record { class = refl; phase = refl; train = refl; forces = record { v = refl; x = refl; h = refl; twist = refl } }
 

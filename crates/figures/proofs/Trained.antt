@@ -1,22 +1,31 @@
--- Which positions of an LF row are in range, and which of them name an LL row; and a set of DL and LF without the LL row that LF names has no train.
-use mathlib.Core.Path.{_≡_, refl, sym, subst}
-use mathlib.Core.List.{List, [], _∷_}
-use Prim.Native.Nat.{ℕ, _≤_, _<_}
+-- Which positions of an LF row are in range, and which of them name an LL row; and which sets of DL, LL and LF are permitted: LF with its train, and not without.
+use mathlib.Core.Path.{_≡_, refl, sym, _∙_}
+use mathlib.Core.Logic.{inl}
+use mathlib.Core.Bool.{true, false}
+use mathlib.Core.List.{_∷_}
+use Prim.Native.Nat.{ℕ, zero, suc, _≤_, _<_}
 use native.Mathlib.Nat.{not-le-of-lt}
+use native.Mathlib.Omega.{arith}
 use lib.Dec.{lit≤, lit<}
-use lib.ListN.{getD}
+use lib.ListN.{replicate}
+use Rattle.arithmetic.specs.signed.Whole.{signed}
 use Rattle.arithmetic.proofs.Cases.{impossible, unlike}
 use Rattle.arithmetic.proofs.Deciding.{not-both}
 use Rattle.fields.specs.Numbers.{positive}
 use Rattle.kinds.specs.declared.Kind.the-variants.{LF}
 use Rattle.kinds.specs.ranges.Range.{Around, Ranged}
+use Rattle.kinds.specs.classes.Classes.{class-of, source}
 use Rattle.earth.specs.table2.Table2.{table2-fill}
+use Rattle.sets.specs.declared.Class.{Class}
+use Rattle.sets.specs.declared.Class.the-variants.{Permanent, Free, Wind, Earthquake}
 use Rattle.sets.specs.declared.Combination.the-variants.{I}
-use Rattle.sets.specs.declared.Load.{Load}
 use Rattle.sets.specs.declared.Loads.{Loads}
-use Rattle.sets.specs.Sets.{no-load, row, bit, HasTrain, Permitted}
+use Rattle.sets.specs.Sets.{no-load, row, bit, own-phase, Acts, Has, Mixed, HasTrain, Permitted}
+use Rattle.sets.proofs.Bits.{first-bit}
+use Rattle.loads.specs.forces.Exerts.{Forces}
 use Rattle.loads.specs.LoadRows.{Every, LiveAt, NamesLive, AllNamed, Laid, AreLoads}
-use Rattle.figures.specs.Figures.{braking, braked}
+use Rattle.figures.specs.Figures.{braking, braked, Permits}
+use Rattle.figures.proofs.Loaded.{exerted, exerts, no-more}
 
 around : (n limit : ℕ) → n ≤ limit → Around limit limit (positive n)
 around n limit h = record { filled = refl; under = λ e. absurd (not-both e refl); over = λ _. h }
@@ -54,16 +63,56 @@ pub past-named : AllNamed (braked 4) → ⊥
 unfolding Every LiveAt NamesLive
 past-named all = all .1 .1 .0
 
-third-train : (loads : List Load) → Laid table2-fill (braked 2) loads → getD loads 2 no-load .train ≡ 2
-unfolding Laid
-third-train [] l = absurd l
-third-train (x ∷ []) l = absurd (l .1)
-third-train (x ∷ y ∷ []) l = absurd (l .1 .1)
-third-train (x ∷ y ∷ z ∷ loads) l = l .1 .1 .0 .train
+-- ---- the sets of I
+braked-loads : Loads
+braked-loads =
+    record {
+      count = 3;
+      loads = exerted Permanent 0 6000 0 0 0 ∷ exerted Free 0 0 0 0 0 ∷ exerted Free 2 0 0 300 6000 ∷ replicate 13 no-load;
+    }
 
-pub without-train : (loads : Loads) → AreLoads table2-fill (braked 2) loads → Permitted I loads 5 → ⊥
-unfolding row bit HasTrain
-without-train loads are p =
-    let third = subst (λ (m : ℕ). 2 < m) (sym (are .count)) (lit< tt) in
-    let led = subst (λ (t : ℕ). HasTrain t 5) (third-train (loads .loads) (are .laid)) (p .trained 2 third refl) in
-    unlike 0 1 refl led
+braked-are : AreLoads table2-fill (braked 2) braked-loads
+unfolding braked-loads Laid class-of source Forces signed
+braked-are =
+    record {
+      count = refl;
+      places = refl;
+      laid = (
+        exerts 6000 0 0 0,
+        (
+          record { class = refl; phase = refl; train = refl; forces = record { v = refl; x = refl; h = refl; twist = refl } },
+          (record { class = refl; phase = refl; train = refl; forces = record { v = refl; x = refl; h = refl; twist = refl } }, no-more 13),
+        ),
+      );
+    }
+
+-- of the three rows, one by one
+of-three : (P : ℕ → Type 0) → P 0 → P 1 → P 2 → (i : ℕ) → i < 3 → P i
+of-three P a b c zero h = a
+of-three P a b c (suc zero) h = b
+of-three P a b c (suc (suc zero)) h = c
+of-three P a b c (suc (suc (suc i))) h = absurd (omega arith)
+
+-- a set with DL, in which LF has its train
+permitted-with : (set : ℕ) → set < 8 → bit set 0 ≡ 1 → (bit set 2 ≡ 1 → bit set 1 ≡ 1) → Permitted I braked-loads set
+unfolding braked-loads row Acts own-phase Has Mixed HasTrain
+permitted-with set low dead led =
+    record {
+      some = omega (arith, sym (first-bit set) ∙ dead);
+      within = low;
+      permanent = of-three (λ i. (row braked-loads i) .class ≡ Permanent → Acts I ((row braked-loads i) .phase) → bit set i ≡ 1) (λ e a. dead) (λ e a. impossible cc) (λ e a. impossible cc);
+      acting = of-three (λ i. bit set i ≡ 1 → Acts I ((row braked-loads i) .phase)) (λ b. inl refl) (λ b. inl refl) (λ b. inl refl);
+      mixed = (none-of Wind (λ e. impossible cc) (λ e. impossible cc), none-of Earthquake (λ e. impossible cc) (λ e. impossible cc));
+      trained = of-three (λ i. bit set i ≡ 1 → HasTrain ((row braked-loads i) .train) set) (λ b. tt) (λ b. tt) led;
+      erection = λ e. impossible cc;
+    }
+  where
+    none-of : (class : Class) → (Permanent ≡ class → ⊥) → (Free ≡ class → ⊥) → Has class braked-loads set → ⊥
+    none-of class p f w = of-three (λ i. (row braked-loads i) .class ≡ class → ⊥) p f f (w .0) (w .1) (w .3)
+
+pub braked-permitted : (set : ℕ) → set < 8 → bit set 0 ≡ 1 → (bit set 2 ≡ 1 → bit set 1 ≡ 1) → Permits (braked 2) set true
+braked-permitted set low dead led = record { loads = braked-loads; its-loads = braked-are; decides = permitted-with set low dead led }
+
+pub without-train : Permits (braked 2) 5 false
+unfolding row bit HasTrain braked-loads
+without-train = record { loads = braked-loads; its-loads = braked-are; decides = λ p. unlike 0 1 refl (p .trained 2 (lit< tt) refl) }

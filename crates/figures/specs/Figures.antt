@@ -55,6 +55,12 @@ pub record Overturns (B : ℕ) (row : Row) (figure : ℕ) : Type 0 where
   pub its-loads : AreLoads table2-fill (row ∷ []) loads
   pub shows : (base : Base) → base .width ≡ B → Shows OP base loads 1 (Number figure)
 
+-- whether I permits a set, where the loads are those of these rows and of no other
+pub record Permits (rows : List Row) (set : ℕ) (permitted : Bool) : Type 0 where
+  pub loads : Loads
+  pub its-loads : AreLoads table2-fill rows loads
+  pub decides : Decides permitted (Permitted I loads set)
+
 -- PR by either rule
 pub record PressesEither (B L N M figure : ℕ) : Type 0 where
   pub presses : Presses B L N M (Number figure)
@@ -74,7 +80,7 @@ pub data WorkedFigure : Type 0 where
   optional-rows : (live currents count : ℕ) → WorkedFigure
   position : (n : ℕ) (ranged : Bool) → WorkedFigure
   named : (n : ℕ) (live : Bool) → WorkedFigure
-  no-set : (set : ℕ) → WorkedFigure
+  braked-set : (set : ℕ) (permitted : Bool) → WorkedFigure
   overturning : (B v x h y figure : ℕ) → WorkedFigure
   pressure : (B L N M figure : ℕ) → WorkedFigure
   pressure-either : (B L N M figure : ℕ) → WorkedFigure
@@ -92,7 +98,7 @@ Holds (current shape area velocity upper lower H y) =
 Holds (optional-rows live currents count) = optionals (replicate live (row-of LL) ++ replicate currents (row-of kind.W)) ≡ count
 Holds (position n ranged) = Decides ranged (Ranged LF (braking n .numbers))
 Holds (named n live) = Decides live (AllNamed (braked n))
-Holds (no-set set) = (loads : Loads) → AreLoads table2-fill (braked 2) loads → Permitted I loads set → ⊥
+Holds (braked-set set permitted) = Permits (braked 2) set permitted
 Holds (overturning B v x h y figure) = Overturns B (dead-load v x h y) figure
 Holds (pressure B L N M figure) = Presses B L N M (Number figure)
 Holds (pressure-either B L N M figure) = PressesEither B L N M figure
@@ -151,7 +157,7 @@ worked =
     ∷ []
 
 -- P3, braking needs a train. n6 of LF: 0 and 17 are out of range, and 1 and 16 in it. LF behind DL and LL names LL as the second of all the load
--- rows: the first is DL, the third itself, and there is no fourth. DL and LF without LL, 5, are no set of I.
+-- rows: the first is DL, the third itself, and there is no fourth. DL and LF without LL, 5, are no set of I; DL alone, DL and LL, and all three are.
 abbrev pub trained : List WorkedFigure
 trained =
     position 0 false
@@ -162,5 +168,8 @@ trained =
     ∷ named 2 true
     ∷ named 3 false
     ∷ named 4 false
-    ∷ no-set 5
+    ∷ braked-set 1 true
+    ∷ braked-set 3 true
+    ∷ braked-set 5 false
+    ∷ braked-set 7 true
     ∷ []
