@@ -10,7 +10,8 @@ use Rattle.arithmetic.proofs.Cases.{impossible}
 use Rattle.csv.specs.rfc4180.Rfc4180.{Cell, Readable}
 use Rattle.csv.proofs.notes.Reached.{RowReached, reached-start, reached-more, reached-last, reached-many}
 use Rattle.rows.specs.Form.{BookRow, Form}
-use Rattle.rows.specs.Answer.{raw, RowGiven, RowSeen, SeenAt}
+use Rattle.csv.specs.cells.Standing.{raw}
+use Rattle.rows.specs.Answer.{RowGiven, RowSeen, SeenAt}
 use Rattle.rows.specs.declared.keys.Key.{Key}
 use Rattle.rows.specs.declared.RowRead.{RowRead}
 use Rattle.jobs.specs.Place.{InPlace, grown}

@@ -1,4 +1,5 @@
 -- Laws of the cells of a row. Other crates' proofs cite them.
 pub mod Fields
+pub mod Standing
 pub mod Answers
 mod Noted

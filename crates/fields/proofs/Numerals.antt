@@ -83,7 +83,7 @@ digits-plain (b ∷ s) h =
     let t = d .to in
     text {b = b} (high (omega arith) (omega arith)) (digits-plain s (λ k l. h (suc k) (suc-le-suc l)))
 
-number-plain : (e : Entry) (c : List ℕ) → IsNumber c e → Plain c
+pub number-plain : (e : Entry) (c : List ℕ) → IsNumber c e → Plain c
 number-plain e c (is-positive d q) = digits-plain c (numeral-digit (d .numeral))
 number-plain e c (is-negative {s} f d l q) = rw f (text {b = 0x2D} (high (omega arith) (omega arith)) (digits-plain s (numeral-digit (d .numeral))))
 

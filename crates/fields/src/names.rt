@@ -1,10 +1,10 @@
 // The names of a job book, its members and jobs (document 01, the job book: "1 to 12 of A-Z, 0-9, hyphen").
 //
-// The answer for a stretch is exact whether or not it is a field of RFC 4180. A name is a value of its own: its bytes with zeros behind
+// The answer for a content is exact for any bytes, and that for a stretch whether or not it is a field of RFC 4180. A name is a value of its own: its bytes with zeros behind
 // them, so that one content gives one name, and two contents two.
 ghost use mathlib.Core.Path.{_≡_};
-ghost use Rattle.fields.specs.names.NameAt.{no-name};
-ghost use Rattle.fields.specs.names.NameAt.{NameAt};
+ghost use Rattle.fields.specs.names.Names.{no-name};
+ghost use Rattle.fields.specs.names.NameAt.{ContentNamed, NameAt};
 
 // A member or a job: its bytes, with zeros behind them.
 pub struct Name {
@@ -28,11 +28,10 @@ pub fn blank_name() -> Name
     }
 }
 
-// The name that a field is.
-pub fn name_at(raw: &[u8]) -> NameRead
-    ensures { λ r. ⌜ NameAt (now (raw .entry)) r ⌝ }
+// The name that a content is.
+pub fn name_of(content: &[u8]) -> NameRead
+    ensures { λ r. ⌜ ContentNamed (r .good) (now (content .entry)) (r .name) ⌝ }
 {
-    let content = crate::content::bare(raw);
     let n = content.len();
     let mut good = (1 <= n) & (n <= 12);
     let mut bytes = [0u8; 12];
@@ -50,4 +49,11 @@ pub fn name_at(raw: &[u8]) -> NameRead
         blank_name()
     };
     NameRead { good, name }
+}
+
+// The name that a field is.
+pub fn name_at(raw: &[u8]) -> NameRead
+    ensures { λ r. ⌜ NameAt (now (raw .entry)) r ⌝ }
+{
+    name_of(crate::content::bare(raw))
 }

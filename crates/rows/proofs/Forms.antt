@@ -8,6 +8,7 @@ use lib.ListN.{length, getD, drop, drop-of-length-le}
 use lib.Seq.{drop-cons}
 use Rattle.csv.specs.rfc4180.Rfc4180.{Cell, File, Readable}
 use Rattle.csv.specs.cells.Cells.{no-cell}
+use Rattle.csv.specs.cells.Standing.{raw, content}
 use Rattle.csv.proofs.rfc4180.First.{first, some-row}
 use Rattle.fields.specs.names.Names.{NameOf}
 use Rattle.kinds.specs.Table.{columns, letters}
@@ -17,7 +18,7 @@ use Rattle.kinds.specs.declared.Numbers.{Numbers}
 use Rattle.kinds.proofs.letters.Letters.{letters-one}
 use Rattle.kinds.proofs.Answers.{means-one}
 use Rattle.rows.specs.Form.{BookRow, Ten, cells-of, Six, Form}
-use Rattle.rows.specs.Answer.{raw, content, first-ten, RowGiven, SeenAt}
+use Rattle.rows.specs.Answer.{first-ten, RowGiven, SeenAt}
 use Rattle.rows.specs.declared.keys.Keyed.{Keyed}
 use Rattle.rows.specs.declared.RowRead.{RowRead}
 

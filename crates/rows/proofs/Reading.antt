@@ -10,9 +10,10 @@ use Rattle.csv.proofs.rfc4180.Unique.{content-unique}
 use Rattle.arithmetic.proofs.Tests.{AllSix, all-six, decides-six}
 use Rattle.arithmetic.specs.decides.Decides.{Decides}
 use Rattle.arithmetic.proofs.Deciding.{decides-both, decides-flag}
-use Rattle.csv.specs.cells.Cells.{offset, RowAt, CellAt}
+use Rattle.csv.specs.cells.Cells.{RowAt, CellAt}
+use Rattle.csv.specs.cells.Standing.{raw, content, Standing}
 use Rattle.csv.specs.declared.cells.Cells.{Cells}
-use Rattle.csv.proofs.cells.Fields.{row-fields}
+use Rattle.csv.proofs.cells.Standing.{standing, cell-field}
 use Rattle.fields.specs.names.Names.{NameOf}
 use Rattle.fields.specs.names.NameAt.{NameIn, NameGiven, NameAt}
 use Rattle.fields.specs.Entries.{EntryAt}
@@ -30,29 +31,24 @@ use Rattle.kinds.specs.declared.Numbers.{Numbers}
 use Rattle.kinds.proofs.letters.Letters.{letters-one}
 use Rattle.rows.specs.Form.{BookRow, Six, Form}
 use Rattle.rows.specs.keys.Keyed.{no-row}
-use Rattle.rows.specs.Answer.{raw, content, first-ten, RowSeen}
-use Rattle.rows.specs.steps.Numbers.{TenAt, entered, NumbersGiven}
+use Rattle.rows.specs.Answer.{first-ten, RowSeen}
+use Rattle.rows.specs.steps.Numbers.{entered, NumbersGiven}
 use Rattle.rows.specs.declared.EntryRead.{EntryRead}
 use Rattle.rows.specs.declared.RowRead.{RowRead}
 use Rattle.rows.specs.declared.keys.Keyed.{Keyed}
 use Rattle.rows.proofs.Forms.{form-length, kind-is, numbers-are}
 
-module _ {s : List ℕ} {c : Cells} {cs : List Cell} (t : TenAt s c cs) where
+module _ {s : List ℕ} {c : Cells} {cs : List Cell} (t : Standing 10 s c cs) where
   -- a cell's stretch is a field of its content
   module _ (k : ℕ) (r : List ℕ) (h : k < 10) (a : CellAt s c k r) where
-    pub cell-field : Field r (content cs k)
-    cell-field =
-        let w = t .stands k h in
-        let p = w .starts in
-        let q = w .ends in
-        let e : r ≡ raw cs k = a .there (record { few = h; order = omega arith; within = w .within }) ∙ w .is in
-        subst (λ (l : List ℕ). Field l (content cs k)) (sym e) (t .field k h)
+    is-field : Field r (content cs k)
+    is-field = cell-field t (omega arith) k r h a
 
     -- so the content is what the stretch was found to be
     pub cell-name : (n : NameRead) → n .good ≡ true → NameAt r n → NameOf (content cs k) (n .name)
     cell-name n g p =
         let w : NameIn r (n .name) = subst (λ (b : Bool). NameGiven b r (n .name)) g p in
-        let e = content-unique (w .field) cell-field in
+        let e = content-unique (w .field) is-field in
         subst (λ (l : List ℕ). NameOf l (n .name)) e (w .named)
 
     pub cell-good : (n : NameRead) → NameAt r n → (m : Name) → NameOf (content cs k) m → n .good ≡ true
@@ -60,26 +56,26 @@ module _ {s : List ℕ} {c : Cells} {cs : List Cell} (t : TenAt s c cs) where
       where
         go : (b : Bool) → NameGiven b r (n .name) → b ≡ true
         go true q = refl
-        go false q = absurd (q .0 m (record { content = content cs k; field = cell-field; named = w }))
+        go false q = absurd (q .0 m (record { content = content cs k; field = is-field; named = w }))
 
     pub cell-kind : (kind : Kind) → KindAt r (Known kind) → content cs k ≡ letters kind
-    cell-kind kind p = content-unique cell-field p
+    cell-kind kind p = content-unique is-field p
 
     pub cell-no-kind : KindAt r Unknown → (kind : Kind) → content cs k ≡ letters kind → ⊥
-    cell-no-kind p kind e = p kind (subst (λ (l : List ℕ). Field r l) e cell-field)
+    cell-no-kind p kind e = p kind (subst (λ (l : List ℕ). Field r l) e is-field)
 
     module _ (column : Column) (x : EntryRead) (p : EntryAt (Means column) r (entered (x .good) (x .entry))) where
       pub cell-entry : x .good ≡ true → Means column (content cs k) (x .entry)
       cell-entry e =
           let w = subst (λ (b : Bool). EntryAt (Means column) r (entered b (x .entry))) e p in
-          subst (λ (l : List ℕ). Means column l (x .entry)) (content-unique (w .field) cell-field) (w .is)
+          subst (λ (l : List ℕ). Means column l (x .entry)) (content-unique (w .field) is-field) (w .is)
 
       pub cell-filled : (y : Entry) → Means column (content cs k) y → x .good ≡ true
       cell-filled y m = go (x .good) p
         where
           go : (b : Bool) → EntryAt (Means column) r (entered b (x .entry)) → b ≡ true
           go true q = refl
-          go false q = absurd (q y (record { content = content cs k; field = cell-field; is = m }))
+          go false q = absurd (q y (record { content = content cs k; field = is-field; is = m }))
 
 -- six flags by one
 module _ (a b c d e f : Bool) where
@@ -107,22 +103,16 @@ numbers-good kind cs e true n h q f = refl
 numbers-good kind cs e false n h q f = absurd (no-numbers kind cs e h q f)
 
 module _ {s : List ℕ} {start : ℕ} {r : Cells} (h : RowAt s start r) (cs : List Cell) (css : List (List Cell)) (q : File (drop start s) (cs ∷ css)) where
-  ten-at : r .count ≡ 10 → TenAt s r cs
-  ten-at n =
-      let i = h cs css q in
-      let t : length cs ≡ 10 = sym (i .count) ∙ n in
-      record { ten = t; place = λ k. start + offset cs k; stands = λ k l. i .stretches k l (omega arith); field = λ k l. row-fields q k (omega arith) }
-
-  pub seen-row : r .count ≡ 10 → (k : Keyed) → (TenAt s r cs → Form cs (record { keyed = k; note = raw cs 9 })) → RowSeen s start cs css (record { good = true; row = k; next = r .next })
+  pub seen-row : r .count ≡ 10 → (k : Keyed) → (Standing 10 s r cs → Form cs (record { keyed = k; note = raw cs 9 })) → RowSeen s start cs css (record { good = true; row = k; next = r .next })
   seen-row n k f =
       let i = h cs css q in
-      record { means = f (ten-at n); behind = i .behind; on = i .on; rest = i .rest }
+      record { means = f (standing h cs css q (omega arith) n); behind = i .behind; on = i .on; rest = i .rest }
 
-  pub seen-none : (u : RowRead) → (u .good ≡ false) × (u .row ≡ no-row) × (u .next ≡ r .next) → (r .count ≡ 10 → TenAt s r cs → (b : BookRow) → Form cs b → ⊥) → RowSeen s start cs css u
+  pub seen-none : (u : RowRead) → (u .good ≡ false) × (u .row ≡ no-row) × (u .next ≡ r .next) → (r .count ≡ 10 → Standing 10 s r cs → (b : BookRow) → Form cs b → ⊥) → RowSeen s start cs css u
   seen-none u e n =
       let i = h cs css q in
       let p : u ≡ record { good = false; row = no-row; next = r .next } = λ t. record { good = e .0 t; row = e .1 t; next = e .2 t } in
-      let none : (b : BookRow) → Form cs b → ⊥ = λ b f. let m : r .count ≡ 10 = i .count ∙ form-length f in n m (ten-at m) b f in
+      let none : (b : BookRow) → Form cs b → ⊥ = λ b f. let m : r .count ≡ 10 = i .count ∙ form-length f in n m (standing h cs css q (omega arith) m) b f in
       subst (RowSeen s start cs css) (sym p) (record { means = (none, refl); behind = i .behind; on = i .on; rest = i .rest })
 
 -- the test of a row's names and numbers

@@ -6,19 +6,13 @@ use mathlib.Core.List.{List, _∷_}
 use lib.ListN.{length, getD, drop}
 use Rattle.csv.specs.rfc4180.Rfc4180.{Cell, File}
 use Rattle.csv.specs.cells.Cells.{no-cell, offset, Rest}
+use Rattle.csv.specs.cells.Standing.{raw}
 use Rattle.rows.specs.Form.{BookRow, Ten, Form}
 use Rattle.rows.specs.keys.Keyed.{no-row}
 use Rattle.rows.specs.declared.keys.Keyed.{Keyed}
 use Rattle.rows.specs.declared.RowRead.{RowRead}
 
--- a cell of a row by its place, the first being 0
-abbrev pub raw : List Cell → ℕ → List ℕ
-raw cs k = getD cs k no-cell .raw
-
-abbrev pub content : List Cell → ℕ → List ℕ
-content cs k = getD cs k no-cell .content
-
--- the first ten of them
+-- the first ten cells of a row
 abbrev pub first-ten : List Cell → Ten
 first-ten cs = record {
   member = getD cs 0 no-cell;

@@ -16,8 +16,7 @@ use Rattle.fields.specs.content.Content.{Bare}
 use Rattle.arithmetic.specs.decides.Decides.{Decides}
 use Rattle.arithmetic.proofs.Deciding.{not-both, decides-same, decides-either, decides-equal}
 use Rattle.arithmetic.proofs.Tests.{decides-within}
-use Rattle.fields.specs.names.Names.{Letter, hyphen, digit, upper, IsName}
-use Rattle.fields.specs.names.NameAt.{no-name}
+use Rattle.fields.specs.names.Names.{Letter, hyphen, digit, upper, IsName, no-name}
 use Rattle.fields.specs.names.NameAt.{NameGiven, ContentNamed}
 use Rattle.fields.specs.declared.names.Name.{Name}
 use Rattle.fields.proofs.content.Contents.{bare-field, content-none}

@@ -2,15 +2,11 @@
 use Prim.Native.Nat.{ℕ}
 use mathlib.Core.Path.{_≡_}
 use mathlib.Core.Bool.{Bool, true, false}
-use mathlib.Core.List.{List, []}
+use mathlib.Core.List.{List}
 use Rattle.csv.specs.rfc4180.Rfc4180.{Field}
 use Rattle.fields.specs.declared.names.Name.{Name}
 use Rattle.fields.specs.declared.names.NameRead.{NameRead}
-use Rattle.fields.specs.names.Names.{IsName, name, NameOf}
-
--- what stands where there is no name
-abbrev pub no-name : Name
-no-name = name []
+use Rattle.fields.specs.names.Names.{IsName, NameOf, no-name}
 
 -- the stretch is a field, and its content is this name
 pub record NameIn (raw : List ℕ) (n : Name) : Type 0 where

@@ -73,7 +73,7 @@ returns-3 c = λ cs css q.
     let tests = decided _ (c .before .before .before .if2 .taken) (passed (at-member .name-at .result .good) (at-job .name-at2 .result .good) (numbers .good)) in
     seen-row (at-ten .before .before .cells-at .ensures) cs css q (at-ten .if1 .left) _ (λ t. record {
       ten = first-ten cs;
-      are = ten-cells cs (t .ten);
+      are = ten-cells cs (t .so-many);
       member = cell-name t 0 _ (lit< tt) (at-member .before .cell2 .ensures) (at-member .name-at .result) (tests .0 .0) (at-member .name-at .ensures);
       job = cell-name t 1 _ (lit< tt) (at-job .before .cell3 .ensures) (at-job .name-at2 .result) (tests .0 .1) (at-job .name-at2 .ensures);
       kind = cell-kind t 2 _ (lit< tt) (at-kind .before .cell .ensures) kind (subst (KindAt _) (at-x .kind .given .1) (at-kind .kind-at .ensures));

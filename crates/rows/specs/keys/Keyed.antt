@@ -1,5 +1,5 @@
 -- A row with its key: member and job (document 01, the job book).
-use Rattle.fields.specs.names.NameAt.{no-name}
+use Rattle.fields.specs.names.Names.{no-name}
 use Rattle.kinds.specs.Table.{blank-numbers}
 use Rattle.kinds.specs.declared.Kind.the-variants.{B}
 use Rattle.rows.specs.declared.keys.Keyed.{Keyed}
