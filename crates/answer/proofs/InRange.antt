@@ -3,7 +3,7 @@ use Prim.Native.Nat.{ℕ}
 use Rattle.kinds.specs.declared.Kind.the-variants.{B, S, C}
 use Rattle.kinds.proofs.ranges.Ranges.{ranged-unless}
 use Rattle.jobs.specs.declared.Job.{Job}
-use Rattle.earth.specs.declared.table2.Coefficient.{Coefficient}
+use Rattle.earth.specs.declared.coefficients.Coefficient.{Coefficient}
 use Rattle.loads.proofs.InRange.{all-ranged}
 use Rattle.answer.specs.Rules.{load-rows-of, AllInRange, out-of-range, Unrefused}
 

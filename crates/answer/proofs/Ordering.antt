@@ -14,7 +14,7 @@ use Rattle.kinds.specs.declared.Kind.the-variants.{B}
 use Rattle.kinds.specs.declared.Numbers.{Numbers}
 use Rattle.kinds.specs.declared.Row.{Row}
 use Rattle.jobs.specs.declared.Job.{Job}
-use Rattle.earth.specs.declared.table2.Coefficient.{Coefficient}
+use Rattle.earth.specs.declared.coefficients.Coefficient.{Coefficient}
 use Rattle.checks.specs.Sized.{Sized}
 use Rattle.loads.specs.forces.Blank.{BlankThere}
 use Rattle.loads.specs.forces.Wetted.{UpperBelowLower}

@@ -2,7 +2,7 @@
 use Prim.Native.Nat.{ℕ}
 use mathlib.Core.Path.{_≡_}
 use Rattle.jobs.specs.declared.Job.{Job}
-use Rattle.earth.specs.declared.table2.Coefficient.{Coefficient}
+use Rattle.earth.specs.declared.coefficients.Coefficient.{Coefficient}
 use Rattle.sets.specs.declared.Combination.{Combination}
 use Rattle.sets.specs.declared.Combination.the-variants.{I, II, III, IV}
 use Rattle.sets.specs.declared.Loads.{Loads}

@@ -1,11 +1,12 @@
--- Document 01, Refusals of a job: 11 to 16, and 02, P1: 17, and P3: 18, over the whole job. `fill` is what is held for a soil and a slope: today Table 2.
+-- Document 01, Refusals of a job: 11 to 16, and 02, P1: 17, P3: 18, and P4: 15, over the whole job.
+-- `fill` is what is held for a soil and a slope: what the two fill books say for the job's member (02, P4).
 use Prim.Native.Nat.{ℕ, _<_}
 use mathlib.Core.List.{List}
 use lib.ListN.{take}
 use Rattle.arithmetic.specs.rounding.Least.{Least}
 use Rattle.kinds.specs.declared.Row.{Row}
 use Rattle.jobs.specs.declared.Job.{Job}
-use Rattle.earth.specs.declared.table2.Coefficient.{Coefficient}
+use Rattle.earth.specs.declared.coefficients.Coefficient.{Coefficient}
 use Rattle.loads.specs.LoadRows.{AllRanged, NoneBlank, AllUpright, AllNamed, optionals}
 use Rattle.jobs.specs.stages.Rows.{RowsRanged}
 use Rattle.scour.specs.Scour as scour
@@ -21,7 +22,7 @@ pub record AllInRange (job : Job) : Type 0 where
   pub rows : RowsRanged job
   pub loads : AllRanged (load-rows-of job)
 
--- Table 2 is blank for no E row
+-- for no E row "neither book has a value"
 abbrev pub AllFilled : (ℕ → ℕ → Coefficient) → Job → Type 0
 AllFilled fill job = NoneBlank fill (load-rows-of job)
 
@@ -35,7 +36,7 @@ pub data When (fill : ℕ → ℕ → Coefficient) (job : Job) : ℕ → Type 0 
   too-intense : ScourGives job (scour.refused 13) → When fill job 13
   -- a above A
   over-obstructed : ClearanceGives job (clearance.refused 14) → When fill job 14
-  -- Table 2 is blank there
+  -- neither book has a value
   blank : (AllFilled fill job → ⊥) → When fill job 15
   -- more than 12 optional load rows
   too-many : 12 < optionals (load-rows-of job) → When fill job 16

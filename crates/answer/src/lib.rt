@@ -1,7 +1,7 @@
-// The answer of a job (document 01, Refusals of a job, The printed answer; 02, P1 and P3): refusal 11 to 18, or its lines and verdict.
+// The answer of a job (document 01, Refusals of a job, The printed answer; 02, P1, P3 and P4): refusal 11 to 18, or its lines and verdict.
 //
 // What is hard is the order: a job is refused with the lowest of its numbers, over all its rows, whatever row shows it
-// first. The answer is total on every `Job` value, and depends on the job alone: Tables 2 and 4 are constants.
+// first. The answer is total on every `Job` value, whatever is held of fills, and depends on these alone: Table 4 is a constant.
 pub mod river;
 
 use checks::Base;
@@ -17,7 +17,7 @@ use sets::Loads;
 ghost use mathlib.Core.Path.{_≡_};
 ghost use Rattle.sets.specs.Bounded.{Bounded};
 ghost use Rattle.sets.specs.Led.{Led};
-ghost use Rattle.earth.specs.table2.Table2.{table2-fill};
+ghost use Rattle.earth.specs.coefficients.Coefficients.{fill-of};
 ghost use Rattle.checks.specs.Sized.{Sized};
 ghost use Rattle.answer.specs.Columns.{base-of};
 ghost use Rattle.answer.specs.Answer.{refusal, AnswerIs};
@@ -79,16 +79,16 @@ fn first_told(told: loads::LoadsAnswer, river: RiverRead) -> RiverRead
     }
 }
 
-// The answer of a job.
-pub fn answer_of(job: Job) -> Answer
-    ensures { λ r. ⌜ AnswerIs table2-fill job r ⌝ }
+// The answer of a job, by what is held for each soil and slope, 0 where nothing is.
+pub fn answer_of(held: [[u32; 5]; 5], job: Job) -> Answer
+    ensures { λ r. ⌜ AnswerIs (fill-of held) job r ⌝ }
 {
     if !kinds::ranges::is_ranged(Kind::B, job.base) {
         return refused_answer(11);
     }
     let base = base_at(job.base);
     let rows = job.loads;
-    let taken = loads::loads_of(rows, job.count);
+    let taken = loads::loads_of(held, rows, job.count);
     let told = taken.answer;
     let river = river::river_of(job, base.rock);
     match first_told(told, river) {

@@ -1,6 +1,9 @@
 // Runs calls for one job's lines and for a row's note, and shows what the printing program cannot: places that are and are not
 // there, buffers that fit exactly, are too short or have room to spare, and both faults at once (document 01, Refusals of a
-// book). Each call shows what was asked, what came, and in brackets the whole buffer after the call, or the note.
+// book); and each of these with a refused fill book besides (02, P4: "after 6 and before 10 and 7, and nothing is written"). Each call shows
+// what was asked, what came, and in brackets the whole buffer after the call, or the note. Names in brackets tell the books of the calls that
+// follow; where none is named, there are no own rows, and the common ones are Table 2's. The lines that it must print are those of a program
+// written apart from this one.
 //
 // A buffer is lent full of dots, so that a byte which is written shows, and one which is not.
 use debtarush::Written;
@@ -27,22 +30,31 @@ fn put_refusal(number: usize, row: usize) {
     show_number(b" row ", row);
 }
 
-// A call for the lines of the job at a place, with so many dots lent.
-fn call(book: &[u8], place: usize, lent: usize)
+// A call for the lines of the job at a place, with these fill books and so many dots lent.
+fn call_with(book: &[u8], own: &[u8], common: &[u8], place: usize, lent: usize)
     requires { ⌜ lent ≤ 160 ⌝ }
 {
     let mut dots = [b'.'; 160];
     let out = &mut dots[0..lent];
     show_number(b"place ", place);
     show_number(b" buffer ", lent);
-    let told = debtarush::job_lines(book, place, out);
+    let told = debtarush::job_lines(book, own, common, place, out);
     match told {
         Written::Length(n) => show_number(b": written ", n),
         Written::BookRefused(why, row) => put_refusal(rows::refusals::number_of(why) as usize, row),
+        Written::FillsRefused => put_refusal(8, 0),
         Written::NoPlace => put_refusal(10, 0),
         Written::TooShort => put_refusal(7, 0),
     }
     put_bytes(out);
+}
+
+// A call without own rows, and with Table 2 for the common ones.
+fn call(book: &[u8], place: usize, lent: usize)
+    requires { ⌜ lent ≤ 160 ⌝ }
+{
+    let table2 = fills::table2_book::bytes();
+    call_with(book, b"", &table2, place, lent);
 }
 
 // A call for the note of a row.
@@ -86,6 +98,18 @@ fn refused_book(book: &[u8]) {
     note(book, 1);
 }
 
+// A refused fill book: with room, without, with a place that is not there, and with both besides. The refusal of the book itself comes before.
+fn refused_fills(earth: &[u8], unfinished: &[u8], own: &[u8], common: &[u8]) {
+    put_bytes(b"earth.book");
+    call_with(earth, own, common, 1, 160);
+    call_with(earth, own, common, 1, 0);
+    call_with(earth, own, common, 2, 40);
+    call_with(earth, own, common, 0, 0);
+    put_bytes(b"unfinished.book");
+    call_with(unfinished, own, common, 1, 40);
+    call_with(unfinished, own, common, 0, 0);
+}
+
 // Reads a book of data/, and shows its name.
 fn read(name: &[u8], text: &mut [u8; 4096]) -> usize
     ensures { λ r. ⌜ Counts r (now (text .exit)) ⌝ }
@@ -95,6 +119,32 @@ fn read(name: &[u8], text: &mut [u8; 4096]) -> usize
     let len = io::read_full(file, text);
     libc::close(file);
     len
+}
+
+// A job with an E row by the common value, by the own one, and with no common rows; with none in either book it is refused.
+fn good_fills(earth: &[u8]) {
+    let mut own = io::buffer();
+    let table2 = fills::table2_book::bytes();
+    call(earth, 1, 130);
+    let len = read(b"tested.own", &mut own);
+    call_with(earth, &own[..len], &table2, 1, 130);
+    put_bytes(b"tested.own, no common rows");
+    call_with(earth, &own[..len], b"", 1, 140);
+    put_bytes(b"no own rows, no common rows");
+    call_with(earth, b"", b"", 1, 30);
+}
+
+fn refused_own(earth: &[u8], unfinished: &[u8]) {
+    let mut own = io::buffer();
+    let table2 = fills::table2_book::bytes();
+    let len = read(b"twice.own", &mut own);
+    refused_fills(earth, unfinished, &own[..len], &table2);
+}
+
+fn refused_common(earth: &[u8], unfinished: &[u8]) {
+    let mut common = io::buffer();
+    let len = read(b"member.common", &mut common);
+    refused_fills(earth, unfinished, b"", &common[..len]);
 }
 
 fn main() {
@@ -107,4 +157,9 @@ fn main() {
     three_jobs(&text[..len]);
     let len = read(b"unfinished.book", &mut text);
     refused_book(&text[..len]);
+    let mut earth = io::buffer();
+    let earths = read(b"earth.book", &mut earth);
+    good_fills(&earth[..earths]);
+    refused_own(&earth[..earths], &text[..len]);
+    refused_common(&earth[..earths], &text[..len]);
 }

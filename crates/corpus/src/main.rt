@@ -1,5 +1,5 @@
 // Prints the lines of each stored book that its arguments name, after a line with the book's name (document 01, The printed
-// answer). What it must print is put together from the lines of programs written apart from this one. The books named
+// answer), without own fills and with Table 2 for the common ones. What it must print is put together from the lines of programs written apart from this one. The books named
 // using-NN are the examples of docs/USING.md; load-sets.book has 01's figures of OP and PR, and cases of the other checks and of the
 // load sets that the old program got wrong or never tried; those whose names begin with p1 or current have W rows,
 // current-ends.book at the ends of their ranges and past them, and with each refusal of a job that comes before 17; 99 of those whose names
@@ -9,22 +9,11 @@
 use libc::STDERR_FILENO;
 use libc::STDOUT_FILENO;
 
-// What is wrong with the file so named, by errno.
-fn fail(name: &[u8]) {
-    io::write_all(STDERR_FILENO, b"corpus: ");
-    os::fail(name);
-}
-
-// Whether the file has no more: a failed read says neither that it ended nor what follows.
-fn has_ended(file: i32) -> bool {
-    let mut more = [0u8; 1];
-    libc::read(file, &mut more) == 0
-}
-
 // Prints the lines of a book; where they cannot be written, that is told.
 fn print_lines(book: &[u8]) {
     let mut lines = [0u8; 131072];
-    let len = debtarush::book_lines(book, &mut lines);
+    let table2 = fills::table2_book::bytes();
+    let len = debtarush::book_lines(book, b"", &table2, &mut lines);
     if !io::write_all(STDOUT_FILENO, &lines[0..len]) {
         io::write_all(STDERR_FILENO, b"corpus: the lines could not be written\n");
     }
@@ -34,26 +23,15 @@ fn print_lines(book: &[u8]) {
 fn print_named(i: usize) {
     let mut name = io::buffer();
     let mut text = [0u8; 65537];
+    let read = files::read_argument(b"corpus", i, &mut text);
+    if !read.all {
+        return;
+    }
+    let got = read.len;
     let len = os::arg(i, &mut name);
-    if os::errno() != 0 {
-        fail(&name);
-        return;
-    }
-    let named = &name[..len];
-    let file = os::open_read(named);
-    if file < 0 {
-        fail(named);
-        return;
-    }
-    let got = io::read_full(file, &mut text);
-    if (got == 65537) | has_ended(file) {
-        io::write_all(STDOUT_FILENO, named);
-        io::write_all(STDOUT_FILENO, b"\r\n");
-        print_lines(&text[..got]);
-    } else {
-        fail(named);
-    }
-    libc::close(file);
+    io::write_all(STDOUT_FILENO, &name[..len]);
+    io::write_all(STDOUT_FILENO, b"\r\n");
+    print_lines(&text[..got]);
 }
 
 fn main() {

@@ -2,7 +2,6 @@
 // length of its first note, or the number and the row of its refusal. A file that cannot be read to its end is told, and
 // has no line.
 use book::counted::Count;
-use libc::STDERR_FILENO;
 use libc::STDOUT_FILENO;
 
 // Two figures, each behind its name, and the line's end.
@@ -32,41 +31,18 @@ fn show(text: &[u8]) {
     }
 }
 
-// What is wrong with the file so named, by errno.
-fn fail(name: &[u8]) {
-    io::write_all(STDERR_FILENO, b"count_books: ");
-    os::fail(name);
-}
-
-// Whether the file has no more: a failed read says neither that it ended nor what follows.
-fn has_ended(file: i32) -> bool {
-    let mut more = [0u8; 1];
-    libc::read(file, &mut more) == 0
-}
-
 // The book that an argument names.
 fn show_book(i: usize) {
     let mut name = io::buffer();
     let mut text = [0u8; 65537];
+    let read = files::read_argument(b"count_books", i, &mut text);
+    if !read.all {
+        return;
+    }
+    let got = read.len;
     let len = os::arg(i, &mut name);
-    if os::errno() != 0 {
-        fail(&name);
-        return;
-    }
-    let named = &name[..len];
-    let file = os::open_read(named);
-    if file < 0 {
-        fail(named);
-        return;
-    }
-    let got = io::read_full(file, &mut text);
-    if (got == 65537) | has_ended(file) {
-        io::write_all(STDOUT_FILENO, named);
-        show(&text[..got]);
-    } else {
-        fail(named);
-    }
-    libc::close(file);
+    io::write_all(STDOUT_FILENO, &name[..len]);
+    show(&text[..got]);
 }
 
 fn main() {

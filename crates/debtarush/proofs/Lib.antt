@@ -8,3 +8,4 @@ pub mod InOrder
 pub mod Answers
 pub mod BookTexts
 pub mod Telling
+pub mod Members

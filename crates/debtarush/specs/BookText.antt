@@ -1,5 +1,5 @@
 -- Document 01, The printed answer: the text of a whole book. "The printing program reads a book .. and prints its jobs in book order."
--- "A refused book prints `,,BOOK,number,row,,`."
+-- "A refused book prints `,,BOOK,number,row,,`"; so does a book whose fill books are refused (02, P4).
 use Prim.Native.Nat.{ℕ, _≤_}
 use mathlib.Core.Path.{_≡_}
 use mathlib.Core.List.{List, [], _++_}
@@ -8,32 +8,33 @@ use Rattle.jobs.specs.declared.Job.{Job}
 use Rattle.book.specs.JobBook.{Jobs, none, _and_, JobBook}
 use Rattle.book.specs.Values.{job-value}
 use Rattle.book.specs.Says as book
-use Rattle.earth.specs.declared.table2.Coefficient.{Coefficient}
+use Rattle.fills.specs.Says.{Accepted}
 use Rattle.printing.specs.refused_book.Text.{book-text}
-use Rattle.debtarush.specs.Lines.{TextOf}
+use Rattle.debtarush.specs.Lines.{JobText}
 
 -- a text, and the lines of one job more behind it
-pub record OneMore (fill : ℕ → ℕ → Coefficient) (Earlier : List ℕ → Type 0) (job : Job) (text : List ℕ) : Type 0 where
+pub record OneMore (own common : List ℕ) (Earlier : List ℕ → Type 0) (job : Job) (text : List ℕ) : Type 0 where
   pub before : List ℕ
-  pub own : List ℕ
+  pub last : List ℕ
   pub earlier : Earlier before
-  pub lines : TextOf fill job own
-  pub are : text ≡ before ++ own
+  pub lines : JobText own common job last
+  pub are : text ≡ before ++ last
 
 -- the lines of the jobs, those of one job behind those of the job before it
-unfoldable pub JobsText : (ℕ → ℕ → Coefficient) → Jobs → List ℕ → Type 0
-JobsText fill none text = text ≡ []
-JobsText fill (js and j) text = OneMore fill (JobsText fill js) (job-value j) text
+unfoldable pub JobsText : (own common : List ℕ) → Jobs → List ℕ → Type 0
+JobsText own common none text = text ≡ []
+JobsText own common (js and j) text = OneMore own common (JobsText own common js) (job-value j) text
 
--- the text of a book: its jobs' lines in book order, or the one line of a refused book
-pub data BookText (fill : ℕ → ℕ → Coefficient) (b text : List ℕ) : Type 0 where
-  refused : {n row : ℕ} → book.BookSays b (book.refused n row) → text ≡ book-text n row → BookText fill b text
-  jobs : {js : Jobs} → JobBook b js → JobsText fill js text → BookText fill b text
+-- the text of a book: its jobs' lines in book order; or the one line of a refused book, or of refused fill books
+pub data BookText (own common b text : List ℕ) : Type 0 where
+  refused : {n row : ℕ} → book.BookSays b (book.refused n row) → text ≡ book-text n row → BookText own common b text
+  no-fills : {js : Jobs} → JobBook b js → (Accepted own common → ⊥) → text ≡ book-text 8 0 → BookText own common b text
+  jobs : {js : Jobs} → JobBook b js → Accepted own common → JobsText own common js text → BookText own common b text
 
 -- that text in a buffer that held `before`, which has room for it, and holds `after` then: its `len` bytes from the start, and the rest untouched
-pub record BookPrinted (fill : ℕ → ℕ → Coefficient) (b before after : List ℕ) (len : ℕ) : Type 0 where
+pub record BookPrinted (own common b before after : List ℕ) (len : ℕ) : Type 0 where
   pub text : List ℕ
-  pub is : BookText fill b text
+  pub is : BookText own common b text
   pub long : len ≡ length text
   pub fits : length text ≤ length before
   pub whole : after ≡ text ++ drop (length text) before

@@ -5,7 +5,7 @@ use mathlib.Core.List.{List, _++_}
 use Rattle.arithmetic.proofs.Cases.{impossible}
 use Rattle.rows.specs.declared.keys.Key.{Key}
 use Rattle.jobs.specs.declared.Job.{Job}
-use Rattle.earth.specs.declared.table2.Coefficient.{Coefficient}
+use Rattle.earth.specs.declared.coefficients.Coefficient.{Coefficient}
 use Rattle.csv.specs.Nth.{Nth}
 use Rattle.sets.specs.declared.Combination.{Combination}
 use Rattle.checks.specs.declared.Check.{Check}
@@ -37,48 +37,48 @@ module _ (fill : ℕ → ℕ → Coefficient) {job : Job} {bytes : List ℕ} (c 
   is-key : IsKey (job .key)
   is-key = job-key (c .is-book) (c .at)
 
-  own : WroteJob fill job (c .before) (c .after) (c .len)
-  own = wrote (call-on-job (c .is-book) (c .at) (c .call))
+  did : WroteJob fill job (c .before) (c .after) (c .len)
+  did = wrote (call-on-job (c .is-book) (c .at) (c .fills) (c .call))
 
-  bytes-are : bytes ≡ texts (job .key) (own .text .lines)
-  unfolding own
-  bytes-are = c .wrote ∙ own .first ∙ own .text .are
+  bytes-are : bytes ≡ texts (job .key) (did .text .lines)
+  unfolding did
+  bytes-are = c .wrote ∙ did .first ∙ did .text .are
 
   told : (lines : List PrintedLine) × Tells bytes (job .key) lines × LinesOf fill job lines
-  unfolding own
-  told = (own .text .lines, record { is-key = is-key; are = bytes-are }, own .text .is)
+  unfolding did
+  told = (did .text .lines, record { is-key = is-key; are = bytes-are }, did .text .is)
 
-  lines-same : (key : Key) (lines : List PrintedLine) → Tells bytes key lines → lines ≡ own .text .lines
+  lines-same : (key : Key) (lines : List PrintedLine) → Tells bytes key lines → lines ≡ did .text .lines
   lines-same key lines t = texts-injective (t .is-key) is-key lines _ (sym (t .are) ∙ bytes-are)
 
   lines-own : (key : Key) (lines : List PrintedLine) → Tells bytes key lines → LinesOf fill job lines
-  unfolding own
-  lines-own key lines t = subst (LinesOf fill job) (sym (lines-same key lines t)) (own .text .is)
+  unfolding did
+  lines-own key lines t = subst (LinesOf fill job) (sym (lines-same key lines t)) (did .text .is)
 
-  laid : bytes ≡ line-text (job .key) (verdict-line (own .text .is .answer .verdict)) ++ texts (job .key) (unless-refused (own .text .is .answer .verdict) (later-lines (own .text .is .answer)))
-  unfolding own texts lines-of
-  laid = bytes-are ∙ ap (texts (job .key)) (own .text .is .are)
+  laid : bytes ≡ line-text (job .key) (verdict-line (did .text .is .answer .verdict)) ++ texts (job .key) (unless-refused (did .text .is .answer .verdict) (later-lines (did .text .is .answer)))
+  unfolding did texts lines-of
+  laid = bytes-are ∙ ap (texts (job .key)) (did .text .is .are)
 
   key-same : (key : Key) (lines : List PrintedLine) → Tells bytes key lines → key ≡ job .key
-  unfolding own texts lines-of
+  unfolding did texts lines-of
   key-same key lines t =
-      let e = lines-same key lines t ∙ own .text .is .are in
+      let e = lines-same key lines t ∙ did .text .is .are in
       line-injective (t .is-key) is-key _ _ _ _ (ap (texts key) (sym e) ∙ sym (t .are) ∙ laid) .0
 
   nothing-else : (key : Key) (lines : List PrintedLine) → Tells bytes key lines → (key ≡ job .key) × LinesOf fill job lines
   nothing-else key lines t = (key-same key lines t, lines-own key lines t)
 
   accepted-bytes : StartsWith (line-text (job .key) (verdict-line Accepted)) bytes → Sound fill job
-  unfolding own
+  unfolding did
   accepted-bytes p =
       let e = line-injective is-key is-key _ _ (p .rest) _ (sym (p .are) ∙ laid) .1 in
-      accepted-sound fill job (own .text .is .answer) (own .text .is .is) (verdict-same (own .text .is .answer .verdict) e)
+      accepted-sound fill job (did .text .is .answer) (did .text .is .is) (verdict-same (did .text .is .answer .verdict) e)
 
   accepts : Sound fill job → StartsWith (line-text (job .key) (verdict-line Accepted)) bytes
-  unfolding own
+  unfolding did
   accepts s =
-      let v = sound-accepted fill job (own .text .is .answer) (own .text .is .is) s in
-      let rest = texts (job .key) (unless-refused (own .text .is .answer .verdict) (later-lines (own .text .is .answer))) in
+      let v = sound-accepted fill job (did .text .is .answer) (did .text .is .is) s in
+      let rest = texts (job .key) (unless-refused (did .text .is .answer .verdict) (later-lines (did .text .is .answer))) in
       record { rest = rest; are = subst (λ (x : Verdict). bytes ≡ line-text (job .key) (verdict-line x) ++ rest) v laid }
 
   named : (key : Key) (lines : List PrintedLine) → Tells bytes key lines → (n : ℕ) (line : PrintedLine) → Nth lines n line
@@ -94,6 +94,6 @@ module _ (fill : ℕ → ℕ → Coefficient) {job : Job} {bytes : List ℕ} (c 
       let w = line-shown fill job (h .loads) (h .are) (own-lines .answer) combination of (h .set) (own-lines .is) u (h .limit) (h .limited) (h .permitted) in
       subst (λ (l : List PrintedLine). HasLine l combination of) (sym (own-lines .are)) (record { place = w .0; line = w .1; at = w .2; is = w .3 })
 
-pub demand2 : (fill : ℕ → ℕ → Coefficient) → Demand2 fill
+pub demand2 : Demand2
 demand2 fill job bytes c =
     record { told = told fill c; nothing-else = nothing-else fill c; accepted = accepted-bytes fill c; accepts = accepts fill c; named = named fill c; shown = shown fill c }

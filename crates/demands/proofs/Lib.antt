@@ -1,4 +1,4 @@
--- The proofs of the demands: `demand1`, `demand2`, `demand3` and `demand4`, for whatever is held for a soil and a slope.
+-- The proofs of the demands: `demand1`, `demand2`, `demand3` and `demand4`, for whatever two fill books are lent.
 mod All
 mod Keys
 mod Numbers

@@ -5,7 +5,7 @@ use mathlib.Core.Bool.{Bool}
 use mathlib.Core.List.{List}
 use Rattle.jobs.specs.declared.Job.{Job}
 use Rattle.csv.specs.Nth.{Nth}
-use Rattle.earth.specs.declared.table2.Coefficient.{Coefficient}
+use Rattle.earth.specs.declared.coefficients.Coefficient.{Coefficient}
 use Rattle.sets.specs.declared.Combination.{Combination}
 use Rattle.sets.specs.declared.Loads.{Loads}
 use Rattle.sets.specs.Sets.{Permitted}

@@ -4,7 +4,7 @@ use mathlib.Core.Path.{_≡_}
 use mathlib.Core.List.{List}
 use Rattle.rows.specs.declared.keys.Key.{Key}
 use Rattle.jobs.specs.declared.Job.{Job}
-use Rattle.earth.specs.declared.table2.Coefficient.{Coefficient}
+use Rattle.earth.specs.declared.coefficients.Coefficient.{Coefficient}
 use Rattle.csv.specs.Nth.{Nth}
 use Rattle.sets.specs.declared.Combination.{Combination}
 use Rattle.checks.specs.declared.Check.{Check}
@@ -33,5 +33,6 @@ pub record CodeAnswer (fill : ℕ → ℕ → Coefficient) (job : Job) (bytes : 
   pub shown : (key : Key) (lines : List PrintedLine) → Tells bytes key lines → Unrefused fill job
       → (combination : Combination) (of : Check) → Checked fill job combination of → HasLine lines combination of
 
-abbrev pub Demand2 : (ℕ → ℕ → Coefficient) → Type 0
-Demand2 fill = (job : Job) (bytes : List ℕ) → CallWrote fill job bytes → CodeAnswer fill job bytes
+-- whatever the fill books hold for the job's member
+abbrev pub Demand2 : Type 0
+Demand2 = (fill : ℕ → ℕ → Coefficient) (job : Job) (bytes : List ℕ) → CallWrote fill job bytes → CodeAnswer fill job bytes

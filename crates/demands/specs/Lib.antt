@@ -2,6 +2,7 @@ pub mod Bytes
 pub mod Sound
 pub mod CheckLine
 pub mod Pieces
+pub mod SameValues
 pub mod Demand1
 pub mod Demand2
 pub mod Demand3

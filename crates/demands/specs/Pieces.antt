@@ -4,7 +4,6 @@ use mathlib.Core.Path.{_≡_}
 use mathlib.Core.List.{List, [], _∷_, _++_}
 use lib.ListN.{length, drop}
 use Rattle.csv.specs.Nth.{Nth}
-use Rattle.earth.specs.declared.table2.Coefficient.{Coefficient}
 use Rattle.debtarush.specs.CallTold.{written}
 use Rattle.debtarush.specs.Called.{Called}
 
@@ -14,9 +13,9 @@ joined [] = []
 joined (piece ∷ pieces) = piece ++ joined pieces
 
 -- a text is so many pieces and nothing else, and each is what a call for its place of the book writes into any buffer that has room for it
-pub record Pieces (fill : ℕ → ℕ → Coefficient) (b : List ℕ) (many : ℕ) (text : List ℕ) : Type 0 where
+pub record Pieces (own common b : List ℕ) (many : ℕ) (text : List ℕ) : Type 0 where
   pub pieces : List (List ℕ)
   pub as-many : length pieces ≡ many
   pub are : text ≡ joined pieces
   pub each : (place : ℕ) (piece before : List ℕ) → Nth pieces place piece → length piece ≤ length before
-      → Called fill b place before (piece ++ drop (length piece) before) (written (length piece))
+      → Called own common b place before (piece ++ drop (length piece) before) (written (length piece))

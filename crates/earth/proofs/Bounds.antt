@@ -8,7 +8,7 @@ use Rattle.kinds.specs.declared.Numbers.{Numbers}
 use Rattle.earth.specs.steps.LowCoefficient.{LowCoefficient}
 use Rattle.earth.specs.Earth.{push, Pushed, has-coefficient}
 use Rattle.earth.specs.EarthRow.{Pressed, in-range}
-use Rattle.earth.specs.declared.table2.Coefficient.{Coefficient}
+use Rattle.earth.specs.declared.coefficients.Coefficient.{Coefficient}
 use Rattle.earth.specs.declared.Backfill.{Backfill}
 
 pub record Modest (H y : ℕ) : Type 0 where

@@ -8,7 +8,7 @@ use Rattle.arithmetic.proofs.rounding.Laws.{least-one}
 use Rattle.kinds.specs.declared.Numbers.{Numbers}
 use Rattle.earth.specs.Earth.{EarthTold, refused, push, Pushed, blank, has-coefficient}
 use Rattle.earth.specs.EarthRow.{Pressed, out-of-range, in-range, earth-told}
-use Rattle.earth.specs.declared.table2.Coefficient.{Coefficient}
+use Rattle.earth.specs.declared.coefficients.Coefficient.{Coefficient}
 use Rattle.earth.specs.thrust.Thrust.{Thrust}
 use Rattle.earth.specs.declared.Backfill.{Backfill}
 use Rattle.earth.specs.declared.EarthAnswer.{EarthAnswer}

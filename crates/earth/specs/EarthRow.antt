@@ -1,10 +1,10 @@
 -- Document 01, Earth pressure: what an E row is told, H and y of its fill, or a refusal of its job.
--- `fill` is what is held for a soil and a slope: today Table 2.
+-- `fill` is what is held for a soil and a slope: what the two fill books say for the job's member (02, P4).
 use Prim.Native.Nat.{ℕ}
 use Rattle.kinds.specs.ranges.Range.{Ranged}
 use Rattle.kinds.specs.declared.Kind.the-variants.{E}
 use Rattle.kinds.specs.declared.Numbers.{Numbers}
-use Rattle.earth.specs.declared.table2.Coefficient.{Coefficient}
+use Rattle.earth.specs.declared.coefficients.Coefficient.{Coefficient}
 use Rattle.earth.specs.declared.EarthAnswer.{EarthAnswer}
 use Rattle.earth.specs.declared.EarthAnswer.the-variants.{OutOfRange, NoCoefficient, Push}
 use Rattle.earth.specs.Earth.{backfill-of, EarthTold, push, refused, Pushed}

@@ -1,15 +1,15 @@
-// Earth pressure by document 002's semi-empirical method (document 01, Earth pressure; 002, 5.7.2, Table 2): the thrust of an E row's
+// Earth pressure by document 002's semi-empirical method (document 01, Earth pressure; 002, 5.7.2; 02, P4): the thrust of an E row's
 // fill, and its height above the base.
 //
-// The numbers of an E row are small enough for any coefficient up to 40,000, whichever table it comes from.
-pub mod table2;
+// The numbers of an E row are small enough for any coefficient up to 40,000, whichever book it comes from.
+pub mod coefficients;
 mod thrust;
 
+use coefficients::Coefficient;
 use kinds::Kind;
 use kinds::Numbers;
-use table2::Coefficient;
 ghost use mathlib.Core.Path.{_≡_};
-ghost use Rattle.earth.specs.table2.Table2.{table2-fill};
+ghost use Rattle.earth.specs.coefficients.Coefficients.{fill-of};
 ghost use Rattle.earth.specs.Earth.{backfill-of};
 ghost use Rattle.earth.specs.EarthRow.{Pressed, earth-told};
 
@@ -40,15 +40,15 @@ fn backfill_of(row: Numbers) -> Backfill
     }
 }
 
-// The thrust of an E row's fill and its height above the base.
-pub fn pressure(row: Numbers) -> EarthAnswer
-    ensures { λ r. ⌜ Pressed table2-fill row (earth-told r) ⌝ }
+// The thrust of an E row's fill and its height above the base, by what is held for each soil and slope, 0 where nothing is.
+pub fn pressure(held: [[u32; 5]; 5], row: Numbers) -> EarthAnswer
+    ensures { λ r. ⌜ Pressed (fill-of held) row (earth-told r) ⌝ }
 {
     if !kinds::ranges::is_ranged(Kind::E, row) {
         return EarthAnswer::OutOfRange;
     }
     let backfill = backfill_of(row);
-    match table2::look_up(backfill.soil, backfill.slope) {
+    match coefficients::look_up(held, backfill.soil, backfill.slope) {
         Coefficient::Blank => EarthAnswer::NoCoefficient,
         Coefficient::Value(k) => EarthAnswer::Push {
             thrust: thrust::thrust_of(k as u64, backfill.height, backfill.length),

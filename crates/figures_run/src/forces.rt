@@ -14,6 +14,15 @@ use sets::Loads;
 ghost use Rattle.sets.specs.Bounded.{Bounded};
 ghost use Rattle.checks.specs.Sized.{Sized};
 
+// Table 2 in N, soils a to e by slopes level, 6:1, 3:1, 2:1, 1½:1; 0 where it is blank (document 01, Earth pressure).
+const TABLE2: [[u32; 5]; 5] = [
+    [4609, 4471, 4707, 5962, 8786],
+    [6178, 5805, 6276, 7649, 10787],
+    [7355, 7511, 8090, 9571, 13494],
+    [15690, 16186, 17893, 0, 0],
+    [18828, 20306, 21189, 0, 0],
+];
+
 pub(crate) fn filled(size: u32) -> Entry {
     Entry {
         filled: true,
@@ -36,7 +45,7 @@ fn row(a: u32, b: u32, c: u32, d: u32) -> Numbers {
 
 // The thrust and the height of a fill of soil a, level; no line where it is refused.
 fn pushed(agree: u64) -> u64 {
-    match earth::pressure(row(1, 1, 6000, 8000)) {
+    match earth::pressure(TABLE2, row(1, 1, 6000, 8000)) {
         EarthAnswer::OutOfRange | EarthAnswer::NoCoefficient => agree,
         EarthAnswer::Push { thrust, arm } => {
             let next = crate::asked::figure(
@@ -82,7 +91,7 @@ fn loads_of_row(numbers: Numbers) -> Loads
         numbers,
     };
     let rows = [row; 16];
-    loads::loads_of(rows, 1).loads
+    loads::loads_of(TABLE2, rows, 1).loads
 }
 
 // A figure of the set of one DL row on that base; 0 where I does not permit it.

@@ -16,7 +16,7 @@ use Rattle.arithmetic.proofs.Cases.{impossible, by-cases}
 use Rattle.kinds.specs.declared.Row.{Row}
 use Rattle.kinds.specs.ranges.Range.{Ranged}
 use Rattle.kinds.proofs.ranges.Ranges.{ranged-unless}
-use Rattle.earth.specs.declared.table2.Coefficient.{Coefficient}
+use Rattle.earth.specs.declared.coefficients.Coefficient.{Coefficient}
 use Rattle.earth.specs.steps.LowCoefficient.{LowCoefficient}
 use Rattle.sets.specs.declared.Loads.{Loads}
 use Rattle.sets.specs.Sets.{row}

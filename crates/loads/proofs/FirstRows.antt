@@ -9,7 +9,7 @@ use Rattle.kinds.specs.declared.Kind.the-variants.{B}
 use Rattle.kinds.specs.declared.Row.{Row}
 use Rattle.kinds.specs.Table.{blank-numbers}
 use Rattle.kinds.specs.classes.Classes.{class-of, optional}
-use Rattle.earth.specs.declared.table2.Coefficient.{Coefficient}
+use Rattle.earth.specs.declared.coefficients.Coefficient.{Coefficient}
 use Rattle.sets.specs.declared.Load.{Load}
 use Rattle.sets.specs.Sets.{no-load}
 use Rattle.loads.specs.forces.Exerts.{Exerts}

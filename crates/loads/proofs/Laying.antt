@@ -7,7 +7,7 @@ use lib.Seq.{length-take-le, getD-set-same, getD-set-other}
 use Prim.Native.Nat.{ℕ, zero, suc, _+_, _≤_, _<_}
 use native.Mathlib.Omega.{arith}
 use Rattle.kinds.specs.declared.Row.{Row}
-use Rattle.earth.specs.declared.table2.Coefficient.{Coefficient}
+use Rattle.earth.specs.declared.coefficients.Coefficient.{Coefficient}
 use Rattle.sets.specs.declared.Load.{Load}
 use Rattle.sets.specs.Sets.{no-load}
 use Rattle.loads.specs.forces.Exerts.{Exerts}

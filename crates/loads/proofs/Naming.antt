@@ -18,7 +18,7 @@ use Rattle.kinds.specs.classes.Classes.{class-of}
 use Rattle.kinds.proofs.Kind.{the-type}
 use Rattle.kinds.proofs.Arms.{kind-decides}
 use Rattle.kinds.proofs.Trains.{train-free}
-use Rattle.earth.specs.declared.table2.Coefficient.{Coefficient}
+use Rattle.earth.specs.declared.coefficients.Coefficient.{Coefficient}
 use Rattle.sets.specs.declared.Loads.{Loads}
 use Rattle.sets.specs.Sets.{row}
 use Rattle.sets.specs.Led.{Names, Led}

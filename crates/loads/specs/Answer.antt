@@ -1,11 +1,11 @@
--- Document 01, Refusals of a job, and 02, P1 and P3: what the load rows of a job are told, the lowest of 11 and 15 to 18, or the loads.
+-- Document 01, Refusals of a job, and 02, P1, P3 and P4: what the load rows of a job are told, the lowest of 11 and 15 to 18, or the loads.
 use mathlib.Core.Path.{_≡_}
 use mathlib.Core.List.{List}
 use Prim.Native.Nat.{ℕ, _<_}
 use lib.ListN.{take, replicate}
 use Rattle.arithmetic.specs.rounding.Least.{Least}
 use Rattle.kinds.specs.declared.Row.{Row}
-use Rattle.earth.specs.declared.table2.Coefficient.{Coefficient}
+use Rattle.earth.specs.declared.coefficients.Coefficient.{Coefficient}
 use Rattle.sets.specs.declared.Loads.{Loads}
 use Rattle.sets.specs.Sets.{no-load}
 use Rattle.loads.specs.LoadRows.{AllRanged, NoneBlank, AllUpright, AllNamed, optionals, AreLoads}

@@ -1,4 +1,4 @@
--- Document 01, Refusals of a job, and 02, P1 and P3: what 11 and 15 to 18 ask of the load rows of a job, and the loads that the rows exert.
+-- Document 01, Refusals of a job, and 02, P1, P3 and P4: what 11 and 15 to 18 ask of the load rows of a job, and the loads that the rows exert.
 use mathlib.Core.Path.{_≡_}
 use mathlib.Core.List.{List, [], _∷_}
 use Prim.Native.Nat.{ℕ, zero, suc, _+_}
@@ -7,7 +7,7 @@ use Rattle.kinds.specs.declared.Kind.the-variants.{LL}
 use Rattle.kinds.specs.declared.Row.{Row}
 use Rattle.kinds.specs.Table.{train}
 use Rattle.kinds.specs.ranges.Range.{Ranged}
-use Rattle.earth.specs.declared.table2.Coefficient.{Coefficient}
+use Rattle.earth.specs.declared.coefficients.Coefficient.{Coefficient}
 use Rattle.sets.specs.declared.Load.{Load}
 use Rattle.sets.specs.declared.Loads.{Loads}
 use Rattle.sets.specs.Sets.{no-load}
@@ -25,7 +25,7 @@ Every P (row ∷ rows) = P row × Every P rows
 abbrev pub AllRanged : List Row → Type 0
 AllRanged rows = Every (λ row. Ranged (row .kind) (row .numbers)) rows
 
--- what 15 asks: Table 2 is blank at none
+-- what 15 asks: for no E row "neither book has a value"
 abbrev pub NoneBlank : (ℕ → ℕ → Coefficient) → List Row → Type 0
 NoneBlank fill rows = Every (λ row. BlankThere fill row → ⊥) rows
 

@@ -1,4 +1,4 @@
-// What one load row exerts (document 01, the job book and Earth pressure; 02, P1 and P3): its class, its phase, its train, and its forces, from its
+// What one load row exerts (document 01, the job book and Earth pressure; 02, P1, P3 and P4): its class, its phase, its train, and its forces, from its
 // own numbers, from its fill or from the water current; or why its job is refused, with 11, 15 or 17.
 use arithmetic::signed::Amount;
 use current::CurrentAnswer;
@@ -11,7 +11,7 @@ use sets::Load;
 ghost use mathlib.Core.Path.{_≡_};
 ghost use mathlib.Core.Bool.{false};
 ghost use Prim.Native.Nat.{_≤_};
-ghost use Rattle.earth.specs.table2.Table2.{table2-fill};
+ghost use Rattle.earth.specs.coefficients.Coefficients.{fill-of};
 ghost use Rattle.arithmetic.specs.signed.Whole.{signed, amount};
 ghost use Rattle.kinds.specs.classes.Classes.{class-of};
 ghost use Rattle.loads.specs.forces.Exerts.{OwnForces, PushLoad};
@@ -72,9 +72,9 @@ fn own_load(class: Class, phase: u32, train: u32, numbers: Numbers) -> Load
 }
 
 // What a load row of a class exerts. Whether its numbers are in range is asked once, by the rule that its forces come from.
-pub(crate) fn load_of(row: Row, class: Class) -> RowLoad
+pub(crate) fn load_of(held: [[u32; 5]; 5], row: Row, class: Class) -> RowLoad
     requires { ⌜ class ≡ class-of (row .kind) ⌝ }
-    ensures { λ r. ⌜ LoadOf table2-fill row r ⌝ }
+    ensures { λ r. ⌜ LoadOf (fill-of held) row r ⌝ }
 {
     let kind = row.kind;
     let numbers = row.numbers;
@@ -82,7 +82,7 @@ pub(crate) fn load_of(row: Row, class: Class) -> RowLoad
     let train = kinds::train_of(row);
     let source = kinds::classes::source_of(kind);
     match source {
-        Source::Earth => match earth::pressure(numbers) {
+        Source::Earth => match earth::pressure(held, numbers) {
             EarthAnswer::OutOfRange => RowLoad::Refused(11),
             EarthAnswer::NoCoefficient => RowLoad::Refused(15),
             EarthAnswer::Push { thrust, arm } => {

@@ -1,4 +1,4 @@
-// The loads of a job's load rows, or their refusal (document 01, refusals 11, 15 and 16 of a job; 02, P1, refusal 17, and P3, refusal 18).
+// The loads of a job's load rows, or their refusal (document 01, refusals 11, 15 and 16 of a job; 02, P1, refusal 17, P3, refusal 18, and P4).
 //
 // Everything above sees loads and no rows. One loop asks each row once, and another which row it names. The order of the refusals is over
 // all the rows and by number, and past the rows of the job there stands no load.
@@ -13,7 +13,7 @@ ghost use Prim.Native.Nat.{_≤_};
 ghost use lib.ListN.{take};
 ghost use Rattle.arithmetic.specs.decides.Decides.{Decides};
 ghost use Rattle.kinds.specs.declared.Kind.the-variants.{LL};
-ghost use Rattle.earth.specs.table2.Table2.{table2-fill};
+ghost use Rattle.earth.specs.coefficients.Coefficients.{fill-of};
 ghost use Rattle.loads.specs.LoadRows.{AllNamed};
 ghost use Rattle.loads.specs.Answer.{no-loads, LoadsAnswered};
 ghost use Rattle.loads.specs.steps.Asking.{row-count, Lower, AskedIs};
@@ -71,9 +71,9 @@ fn lower(first: u8, number: u8) -> u8
 }
 
 // What the first n rows were asked, and their loads. An optional row counts whether or not it is refused, since 16 comes before 17.
-fn asked_of(rows: [Row; 16], n: usize) -> Asked
+fn asked_of(held: [[u32; 5]; 5], rows: [Row; 16], n: usize) -> Asked
     requires { ⌜ n ≤ 16 ⌝ }
-    ensures { λ r. ⌜ AskedIs table2-fill (take n rows) r ⌝ }
+    ensures { λ r. ⌜ AskedIs (fill-of held) (take n rows) r ⌝ }
 {
     let none = sets::no_load();
     let mut loads = [none; 16];
@@ -85,7 +85,7 @@ fn asked_of(rows: [Row; 16], n: usize) -> Asked
         let kind = row.kind;
         let class = kinds::classes::class_of(kind);
         optional = optional + kinds::classes::optional_count(class);
-        match forces::load_of(row, class) {
+        match forces::load_of(held, row, class) {
             RowLoad::Refused(number) => first = lower(first, number),
             RowLoad::Exerted(load) => loads[i] = load,
         }
@@ -134,11 +134,11 @@ fn all_named(rows: [Row; 16], n: usize) -> bool
 }
 
 // The loads of a job's load rows, which are the first `count` of `rows`, at most 16; or the lowest of the refusals 11 and 15 to 18.
-pub fn loads_of(rows: [Row; 16], count: usize) -> LoadsRead
-    ensures { λ r. ⌜ LoadsAnswered table2-fill rows count r ⌝ }
+pub fn loads_of(held: [[u32; 5]; 5], rows: [Row; 16], count: usize) -> LoadsRead
+    ensures { λ r. ⌜ LoadsAnswered (fill-of held) rows count r ⌝ }
 {
     let n = row_count(count);
-    let asked = asked_of(rows, n);
+    let asked = asked_of(held, rows, n);
     let mut first = asked.first;
     if 12 < asked.optional {
         first = lower(first, 16);

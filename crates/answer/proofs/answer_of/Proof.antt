@@ -3,8 +3,7 @@
 use mathlib.Core.Path.{sym, ap, subst, _∙_}
 use borrow.Author.Tests.{not-true, not-false}
 use Rattle.arithmetic.proofs.Deciding.{decided, refuted}
-use Rattle.earth.specs.table2.Table2.{table2-fill}
-use Rattle.earth.proofs.table2.Marks.{table2-small}
+use Rattle.earth.proofs.coefficients.Held.{fill-low}
 use Rattle.checks.specs.Sized.{Sized}
 use Rattle.checks.specs.declared.Base.{Base}
 use Rattle.loads.proofs.Answering.{given-bounded, given-led}
@@ -67,8 +66,8 @@ whole-requires c κs =
     let given = first-given (loads .loads-of .result .answer) _ (sym (at-first .first-told .ensures) ∙ c .before .depth .given .1) in (
       subst (λ (b : Base). Sized b) (sym (at-base at-river .base-at .ensures)) (sized (job .base) (ranged at-river)),
       (
-        given-bounded table2-fill table2-small (job .loads) (job .count) (loads .loads-of .result) (loads .loads-of .ensures) (given .0),
-        given-led table2-fill (job .loads) (job .count) (loads .loads-of .result) (loads .loads-of .ensures) (given .0),
+        given-bounded _ (fill-low _) (job .loads) (job .count) (loads .loads-of .result) (loads .loads-of .ensures) (given .0),
+        given-led _ (job .loads) (job .count) (loads .loads-of .result) (loads .loads-of .ensures) (given .0),
       ),
     )
 
@@ -78,7 +77,7 @@ returns-2 c =
     let at-river = at-first .before in
     let loads = at-loads at-river in
     let job = at-base at-river .before .before .before .args .job in
-    refused (first-refuses table2-fill job (loads .loads-of .result) (loads .loads-of .ensures) (ranged at-river) (at-river .river-of .result) (at-river .river-of .ensures) (sym (at-first .first-told .ensures) ∙ c .before .before .number .given .1)) (c .refused-answer2 .ensures)
+    refused (first-refuses _ job (loads .loads-of .result) (loads .loads-of .ensures) (ranged at-river) (at-river .river-of .result) (at-river .river-of .ensures) (sym (at-first .first-told .ensures) ∙ c .before .before .number .given .1)) (c .refused-answer2 .ensures)
 
 returns-3 : tie.Need-returns-3
 returns-3 c =
@@ -87,7 +86,7 @@ returns-3 c =
     let loads = at-loads at-river in
     let job = at-base at-river .before .before .before .args .job in
     let given = first-given (loads .loads-of .result .answer) _ (sym (at-first .first-told .ensures) ∙ c .before .before .depth .given .1) in
-    answered (given-answer table2-fill job (loads .loads-of .result) (loads .loads-of .ensures) (ranged at-river) (given .0) (subst (RiverSays job) (given .1) (at-river .river-of .ensures)) (at-base at-river .base-at .ensures) (c .whole .ensures))
+    answered (given-answer _ job (loads .loads-of .result) (loads .loads-of .ensures) (ranged at-river) (given .0) (subst (RiverSays job) (given .1) (at-river .river-of .ensures)) (at-base at-river .base-at .ensures) (c .whole .ensures))
 
 pub answer-of-spec : {M : Type 1} → statement M
 answer-of-spec =

@@ -4,7 +4,7 @@ use mathlib.Core.Path.{_≡_}
 use mathlib.Core.List.{List}
 use lib.ListN.{length}
 use Rattle.jobs.specs.declared.Job.{Job}
-use Rattle.earth.specs.declared.table2.Coefficient.{Coefficient}
+use Rattle.earth.specs.declared.coefficients.Coefficient.{Coefficient}
 use Rattle.block.specs.Block.{block-of}
 use Rattle.block.specs.declared.Block.{Block}
 use Rattle.debtarush.specs.Lines.{TextOf}

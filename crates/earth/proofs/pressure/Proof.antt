@@ -1,18 +1,19 @@
--- `earth::pressure` meets its contract: the ranges, and the size of Table 2's coefficients, are what the functions that it calls ask, and each arm
+-- `earth::pressure` meets its contract: the ranges, and the size of what is held, are what the functions that it calls ask, and each arm
 -- of the match is one case of what is told.
 use mathlib.Core.Path.{sym, _∙_, subst}
-use Prim.Native.Nat.{_≤_}
+use Prim.Native.Nat.{ℕ, _≤_}
 use borrow.Author.Needs.{needs}
 use borrow.Author.Tests.{not-true, not-false}
 use Rattle.arithmetic.proofs.Deciding.{decided, refuted}
 use Rattle.kinds.specs.ranges.Range.{Ranged}
 use Rattle.kinds.specs.declared.Kind.the-variants.{E}
-use Rattle.earth.specs.table2.Table2.{table2-fill}
+use Rattle.earth.specs.coefficients.Coefficients.{fill-of}
 use Rattle.earth.specs.steps.LowCoefficient.{LowCoefficient}
 use Rattle.earth.specs.Earth.{EarthTold, Pushed, blank, has-coefficient}
 use Rattle.earth.specs.EarthRow.{Pressed, out-of-range, in-range}
+use Rattle.earth.specs.declared.coefficients.Coefficient.{Coefficient}
 use Rattle.earth.specs.declared.Backfill.{Backfill}
-use Rattle.earth.proofs.table2.Marks.{table2-small}
+use Rattle.earth.proofs.coefficients.Held.{fill-low}
 use Rattle.earth.proofs.pressure.Statement.{statement}
 use Rattle.earth.proofs.pressure.Tie as tie
 
@@ -32,8 +33,11 @@ module _ (c : tie.After-backfill-of) where
       let r = ranged in
       subst Ordered (sym (c .backfill-of .ensures)) (record { soil = (r .n1 .from, r .n1 .to); slope = (r .n2 .from, r .n2 .to); height = r .n3 .to; length = r .n4 .to })
 
-  says : (t : EarthTold) → Pushed table2-fill (c .backfill-of .result) t → Pressed table2-fill (c .before .before .before .args .row) t
-  says t h = in-range ranged (subst (λ (b : Backfill). Pushed table2-fill b t) (c .backfill-of .ensures) h)
+  abbrev fill : ℕ → ℕ → Coefficient
+  fill = fill-of (c .before .before .before .args .held)
+
+  says : (t : EarthTold) → Pushed fill (c .backfill-of .result) t → Pressed fill (c .before .before .before .args .row) t
+  says t h = in-range ranged (subst (λ (b : Backfill). Pushed fill b t) (c .backfill-of .ensures) h)
 
 is-ranged-requires : tie.Need-is-ranged-requires
 is-ranged-requires c κs = search needs
@@ -63,7 +67,7 @@ thrust-of-requires c κs =
     let found = known .before .before in
     let b = found .before .backfill-of .result in
     let o = ordered (found .before) in
-    (subst LowCoefficient (sym (found .look-up .ensures) ∙ known .k .given .1) (table2-small (b .soil) (b .slope)), o .height, o .length)
+    (subst LowCoefficient (sym (found .look-up .ensures) ∙ known .k .given .1) (fill-low _ (b .soil) (b .slope)), o .height, o .length)
 
 arm-of-requires : tie.Need-arm-of-requires
 arm-of-requires c κs = search needs

@@ -1,9 +1,9 @@
 -- Document 01, "Earth pressure" (002, 5.7.2, Table 2, N): five soils by five slopes.
 use mathlib.Core.List.{List, [], _∷_}
-use Prim.Native.Nat.{ℕ, _-_}
+use Prim.Native.Nat.{ℕ, zero, suc}
 use lib.ListN.{getD}
-use Rattle.earth.specs.declared.table2.Coefficient.{Coefficient}
-use Rattle.earth.specs.declared.table2.Coefficient.the-variants.{Blank, Value}
+use Rattle.earth.specs.declared.coefficients.Coefficient.{Coefficient}
+use Rattle.earth.specs.declared.coefficients.Coefficient.the-variants.{Blank, Value}
 
 -- a row for each soil, a to e; in it a place for each slope: level, 6:1, 3:1, 2:1, 1½:1
 abbrev pub table2 : List (List Coefficient)
@@ -15,6 +15,8 @@ table2 =
     ∷ (Value 18828 ∷ Value 20306 ∷ Value 21189 ∷ Blank ∷ Blank ∷ [])
     ∷ []
 
--- what Table 2 holds for a soil and a slope, each from 1 to 5; outside these it decides nothing, since 11 is told first
+-- what Table 2 holds for a soil and a slope, each counted from 1
 abbrev pub table2-fill : ℕ → ℕ → Coefficient
-table2-fill soil slope = getD (getD table2 (soil - 1) []) (slope - 1) Blank
+table2-fill zero slope = Blank
+table2-fill (suc i) zero = Blank
+table2-fill (suc i) (suc j) = getD (getD table2 i []) j Blank

@@ -7,7 +7,7 @@ use mathlib.Core.Logic.{⊎-elim}
 use mathlib.Core.List.{List}
 use Prim.Native.Nat.{ℕ, _-_, _≤_, _<_}
 use lib.ListN.{length}
-use Rattle.earth.specs.table2.Table2.{table2-fill}
+use Rattle.earth.specs.coefficients.Coefficients.{fill-of}
 use Rattle.kinds.specs.declared.Row.{Row}
 use Rattle.kinds.specs.classes.Classes.{class-of, optional}
 use Rattle.loads.specs.steps.Exerted.{LoadOf}
@@ -19,12 +19,12 @@ use Rattle.loads.proofs.asked_of.Statement.{statement}
 use Rattle.loads.proofs.asked_of.Tie as tie
 
 abbrev Inv-loop : tie.InvT-loop
-Inv-loop n rows loads₀ first₀ optional₀ i₀ loads first optional i = (i ≤ n) × (optional ≤ i) × RowsAsked table2-fill rows i first optional loads
+Inv-loop held n rows loads₀ first₀ optional₀ i₀ loads first optional i = (i ≤ n) × (optional ≤ i) × RowsAsked (fill-of held) rows i first optional loads
 
 abbrev μ-loop : tie.MeasureT-loop
-μ-loop n rows loads₀ first₀ optional₀ i₀ loads first optional i = n - i
+μ-loop held n rows loads₀ first₀ optional₀ i₀ loads first optional i = n - i
 
-whole : (c : tie.Start Inv-loop μ-loop) → length (c .args .t1) ≡ 16
+whole : (c : tie.Start Inv-loop μ-loop) → length (c .args .t2) ≡ 16
 whole c = search needs
 
 no-load-requires : tie.Need-no-load-requires Inv-loop μ-loop
@@ -73,8 +73,11 @@ module _ (c : tie.At-match-came Inv-loop μ-loop) where
   abbrev turn : tie.In-loop Inv-loop μ-loop
   turn = c .before .before .before .before .before
 
+  abbrev held : List (List ℕ)
+  held = turn .before .before .before .args .held
+
   abbrev rows : List Row
-  rows = turn .before .before .before .args .t1
+  rows = turn .before .before .before .args .t2
 
   abbrev i : ℕ
   i = turn .before .loop .i
@@ -82,9 +85,9 @@ module _ (c : tie.At-match-came Inv-loop μ-loop) where
   few : i < 16
   few = omega (arith, turn .before .before .before .pre, turn .loop-test .taken)
 
-  told : {a : RowLoad} → c .before .load-of .result ≡ a → LoadOf table2-fill (load-row rows i) a
+  told : {a : RowLoad} → c .before .load-of .result ≡ a → LoadOf (fill-of held) (load-row rows i) a
   unfolding load-row
-  told e = subst (LoadOf table2-fill (load-row rows i)) e (c .before .load-of .ensures)
+  told e = subst (LoadOf (fill-of held) (load-row rows i)) e (c .before .load-of .ensures)
 
   counts : c .before .before .optional-count .result ≡ optional (class-of (load-row rows i .kind))
   unfolding load-row
@@ -115,10 +118,11 @@ loop-again c =
 returns : tie.Need-returns Inv-loop μ-loop
 returns c =
     let at = c .before .loop in
-    let rows = c .before .before .before .args .t1 in
+    let rows = c .before .before .before .args .t2 in
+    let held = c .before .before .before .args .held in
     let e = le-antisymm (at .inv .0) (c .loop-test .left) in
-    let p = subst (λ (n : ℕ). RowsAsked table2-fill rows n (at .first) (at .optional) (at .loads)) e (at .inv .2) in
-    asked-all table2-fill rows _ (c .before .before .before .pre) (whole (c .before .before .before)) p
+    let p = subst (λ (n : ℕ). RowsAsked (fill-of held) rows n (at .first) (at .optional) (at .loads)) e (at .inv .2) in
+    asked-all (fill-of held) rows _ (c .before .before .before .pre) (whole (c .before .before .before)) p
 
 pub asked-of-spec : {M : Type 1} → statement M
 asked-of-spec =

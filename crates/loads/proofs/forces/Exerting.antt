@@ -15,7 +15,7 @@ use Rattle.kinds.specs.declared.Row.{Row}
 use Rattle.kinds.specs.Table.{load-columns, phase, train}
 use Rattle.kinds.specs.declared.Column.the-variants.{Empty, Filled}
 use Rattle.kinds.specs.ranges.Range.{Around, InColumns, Ranged, value}
-use Rattle.earth.specs.declared.table2.Coefficient.{Coefficient}
+use Rattle.earth.specs.declared.coefficients.Coefficient.{Coefficient}
 use Rattle.earth.specs.steps.LowCoefficient.{LowCoefficient}
 use Rattle.earth.specs.Earth.{EarthTold, refused, push, backfill-of, Pushed, blank, has-coefficient}
 use Rattle.earth.specs.EarthRow.{Pressed, out-of-range, in-range}

@@ -8,7 +8,8 @@ use mathlib.Core.List.{List}
 use Prim.Native.Nat.{ℕ, _<_}
 use lib.ListN.{length, take}
 use Rattle.arithmetic.proofs.Deciding.{decided, refuted}
-use Rattle.earth.specs.table2.Table2.{table2-fill}
+use Rattle.earth.specs.coefficients.Coefficients.{fill-of}
+use Rattle.earth.specs.declared.coefficients.Coefficient.{Coefficient}
 use Rattle.kinds.specs.declared.Row.{Row}
 use Rattle.loads.specs.Answer.{LoadsTold, loads-told, loads-told-by, LoadsSays, refuses, loaded, Beside}
 use Rattle.loads.specs.LoadRows.{AllNamed, optionals}
@@ -41,6 +42,9 @@ module _ (c : tie.Joined2) where
   abbrev a : tie.After-asked-of
   a = sixteen .before .before
 
+  abbrev fill : ℕ → ℕ → Coefficient
+  fill = fill-of (a .before .before .args .held)
+
   abbrev rows : List Row
   rows = take (a .before .row-count .result) (a .before .before .args .rows)
 
@@ -55,7 +59,7 @@ module _ (c : tie.Joined2) where
       ⊎-elim (λ w. inl (refuted (named .result) (not-true _ (w .0 .taken)) (named .ensures), subst⁻¹ (Lower (sixteen .if1 .first) 18) (w .2) (w .1 .ensures)))
       (λ w. inr ((λ h. h (decided (named .result) (not-false _ (w .0 .left)) (named .ensures))), w .1)) (c .if2 .came)
 
-  lowest : Lowest (Shown table2-fill rows) (c .if2 .first)
+  lowest : Lowest (Shown fill rows) (c .if2 .first)
   lowest = lowest-with (λ e. omega arith) with-18 (lowest-with (λ e. omega arith) with-16 (a .asked-of .ensures .first))
 
   -- where there is none, no row is refused by itself
@@ -66,9 +70,9 @@ module _ (c : tie.Joined2) where
   whole : length (a .before .before .args .rows) ≡ 16
   whole = search needs
 
-  says : {t : LoadsTold} → LoadsSays table2-fill rows t → LoadsSays table2-fill (take (a .before .before .args .count) (a .before .before .args .rows)) t
+  says : {t : LoadsTold} → LoadsSays fill rows t → LoadsSays fill (take (a .before .before .args .count) (a .before .before .args .rows)) t
   says {t} =
-      subst (λ (l : List Row). LoadsSays table2-fill l t) (ap (λ (m : ℕ). take m (a .before .before .args .rows)) (a .before .row-count .ensures .0) ∙ first-rows _ (a .before .before .args .count) whole)
+      subst (λ (l : List Row). LoadsSays fill l t) (ap (λ (m : ℕ). take m (a .before .before .args .rows)) (a .before .row-count .ensures .0) ∙ first-rows _ (a .before .before .args .count) whole)
 
 no-loads-requires : tie.Need-no-loads-requires
 no-loads-requires c κs = search needs
@@ -78,14 +82,14 @@ unfolding loads-told loads-told-by Beside
 returns c =
     let at = c .before .before in
     let some = c .before .if3 .taken in
-    record { says = says at (refuses (first-refused table2-fill (rows at) (lowest at) (λ e. omega arith))); beside = c .no-loads .ensures }
+    record { says = says at (refuses (first-refused _ (rows at) (lowest at) (λ e. omega arith))); beside = c .no-loads .ensures }
 
 returns-2 : tie.Need-returns-2
 unfolding loads-told loads-told-by Beside
 returns-2 c =
     let at = c .before .before in
     let zero : at .if2 .first ≡ 0 = omega (arith, c .before .if3 .left) in
-    record { says = says at (loaded (none-refused table2-fill (rows at) (lowest at) zero) (a at .asked-of .ensures .loads (none at zero))); beside = tt }
+    record { says = says at (loaded (none-refused _ (rows at) (lowest at) zero) (a at .asked-of .ensures .loads (none at zero))); beside = tt }
 
 pub loads-of-spec : {M : Type 1} → statement M
 loads-of-spec = tie.close (tie.spec row-count-requires asked-of-requires lower-requires all-named-requires lower-requires-2 no-loads-requires returns returns-2)

@@ -1,4 +1,5 @@
--- What a load row exerts (document 01, the job book, Earth pressure and Load sets; 02, P1 and P3). `fill` is what is held for a soil and a slope: today Table 2.
+-- What a load row exerts (document 01, the job book, Earth pressure and Load sets; 02, P1, P3 and P4).
+-- `fill` is what is held for a soil and a slope: what the two fill books say for the job's member (02, P4).
 use mathlib.Core.Path.{_≡_}
 use Prim.Native.Nat.{ℕ, _*_}
 use lib.IntN.{pos, _*ℤ_}
@@ -6,7 +7,7 @@ use Rattle.kinds.specs.declared.Numbers.{Numbers}
 use Rattle.kinds.specs.declared.Row.{Row}
 use Rattle.kinds.specs.Table.{phase, train}
 use Rattle.kinds.specs.ranges.Range.{value}
-use Rattle.earth.specs.declared.table2.Coefficient.{Coefficient}
+use Rattle.earth.specs.declared.coefficients.Coefficient.{Coefficient}
 use Rattle.earth.specs.Earth.{push, backfill-of, Pushed}
 use Rattle.current.specs.Current.{shaft-of, CurrentRule}
 use Rattle.current.specs.Current as current

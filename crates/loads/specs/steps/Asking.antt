@@ -7,7 +7,7 @@ use mathlib.Core.List.{List, [], _∷_}
 use Prim.Native.Nat.{ℕ, _≤_, _<_}
 use lib.Dec.{ltb}
 use Rattle.kinds.specs.declared.Row.{Row}
-use Rattle.earth.specs.declared.table2.Coefficient.{Coefficient}
+use Rattle.earth.specs.declared.coefficients.Coefficient.{Coefficient}
 use Rattle.loads.specs.LoadRows.{optionals, AreLoads}
 use Rattle.loads.specs.steps.Exerted.{RowWhen}
 use Rattle.loads.specs.declared.Asked.{Asked}

@@ -3,7 +3,7 @@ use Prim.Native.Nat.{ℕ}
 use Rattle.arithmetic.specs.rounding.Least.{Least}
 use Rattle.kinds.specs.declared.Row.{Row}
 use Rattle.kinds.specs.ranges.Range.{Ranged}
-use Rattle.earth.specs.declared.table2.Coefficient.{Coefficient}
+use Rattle.earth.specs.declared.coefficients.Coefficient.{Coefficient}
 use Rattle.loads.specs.forces.Blank.{BlankThere}
 use Rattle.loads.specs.forces.Wetted.{UpperBelowLower}
 use Rattle.loads.specs.forces.Exerts.{Exerts}

@@ -5,6 +5,7 @@ use native.Mathlib.Omega.{arith}
 use mathlib.Core.Path.{_≡_, refl, sym, _∙_, subst}
 use mathlib.Core.Logic.{⊎-elim}
 use mathlib.Core.List.{[], _∷_}
+use Prim.Native.Nat.{ℕ}
 use types.Run.{OneOf}
 use denote.Enum.Declared.{tagOf}
 use borrow.Author.Tests.{not-true, not-false}
@@ -13,9 +14,10 @@ use native.Mathlib.Nat.{le-trans}
 use Rattle.arithmetic.proofs.Deciding.{decided, refuted}
 use Rattle.earth.specs.declared.EarthAnswer.{EarthAnswer}
 use Rattle.earth.specs.EarthRow.{Pressed, earth-told}
-use Rattle.earth.specs.table2.Table2.{table2-fill}
+use Rattle.earth.specs.coefficients.Coefficients.{fill-of}
+use Rattle.earth.specs.declared.coefficients.Coefficient.{Coefficient}
 use Rattle.earth.proofs.Bounds.{pressed-modest}
-use Rattle.earth.proofs.table2.Marks.{table2-small}
+use Rattle.earth.proofs.coefficients.Held.{fill-low}
 use Rattle.current.specs.declared.CurrentAnswer.{CurrentAnswer}
 use Rattle.current.specs.CurrentRow.{CurrentSays, current-told}
 use Rattle.current.proofs.Bounds.{says-mild}
@@ -56,13 +58,16 @@ enum-told-3 c = search needs
 enum-known-thrust : tie.Need-enum-known-thrust
 enum-known-thrust c = search needs
 
--- the row, and what a load of its class, its phase and its train has
+-- what is held, the row, and what a load of its class, its phase and its train has
 module _ (c : tie.After-source-of) where
+  abbrev fill : ℕ → ℕ → Coefficient
+  fill = fill-of (c .before .before .before .before .args .held)
+
   abbrev row : Row
   row = c .before .before .before .before .args .row
 
   kept : (load : Load) → load .class ≡ c .before .before .before .before .args .class → load .phase ≡ c .before .before .phase-of .result → load .train ≡ c .before .train-of .result
-      → Kept table2-fill row load
+      → Kept fill row load
   unfolding Kept
   kept load p q r = (p ∙ c .before .before .before .before .pre, q ∙ c .before .before .phase-of .ensures, r ∙ c .before .train-of .ensures)
 
@@ -74,11 +79,11 @@ module _ (c : tie.After-pressure) where
   is-earth : source (row asked .kind) ≡ Earth
   is-earth = sym (asked .source-of .ensures) ∙ c .before .enum-told .given .1
 
-  told : {a : EarthAnswer} → c .pressure .result ≡ a → Pressed table2-fill (row asked .numbers) (earth-told a)
-  told e = subst (λ (a : EarthAnswer). Pressed table2-fill (row asked .numbers) (earth-told a)) e (c .pressure .ensures)
+  told : {a : EarthAnswer} → c .pressure .result ≡ a → Pressed (fill asked) (row asked .numbers) (earth-told a)
+  told e = subst (λ (a : EarthAnswer). Pressed (fill asked) (row asked .numbers) (earth-told a)) e (c .pressure .ensures)
 
 push-load-requires : tie.Need-push-load-requires
-push-load-requires c κs = let m = pressed-modest table2-small (told (c .before .before .before) (c .before .thrust .given .1)) in (m .thrust, le-trans (m .arm) (lit≤ tt))
+push-load-requires c κs = let m = pressed-modest (fill-low _) (told (c .before .before .before) (c .before .thrust .given .1)) in (m .thrust, le-trans (m .arm) (lit≤ tt))
 
 enum-told-4 : tie.Need-enum-told-4
 enum-told-4 c = search needs
@@ -114,7 +119,7 @@ is-ranged-requires : tie.Need-is-ranged-requires
 is-ranged-requires c κs = search needs
 
 returns : tie.Need-returns
-returns c = told-out table2-fill _ (refuted (c .before .is-ranged .result) (not-true _ (c .if1 .taken)) (c .before .is-ranged .ensures))
+returns c = told-out _ _ (refuted (c .before .is-ranged .result) (not-true _ (c .if1 .taken)) (c .before .is-ranged .ensures))
 
 -- past the test of its ranges a row is in range
 in-range : (c : tie.Else1) → let r = row (c .before .before .before) in Ranged (r .kind) (r .numbers)
@@ -131,7 +136,7 @@ unfolding Forces
 returns-2 c =
     let test = c .before .before .before in
     let at = test .before .before .before in
-    told-load table2-fill _ (sym (at .source-of .ensures) ∙ c .before .enum-told7 .given .1) absent-earth absent-current (in-range test) _
+    told-load _ _ (sym (at .source-of .ensures) ∙ c .before .enum-told7 .given .1) absent-earth absent-current (in-range test) _
     (kept at _ (c .push-load3 .ensures .0) (c .push-load3 .ensures .1) (c .push-load3 .ensures .2)) (c .push-load3 .ensures .3)
 
 -- and where it has a source that is no rule, that is its own numbers
@@ -150,32 +155,32 @@ own-load-requires : tie.Need-own-load-requires
 own-load-requires c κs = let r = own-columns _ _ (is-own c) (in-range (c .before)) in (around-size 50000 _ (r .n3), r .n4 .to, r .n4 .plain)
 
 returns-3 : tie.Need-returns-3
-returns-3 c = earth-told-out table2-fill _ (is-earth (c .before .before)) (told (c .before .before) (c .enum-told2 .given .1))
+returns-3 c = earth-told-out _ _ (is-earth (c .before .before)) (told (c .before .before) (c .enum-told2 .given .1))
 
 returns-4 : tie.Need-returns-4
-returns-4 c = earth-told-blank table2-fill _ (is-earth (c .before .before)) (told (c .before .before) (c .enum-told3 .given .1))
+returns-4 c = earth-told-blank _ _ (is-earth (c .before .before)) (told (c .before .before) (c .enum-told3 .given .1))
 
 returns-5 : tie.Need-returns-5
 returns-5 c =
     let at = c .before .before .before .before in
-    earth-told-push table2-fill _ (is-earth at) _ (told at (c .before .before .thrust .given .1)) (kept (asked at) _ (c .push-load .ensures .0) (c .push-load .ensures .1) (c .push-load .ensures .2)) (c .push-load .ensures .3)
+    earth-told-push _ _ (is-earth at) _ (told at (c .before .before .thrust .given .1)) (kept (asked at) _ (c .push-load .ensures .0) (c .push-load .ensures .1) (c .push-load .ensures .2)) (c .push-load .ensures .3)
 
 returns-6 : tie.Need-returns-6
-returns-6 c = current-told-out table2-fill _ (is-current (c .before .before)) (said (c .before .before) (c .enum-told5 .given .1))
+returns-6 c = current-told-out _ _ (is-current (c .before .before)) (said (c .before .before) (c .enum-told5 .given .1))
 
 returns-7 : tie.Need-returns-7
-returns-7 c = current-told-below table2-fill _ (is-current (c .before .before)) (said (c .before .before) (c .enum-told6 .given .1))
+returns-7 c = current-told-below _ _ (is-current (c .before .before)) (said (c .before .before) (c .enum-told6 .given .1))
 
 returns-8 : tie.Need-returns-8
 returns-8 c =
     let at = c .before .before .before .before in
-    current-told-push table2-fill _ (is-current at) _ (said at (c .before .before .force .given .1)) (kept (wet at) _ (c .push-load2 .ensures .0) (c .push-load2 .ensures .1) (c .push-load2 .ensures .2)) (c .push-load2 .ensures .3)
+    current-told-push _ _ (is-current at) _ (said at (c .before .before .force .given .1)) (kept (wet at) _ (c .push-load2 .ensures .0) (c .push-load2 .ensures .1) (c .push-load2 .ensures .2)) (c .push-load2 .ensures .3)
 
 returns-9 : tie.Need-returns-9
 unfolding Forces
 returns-9 c =
     let test = c .before .before in
-    told-load table2-fill _ (is-own (c .before)) own-earth own-current (in-range test) _ (kept (test .before .before .before) _ (c .own-load .ensures .0) (c .own-load .ensures .1) (c .own-load .ensures .2)) (c .own-load .ensures .3)
+    told-load _ _ (is-own (c .before)) own-earth own-current (in-range test) _ (kept (test .before .before .before) _ (c .own-load .ensures .0) (c .own-load .ensures .1) (c .own-load .ensures .2)) (c .own-load .ensures .3)
 
 pub load-of-spec : {M : Type 1} → statement M
 load-of-spec =

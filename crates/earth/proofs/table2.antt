@@ -1,2 +1,0 @@
--- The laws of Table 2. Other crates' proofs cite them.
-pub mod Marks

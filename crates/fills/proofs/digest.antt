@@ -1,0 +1,2 @@
+-- Laws of fills in words.
+pub mod Words

@@ -1,0 +1,2 @@
+-- Laws of a fill book's rows.
+pub mod Cells

@@ -1,0 +1,4 @@
+-- Laws of the lookup.
+pub mod Rows
+pub mod Finding
+pub mod Placing

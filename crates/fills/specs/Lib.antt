@@ -1,0 +1,9 @@
+pub mod fill_rows
+pub mod digest
+pub mod reading
+pub mod lookup
+pub mod FillBook
+pub mod Says
+pub mod Values
+pub mod steps
+pub mod table2_book

@@ -1,0 +1,133 @@
+// Runs the lookups that standard input lists (02, P4). It is a comma-separated text, a lookup a row: the own book and the common one, byte by
+// byte in hex, member, soil and slope. Each gives a line: the book that holds the row, where the row starts in it, and the row in hex.
+// The list has these three behind its five, as implementations written apart agree on them; they are not read here, and are what must be printed.
+use csv::cells::Cells;
+use fields::Entered;
+use fills::lookup::Place;
+use libc::STDERR_FILENO;
+use libc::STDIN_FILENO;
+use libc::STDOUT_FILENO;
+ghost use Prim.Native.Nat.{_<_};
+ghost use Rattle.io.specs.Counts.{Counts};
+
+// What a hexadecimal digit is worth; anything else is 0.
+fn worth(digit: u8) -> u8
+    ensures { λ r. ⌜ r < 16 ⌝ }
+{
+    if digit < b'0' {
+        return 0;
+    }
+    if digit <= b'9' {
+        return digit - b'0';
+    }
+    if digit < b'a' {
+        return 0;
+    }
+    if digit <= b'f' {
+        return digit - b'a' + 10;
+    }
+    0
+}
+
+// Bytes from their hexadecimal digits, two by two, as many as fit.
+fn decode(hex: &[u8], bytes: &mut [u8]) -> usize
+    ensures { λ r. ⌜ Counts r (now (bytes .exit)) ⌝ }
+{
+    let n = hex.len() / 2;
+    let mut i: usize = 0;
+    while i < bytes.len() {
+        if n <= i {
+            return i;
+        }
+        bytes[i] = worth(hex[2 * i]) * 16 + worth(hex[2 * i + 1]);
+        i += 1;
+    }
+    i
+}
+
+// The last hexadecimal digit of a number.
+fn digit_of(number: u8) -> u8 {
+    let worth = number % 16;
+    if worth < 10 {
+        return b'0' + worth;
+    }
+    b'a' + (worth - 10)
+}
+
+// Bytes in hexadecimal digits.
+fn put_hex(bytes: &[u8]) {
+    let n = bytes.len();
+    let mut i: usize = 0;
+    while i < n {
+        let byte = bytes[i];
+        let digits = [digit_of(byte / 16), digit_of(byte)];
+        io::write_all(STDOUT_FILENO, &digits);
+        i += 1;
+    }
+}
+
+// The number that a field is; or one that is no soil and no slope.
+fn number_of(raw: &[u8]) -> u32 {
+    let Entered::Is(entry) = fields::number_at(raw) else {
+        return 0;
+    };
+    if entry.minus {
+        return 0;
+    }
+    entry.size
+}
+
+// The book that holds the row, and where the row starts in it.
+fn put_place(book: &[u8], from: usize) {
+    io::write_all(STDOUT_FILENO, book);
+    io::write_all(STDOUT_FILENO, b",");
+    io::print_decimal(STDOUT_FILENO, from as u64);
+    io::write_all(STDOUT_FILENO, b",");
+}
+
+// One lookup.
+fn look_up<'a>(own: &'a [u8], common: &'a [u8], member: &[u8], soil: u32, slope: u32) {
+    let place = fills::lookup::place_of(own, common, member, soil, slope);
+    match place {
+        Place::Own { from, to: _ } => put_place(b"own", from),
+        Place::Common { from, to: _ } => put_place(b"common", from),
+        Place::Nowhere => put_place(b"none", 0),
+    }
+    put_hex(fills::lookup::row_of(own, common, member, soil, slope));
+    io::write_all(STDOUT_FILENO, b"\r\n");
+}
+
+// The lookup of a row.
+fn look_up_row(s: &[u8], cells: Cells) {
+    let mut own = [0u8; 65537];
+    let mut common = [0u8; 65537];
+    let owns = decode(csv::cells::cell(s, cells, 0), &mut own);
+    let commons = decode(csv::cells::cell(s, cells, 1), &mut common);
+    let soil = number_of(csv::cells::cell(s, cells, 3));
+    let slope = number_of(csv::cells::cell(s, cells, 4));
+    let member = csv::cells::cell(s, cells, 2);
+    look_up(&own[0..owns], &common[0..commons], member, soil, slope);
+}
+
+// Each row of a comma-separated text.
+fn look_up_all(s: &[u8]) {
+    if !csv::is_csv(s) {
+        io::write_all(
+            STDERR_FILENO,
+            b"lookup_run: the list is not comma-separated\n",
+        );
+        return;
+    }
+    let mut at: usize = 0;
+    while at < s.len() {
+        let cells = csv::cells::cells_at(s, at);
+        look_up_row(s, cells);
+        at = cells.next;
+    }
+}
+
+fn main() {
+    let mut list = [0u8; 262144];
+    let len = io::read_full(STDIN_FILENO, &mut list);
+    look_up_all(&list[..len]);
+}
