@@ -1,5 +1,5 @@
-/* The yardstick: document 01's printing program in plain C, with 02's kind W and its trains. A book on standard input, its lines on standard
-   output. The book is read once; load sets are walked as two tables of half sums with carried sums, all checks of a combination
+/* The yardstick: document 01's printing program in plain C, with 02's kind W, its trains and its fill books. A book on standard input, the own and
+   the common fill book as files that its arguments name, the book's lines on standard output. The book is read once; load sets are walked as two tables of half sums with carried sums, all checks of a combination
    at once, and a quotient is only worked out where the figure gets worse. What it takes from the C library is declared
    here, so that the kit's compiler, which has no headers, compiles it. */
 typedef long i64;
@@ -14,6 +14,8 @@ int memcmp(const void *, const void *, u64);
 u64 strlen(const char *);
 i64 read(int, void *, u64);
 i64 write(int, const void *, u64);
+int open(const char *, int, ...);
+int close(int);
 #define INLINE static inline __attribute__((always_inline))
 #define COLD static __attribute__((noinline, cold))
 
@@ -240,10 +242,61 @@ static u64 clearance_needed(u64 q) {
     return q <= 3000000 ? 1500 : 1800;
 }
 
-static const u64 table2[5][5] = {
-    {4609, 4471, 4707, 5962, 8786}, {6178, 5805, 6276, 7649, 10787}, {7355, 7511, 8090, 9571, 13494},
-    {15690, 16186, 17893, 0, 0}, {18828, 20306, 21189, 0, 0},
+typedef unsigned short Fills[5][5]; /* by soil and slope, 0 where nothing is held */
+
+static Fills common = {
+    {4609, 4471, 4707, 5962, 8786}, {6178, 5805, 6276, 7649, 10787}, {7355, 7511, 8090, 9571, 13494}, {15690, 16186, 17893, 0, 0}, {18828, 20306, 21189, 0, 0},
 };
+
+/* Own fills, in a hash table by member: a book has 6,553 rows at most. */
+enum { OWN_SLOTS = 16384 };
+static struct { u8 member[12], len; Fills fills; } own[OWN_SLOTS];
+
+/* The member's slot, or the empty one that is its own. */
+static u32 own_slot(const u8 *member, u32 len) {
+    u32 at = 2166136261u;
+    for (u32 i = 0; i < len; i++) at = (at ^ member[i]) * 16777619u;
+    for (at ^= at >> 16;; at++) {
+        at %= OWN_SLOTS;
+        if (own[at].len == 0 || (own[at].len == len && !memcmp(own[at].member, member, len))) return at;
+    }
+}
+
+/* Whether a fill book is accepted; its values go to own, or to common. */
+static int read_fills(const u8 *book, u32 len, int is_common) {
+    static const i32 most[3] = {5, 5, 40000};
+    if (len > MAX_BOOK) return 0;
+    if (is_common) memset(common, 0, sizeof common);
+    Rows rows = {book, len, 0, len == 0};
+    Field f[10];
+    int n;
+    while ((n = next_row(&rows, f)) != 0) {
+        if (n != 5) return 0;
+        const u8 *m = book + f[0].start;
+        u32 mn = f[0].end - f[0].start;
+        if (is_common ? mn != 0 : !name_form(m, mn)) return 0;
+        i32 v[3];
+        for (int i = 0; i < 3; i++)
+            if (!number(book + f[1 + i].start, f[1 + i].end - f[1 + i].start, &v[i]) || v[i] < 1 || v[i] > most[i]) return 0;
+        Fills *fills = &common;
+        if (!is_common) {
+            u32 at = own_slot(m, mn);
+            memcpy(own[at].member, m, mn);
+            own[at].len = mn;
+            fills = &own[at].fills;
+        }
+        unsigned short *k = &(*fills)[v[0] - 1][v[1] - 1];
+        if (*k) return 0;
+        *k = v[2];
+    }
+    return 1;
+}
+
+static u64 fill_value(const Key *key, int soil, int slope) {
+    u64 k = own[own_slot(key->bytes, key->member_len)].fills[soil - 1][slope - 1];
+    return k ? k : common[soil - 1][slope - 1];
+}
+
 static const u64 table4[6] = {79, 35, 37, 47, 24, 26};
 
 /* ---- load sets */
@@ -493,7 +546,7 @@ static u32 lines(const Job *j) {
         const Load *o = &j->loads[i];
         const i32 *n = o->n;
         if (o->kind == KE) {
-            u64 k = table2[n[0] - 1][n[1] - 1], ht = n[2];
+            u64 k = fill_value(&j->key, n[0], n[1]), ht = n[2];
             if (k == 0) bad |= 1u << 15;
             rows[i] = sums_row(b, i, 0, 0, div_up(k * ht * ht * n[3], 2000000000000ull), div_up(ht, 3));
         } else if (o->kind == KW) {
@@ -559,17 +612,30 @@ static u32 lines(const Job *j) {
     return 0;
 }
 
-int main(void) {
-    static u8 book[MAX_BOOK + 1];
-    u32 len = 0, no = 0, row = 0;
-    while (len < sizeof book) {
-        i64 n = read(0, book + len, sizeof book - len);
-        if (n < 0) return 1;
+/* Reads up to one byte more than a book may have. */
+static int read_all(int file, u8 *to, u32 *len) {
+    for (*len = 0; *len < MAX_BOOK + 1;) {
+        i64 n = read(file, to + *len, MAX_BOOK + 1 - *len);
+        if (n < 0) return 0;
         if (n == 0) break;
-        len += n;
+        *len += n;
     }
+    return 1;
+}
+
+int main(int argc, char **argv) {
+    static u8 book[MAX_BOOK + 1], fill_book[MAX_BOOK + 1];
+    u32 len, no = 0, row = 0;
+    if (!read_all(0, book, &len)) return 1;
     make_classes();
-    int count = scan(book, len, &no, &row);
+    int count = scan(book, len, &no, &row), accepted = 1;
+    for (int i = 1; i < argc && i <= 2; i++) {
+        int file = open(argv[i], 0);
+        if (file < 0 || !read_all(file, fill_book, &len)) return 1;
+        close(file);
+        accepted &= read_fills(fill_book, len, i == 2);
+    }
+    if (count && !accepted) { count = 0; no = 8; }
     if (count == 0) {
         PUT(",,BOOK,");
         num(no);
