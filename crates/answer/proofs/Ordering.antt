@@ -18,7 +18,8 @@ use Rattle.earth.specs.declared.coefficients.Coefficient.{Coefficient}
 use Rattle.checks.specs.Sized.{Sized}
 use Rattle.loads.specs.forces.Blank.{BlankThere}
 use Rattle.loads.specs.forces.Wetted.{UpperBelowLower}
-use Rattle.loads.specs.LoadRows.{AllRanged, NoneBlank, AllUpright, AllNamed, optionals, AreLoads}
+use Rattle.loads.specs.forces.Laden.{LengthNotAbove, SoilTypeE}
+use Rattle.loads.specs.LoadRows.{AllRanged, NoneBlank, AllUpright, AllNamed, AllAbove, NoTypeE, optionals, AreLoads}
 use Rattle.loads.specs.Answer as loads
 use Rattle.loads.specs.Answer.{LoadsTold, refused, loads-told, loads-told-by, LoadsSays, LoadsAnswered}
 use Rattle.loads.proofs.Answering.{given-loads}
@@ -59,6 +60,8 @@ record LoadsClear (fill : ℕ → ℕ → Coefficient) (rows : List Row) (n : �
   few : 16 < n → optionals rows ≤ 12
   upright : 17 < n → AllUpright rows
   named : 18 < n → AllNamed rows
+  above : 19 < n → AllAbove rows
+  bearing : 20 < n → NoTypeE rows
 
 river-before : {job : Job} {m n : ℕ} → n ≤ m → RiverClear job m → RiverClear job n
 river-before l c = record {
@@ -91,6 +94,8 @@ loads-clear {fill} {rows} {n} none = record {
   few = λ h. by-cases (decLe (optionals rows) 12) (λ k. k) (λ k. absurd (none 16 h (loads.too-many (omega arith))));
   upright = λ h. every-unless UpperBelowLower rows (λ x. none 17 h (loads.upper-below-lower x));
   named = λ h. all-named rows (λ x. none 18 h (loads.no-train x));
+  above = λ h. every-unless LengthNotAbove rows (λ x. none 19 h (loads.not-above x));
+  bearing = λ h. every-unless SoilTypeE rows (λ x. none 20 h (loads.type-e x));
 }
 
 module _ (fill : ℕ → ℕ → Coefficient) (job : Job) (base : Ranged B (job .base)) where
@@ -107,6 +112,8 @@ module _ (fill : ℕ → ℕ → Coefficient) (job : Job) (base : Ranged B (job 
   not-before c l m (rules.too-many x) h = let k = l .few h in omega arith
   not-before c l m (rules.upper-below-lower x) h = x (l .upright h)
   not-before c l m (rules.no-train x) h = x (l .named h)
+  not-before c l m (rules.not-above x) h = x (l .above h)
+  not-before c l m (rules.type-e x) h = x (l .bearing h)
 
   least : {n : ℕ} → When fill job n → RiverClear job n → LoadsClear fill rows n → Refuses fill job n
   least {n} w c l = record { holds = w; least = λ m x. by-cases (decLe n m) (λ k. k) (λ k. absurd (not-before c l m x (omega arith))) }
@@ -124,6 +131,8 @@ module _ (fill : ℕ → ℕ → Coefficient) (job : Job) (base : Ranged B (job 
   loads-when (loads.too-many h) = rules.too-many h
   loads-when (loads.upper-below-lower h) = rules.upper-below-lower h
   loads-when (loads.no-train h) = rules.no-train h
+  loads-when (loads.not-above h) = rules.not-above h
+  loads-when (loads.type-e h) = rules.type-e h
 
   module _ {n : ℕ} (p : Least (loads.RowsWhen fill rows) n) where
     loads-before : {k : ℕ} → k ≤ n → LoadsClear fill rows k
@@ -160,6 +169,8 @@ refuses-11 fill job h = record { holds = rules.out-of-range h; least = lowest }
     lowest m (rules.too-many x) = omega arith
     lowest m (rules.upper-below-lower x) = omega arith
     lowest m (rules.no-train x) = omega arith
+    lowest m (rules.not-above x) = omega arith
+    lowest m (rules.type-e x) = omega arith
 
 -- ---- what is told first, from what the load rows and the river rows are told
 refused-number : {m n : ℕ} → river.Refused m ≡ river.Refused n → m ≡ n

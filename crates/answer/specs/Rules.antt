@@ -1,4 +1,4 @@
--- Document 01, Refusals of a job: 11 to 16, and 02, P1: 17, P3: 18, and P4: 15, over the whole job.
+-- Document 01, Refusals of a job: 11 to 16, and 02, P1: 17, P3: 18, P4: 15, and P5: 19 and 20, over the whole job.
 -- `fill` is what is held for a soil and a slope: what the two fill books say for the job's member (02, P4).
 use Prim.Native.Nat.{ℕ, _<_}
 use mathlib.Core.List.{List}
@@ -7,7 +7,7 @@ use Rattle.arithmetic.specs.rounding.Least.{Least}
 use Rattle.kinds.specs.declared.Row.{Row}
 use Rattle.jobs.specs.declared.Job.{Job}
 use Rattle.earth.specs.declared.coefficients.Coefficient.{Coefficient}
-use Rattle.loads.specs.LoadRows.{AllRanged, NoneBlank, AllUpright, AllNamed, optionals}
+use Rattle.loads.specs.LoadRows.{AllRanged, NoneBlank, AllUpright, AllNamed, AllAbove, NoTypeE, optionals}
 use Rattle.jobs.specs.stages.Rows.{RowsRanged}
 use Rattle.scour.specs.Scour as scour
 use Rattle.clearance.specs.Clear as clearance
@@ -44,11 +44,15 @@ pub data When (fill : ℕ → ℕ → Coefficient) (job : Job) : ℕ → Type 0 
   upper-below-lower : (AllUpright (load-rows-of job) → ⊥) → When fill job 17
   -- the row named is missing or is not LL
   no-train : (AllNamed (load-rows-of job) → ⊥) → When fill job 18
+  -- length not above B
+  not-above : (AllAbove (load-rows-of job) → ⊥) → When fill job 19
+  -- soil type e
+  type-e : (NoTypeE (load-rows-of job) → ⊥) → When fill job 20
 
 -- "Order as numbered": a job is refused with the least of its numbers
 abbrev pub Refuses : (ℕ → ℕ → Coefficient) → Job → ℕ → Type 0
 Refuses fill job n = Least (When fill job) n
 
--- "the job isn't refused": none of 11 to 18 is given
+-- "the job isn't refused": none of 11 to 20 is given
 abbrev pub Unrefused : (ℕ → ℕ → Coefficient) → Job → Type 0
 Unrefused fill job = (n : ℕ) → When fill job n → ⊥

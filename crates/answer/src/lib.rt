@@ -1,4 +1,4 @@
-// The answer of a job (document 01, Refusals of a job, The printed answer; 02, P1, P3 and P4): refusal 11 to 18, or its lines and verdict.
+// The answer of a job (document 01, Refusals of a job, The printed answer; 02, P1 and P3 to P5): refusal 11 to 20, or its lines and verdict.
 //
 // What is hard is the order: a job is refused with the lowest of its numbers, over all its rows, whatever row shows it
 // first. The answer is total on every `Job` value, whatever is held of fills, and depends on these alone: Table 4 is a constant.

@@ -4,8 +4,9 @@
 // load sets that the old program got wrong or never tried; those whose names begin with p1 or current have W rows,
 // current-ends.book at the ends of their ranges and past them, and with each refusal of a job that comes before 17; 99 of those whose names
 // begin with p3 have LF or CF rows, and all whose names begin with train: train-ends.book with n6 at its ends and past them, naming rows
-// that are not LL, and beside each refusal of a job that comes before 18, the others as docs/DECISIONS.md works them out. A file that cannot
-// be read to its end is told, and has no lines.
+// that are not LL, and beside each refusal of a job that comes before 18, the others as docs/DECISIONS.md works them out; those whose names
+// begin with p5 or surcharge have G rows: surcharge-ends.book at the ends of their ranges and past them, on both sides of 19, and beside each
+// refusal of load rows that comes before 19. A file that cannot be read to its end is told, and has no lines.
 use libc::STDERR_FILENO;
 use libc::STDOUT_FILENO;
 

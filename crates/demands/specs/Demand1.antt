@@ -39,7 +39,7 @@ pub record CallInOrder (own common b : List ℕ) (place : ℕ) (before after : L
   pub numbers : (n row : ℕ) → t ≡ refused n row → ((1 ≤ n) × (n ≤ 8)) ⊎ (n ≡ 10)
   -- a refused call writes nothing
   pub untouched : (n row : ℕ) → t ≡ refused n row → after ≡ before
-  -- a job refused with 11 to 18 has its one line and no other
+  -- a job refused with 11 to 20 has its one line and no other
   pub alone : (len n : ℕ) (js : Jobs) (job : Job) (fill : ℕ → ℕ → Coefficient) → t ≡ written len → JobBook b js → Nth (values js) place job
       → FillFor own common (job .key .member) fill → Refuses fill job n
       → (len ≡ length (line-text (job .key) (verdict-line (Refused n)))) × (after ≡ line-text (job .key) (verdict-line (Refused n)) ++ drop len before)

@@ -2,7 +2,7 @@
 use mathlib.Core.Path.{refl}
 use native.Mathlib.Nat.{not-le-of-lt}
 use lib.Dec.{lit<, lit≤}
-use Rattle.arithmetic.proofs.Cases.{impossible}
+use Rattle.arithmetic.proofs.Cases.{impossible, unlike}
 use Rattle.arithmetic.proofs.rounding.Compute.{up-test, cube-test, cube-test′}
 use Rattle.scour.specs.discharge.Discharge.{to-500, to-5000, to-25000}
 use Rattle.earth.specs.Earth.{has-coefficient}
@@ -13,8 +13,9 @@ use Rattle.sums.specs.Totals.{counted, sum, arm, v-moment, h-moment, resists, o
 use Rattle.checks.specs.ranks.Figures.{Presses}
 use Rattle.kinds.specs.classes.Classes.{class-of, optional}
 use Rattle.loads.specs.LoadRows.{optionals}
-use Rattle.figures.specs.Figures.{needed, optional-rows, position, named, braked-set, pressure, pressure-either, AllHold, none, more, starred, worked, trained}
+use Rattle.figures.specs.Figures.{needed, surcharge, optional-rows, position, named, braked-set, pressure, pressure-either, AllHold, none, more, starred, worked, trained, laden}
 use Rattle.figures.proofs.Loaded.{overturns-test}
+use Rattle.figures.proofs.Laden.{near-test, far-test}
 use Rattle.figures.proofs.Trained.{position-0, braking-ranged, position-17, first-named, second-named, itself-named, past-named, braked-permitted, without-train}
 
 pub figures : AllHold starred
@@ -58,6 +59,31 @@ worked-figures =
     (more (pushes (lit≤ tt) (up-test _ _ _ tt) (up-test _ _ _ tt))
     (more {x = optional-rows _ _ _} refl
     none)))))))))))
+
+pub surcharge-figures : AllHold laden
+unfolding optionals optional class-of
+surcharge-figures =
+    more {x = surcharge _ _ _ _ _ _ _ _ _} (near-test _ 3257 2715 _ (λ e. unlike _ _ refl e) tt tt)
+    (more {x = surcharge _ _ _ _ _ _ _ _ _} (near-test _ 2819 2349 _ (λ e. unlike _ _ refl e) tt tt)
+    (more {x = surcharge _ _ _ _ _ _ _ _ _} (near-test _ 3173 2644 _ (λ e. unlike _ _ refl e) tt tt)
+    (more {x = surcharge _ _ _ _ _ _ _ _ _} (near-test _ 2819 2349 _ (λ e. unlike _ _ refl e) tt tt)
+    (more {x = surcharge _ _ _ _ _ _ _ _ _} (near-test _ 2434 2898 _ (λ e. unlike _ _ refl e) tt tt)
+    (more {x = surcharge _ _ _ _ _ _ _ _ _} (near-test _ 2434 2898 _ (λ e. unlike _ _ refl e) tt tt)
+    (more {x = surcharge _ _ _ _ _ _ _ _ _} (near-test _ 2244 3116 _ (λ e. unlike _ _ refl e) tt tt)
+    (more {x = surcharge _ _ _ _ _ _ _ _ _} (near-test _ 3619 3016 _ (λ e. unlike _ _ refl e) tt tt)
+    (more {x = surcharge _ _ _ _ _ _ _ _ _} (near-test _ 4705 3921 _ (λ e. unlike _ _ refl e) tt tt)
+    (more {x = surcharge _ _ _ _ _ _ _ _ _} (near-test _ 12063 10053 _ (λ e. unlike _ _ refl e) tt tt)
+    (more {x = surcharge _ _ _ _ _ _ _ _ _} (near-test _ 24199 24195 _ (λ e. unlike _ _ refl e) tt tt)
+    (more {x = surcharge _ _ _ _ _ _ _ _ _} (near-test _ 24200 24200 _ (λ e. unlike _ _ refl e) tt tt)
+    (more {x = surcharge _ _ _ _ _ _ _ _ _} (far-test _ 24205 24200 _ (λ e. unlike _ _ refl e) tt tt)
+    (more {x = surcharge _ _ _ _ _ _ _ _ _} (far-test _ 3320 2034 _ (λ e. unlike _ _ refl e) tt tt)
+    (more {x = surcharge _ _ _ _ _ _ _ _ _} (near-test _ 2515 1677 _ (λ e. unlike _ _ refl e) tt tt)
+    (more {x = surcharge _ _ _ _ _ _ _ _ _} (near-test _ 1101 184 _ (λ e. unlike _ _ refl e) tt tt)
+    (more {x = surcharge _ _ _ _ _ _ _ _ _} (near-test _ 30250 75625 _ (λ e. unlike _ _ refl e) tt tt)
+    (more {x = surcharge _ _ _ _ _ _ _ _ _} (near-test _ 25268 105283 _ (λ e. unlike _ _ refl e) tt tt)
+    (more {x = surcharge _ _ _ _ _ _ _ _ _} (near-test _ 2 1 _ (λ e. unlike _ _ refl e) tt tt)
+    (more {x = optional-rows _ _ _} refl
+    none)))))))))))))))))))
 
 pub train-figures : AllHold trained
 unfolding bit

@@ -20,6 +20,7 @@ use Rattle.clearance.specs.afflux.Rules.{Afflux}
 use Rattle.earth.specs.table2.Table2.{table2-fill}
 use Rattle.earth.specs.Earth.{Pushed, push}
 use Rattle.current.specs.Current as water
+use Rattle.surcharge.specs.Surcharge as behind
 use Rattle.sets.specs.declared.Combination.the-variants.{I}
 use Rattle.sets.specs.declared.Loads.{Loads}
 use Rattle.sets.specs.Sets.{Permitted}
@@ -77,7 +78,8 @@ pub data WorkedFigure : Type 0 where
   afflux : (v A a h : ℕ) → WorkedFigure
   earth : (soil slope height length H y : ℕ) → WorkedFigure
   current : (shape area velocity upper lower H y : ℕ) → WorkedFigure
-  optional-rows : (live currents count : ℕ) → WorkedFigure
+  surcharge : (standard dead soil h L H₁ y₁ H₂ y₂ : ℕ) → WorkedFigure
+  optional-rows : (live : ℕ) (other : Kind) (count : ℕ) → WorkedFigure
   position : (n : ℕ) (ranged : Bool) → WorkedFigure
   named : (n : ℕ) (live : Bool) → WorkedFigure
   braked-set : (set : ℕ) (permitted : Bool) → WorkedFigure
@@ -95,7 +97,10 @@ Holds (afflux v A a h) = Afflux v A a h
 Holds (earth soil slope height length H y) = Pushed table2-fill (record { soil = soil; slope = slope; height = height; length = length }) (push H y)
 Holds (current shape area velocity upper lower H y) =
     water.CurrentRule (record { shape = shape; area = area; velocity = velocity; upper = upper; lower = lower }) (water.push H y)
-Holds (optional-rows live currents count) = optionals (replicate live (row-of LL) ++ replicate currents (row-of kind.W)) ≡ count
+Holds (surcharge standard dead soil h L H₁ y₁ H₂ y₂) =
+    behind.SurchargeRule (record { standard = standard; dead = dead; soil = soil; depth = h; length = L })
+    (behind.pushes (record { first = record { force = H₁; arm = y₁ }; second = record { force = H₂; arm = y₂ } }))
+Holds (optional-rows live other count) = optionals (replicate live (row-of LL) ++ row-of other ∷ []) ≡ count
 Holds (position n ranged) = Decides ranged (Ranged LF (braking n .numbers))
 Holds (named n live) = Decides live (AllNamed (braked n))
 Holds (braked-set set permitted) = Permits (braked 2) set permitted
@@ -153,7 +158,7 @@ worked =
     ∷ current 1 16 2831 1 0 1 1
     ∷ current 1 20000 6000 60000 60000 5579 60000
     ∷ current 1 1000 0 5000 5000 0 5000
-    ∷ optional-rows 12 1 13
+    ∷ optional-rows 12 kind.W 13
     ∷ []
 
 -- P3, braking needs a train. n6 of LF: 0 and 17 are out of range, and 1 and 16 in it. LF behind DL and LL names LL as the second of all the load
@@ -172,4 +177,32 @@ trained =
     ∷ braked-set 3 true
     ∷ braked-set 5 false
     ∷ braked-set 7 true
+    ∷ []
+
+-- P5, surcharge. Each standard of Table 3, and each soil that has a coefficient: 3,000 kg/m of dead surcharge, h 5,000, L 10,000.
+-- On both sides of h = L - B and at it: h 5,999, 6,000 and 6,001 beside L 9,000 and B 3,000; and well beyond, h 8,000 beside L 6,000 and B 1,800.
+-- The coefficient is in what is rounded: 2,514.9 kg are 2,515, where 0.27 of 9,315 would be 2,516 and a kN more. kN are rounded over the length: 53.99 are 54, where 11 kN
+-- a metre would be 55. The largest first part, the largest second part, and the smallest row. A G row counts among the optional ones: with twelve LL rows they are 13.
+abbrev pub laden : List WorkedFigure
+laden =
+    surcharge 1 3000 1 5000 10000 320 2500 267 3334
+    ∷ surcharge 2 3000 1 5000 10000 277 2500 231 3334
+    ∷ surcharge 3 3000 1 5000 10000 312 2500 260 3334
+    ∷ surcharge 4 3000 1 5000 10000 277 2500 231 3334
+    ∷ surcharge 5 3000 1 5000 10000 239 2500 285 3334
+    ∷ surcharge 6 3000 1 5000 10000 239 2500 285 3334
+    ∷ surcharge 7 3000 1 5000 10000 221 2500 306 3334
+    ∷ surcharge 1 3000 2 5000 10000 355 2500 296 3334
+    ∷ surcharge 1 3000 3 5000 10000 462 2500 385 3334
+    ∷ surcharge 1 3000 4 5000 10000 1183 2500 986 3334
+    ∷ surcharge 1 20000 4 5999 9000 2136 3000 2136 4000
+    ∷ surcharge 1 20000 4 6000 9000 2136 3000 2136 4000
+    ∷ surcharge 1 20000 4 6001 9000 2137 3001 2136 4001
+    ∷ surcharge 7 0 2 8000 6000 196 4000 120 6600
+    ∷ surcharge 1 0 1 4000 9000 222 2000 149 2667
+    ∷ surcharge 1 0 1 1000 5000 54 500 10 667
+    ∷ surcharge 1 20000 4 15000 60000 17800 7500 44498 10000
+    ∷ surcharge 7 20000 4 15000 60000 14868 7500 61949 10000
+    ∷ surcharge 1 0 1 1 3001 1 1 1 1
+    ∷ optional-rows 12 kind.G 13
     ∷ []

@@ -6,13 +6,13 @@ ghost use mathlib.Core.Path.{_≡_};
 ghost use Rattle.figures_run.specs.steps.Asked.{agreeing};
 
 // Words, and the number that they end with.
-fn write(words: &[u8], number: u64) {
+pub(crate) fn write(words: &[u8], number: u64) {
     io::write_all(STDOUT_FILENO, words);
     io::print_decimal(STDOUT_FILENO, number);
 }
 
 // How many figures agree, with one more where what came is what it should be.
-fn counted(agree: u64, came: u64, says: u64) -> u64
+pub(crate) fn counted(agree: u64, came: u64, says: u64) -> u64
     ensures { λ r. ⌜ r ≡ agreeing agree came says ⌝ }
 {
     if came == says {

@@ -4,6 +4,7 @@
 mod asked;
 mod currents;
 mod forces;
+mod surcharges;
 
 use kinds::Numbers;
 use libc::STDERR_FILENO;
@@ -105,6 +106,7 @@ fn main() {
     }
     let a = forces::borne(raised(raised(scoured(), 1000, 229), 1200, 0));
     let b = cleared(cleared(cleared(a, 30_000, 600), 30_001, 601), 300_001, 1500);
-    io::print_decimal(STDOUT_FILENO, currents::washed(b));
-    io::write_all(STDOUT_FILENO, b" of 38 figures agree\n");
+    let c = surcharges::laden(currents::washed(b));
+    io::print_decimal(STDOUT_FILENO, c);
+    io::write_all(STDOUT_FILENO, b" of 68 figures agree\n");
 }

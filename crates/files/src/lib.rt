@@ -35,7 +35,7 @@ pub fn read_open(file: i32, text: &mut [u8; 65537]) -> Got
 }
 
 // The bytes of the file so named.
-pub fn read_named(program: &[u8], name: &[u8], text: &mut [u8; 65537]) -> Got
+fn read_named(program: &[u8], name: &[u8], text: &mut [u8; 65537]) -> Got
     ensures { λ r. ⌜ Counts (r .len) (now (text .exit)) ⌝ }
 {
     let file = os::open_read(name);

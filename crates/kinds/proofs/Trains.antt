@@ -8,7 +8,7 @@ use Rattle.kinds.specs.Table.{train}
 use Rattle.kinds.specs.classes.Classes.{class-of}
 use Rattle.kinds.specs.ranges.Range.{Ranged}
 use Rattle.kinds.specs.declared.Kind.{Kind}
-use Rattle.kinds.specs.declared.Kind.the-variants.{B, S, C, E, W, DL, EP, LL, LF, CF, WC, BU, TM, EX, WL, SF}
+use Rattle.kinds.specs.declared.Kind.the-variants.{B, S, C, E, W, G, DL, EP, LL, LF, CF, WC, BU, TM, EX, WL, SF}
 use Rattle.kinds.specs.declared.Numbers.{Numbers}
 
 -- a row that comes with a train is free
@@ -19,6 +19,7 @@ train-free S n e = absurd (omega arith)
 train-free C n e = absurd (omega arith)
 train-free E n e = absurd (omega arith)
 train-free W n e = absurd (omega arith)
+train-free G n e = absurd (omega arith)
 train-free DL n e = absurd (omega arith)
 train-free EP n e = absurd (omega arith)
 train-free LL n e = absurd (omega arith)
@@ -38,6 +39,7 @@ train-low S n r = lit≤ tt
 train-low C n r = lit≤ tt
 train-low E n r = lit≤ tt
 train-low W n r = lit≤ tt
+train-low G n r = lit≤ tt
 train-low DL n r = lit≤ tt
 train-low EP n r = lit≤ tt
 train-low LL n r = lit≤ tt

@@ -1,14 +1,15 @@
-// What a row of a kind is to a combination, and where its forces come from (document 01, the job book and Load sets; 02, P1).
+// What a row of a kind is to a combination, and where its forces come from (document 01, the job book and Load sets; 02, P1 and P5).
 use crate::Kind;
 use sets::Class;
 ghost use mathlib.Core.Path.{_≡_};
 ghost use Rattle.kinds.specs.classes.Classes.{class-of, source, optional};
 
-// Where a row's forces come from: nowhere, a fill, a water current, or its own numbers.
+// Where a row's forces come from: nowhere, a fill, a water current, a surcharge, or its own numbers.
 pub enum Source {
     Absent,
     Earth,
     Current,
+    Surcharge,
     Own,
 }
 
@@ -18,8 +19,15 @@ pub fn class_of(kind: Kind) -> Class
 {
     match kind {
         Kind::B | Kind::S | Kind::C | Kind::E | Kind::DL | Kind::EP => Class::Permanent,
-        Kind::W | Kind::LL | Kind::LF | Kind::CF | Kind::WC | Kind::BU | Kind::TM | Kind::EX =>
-            Class::Free,
+        Kind::W
+        | Kind::G
+        | Kind::LL
+        | Kind::LF
+        | Kind::CF
+        | Kind::WC
+        | Kind::BU
+        | Kind::TM
+        | Kind::EX => Class::Free,
         Kind::WL => Class::Wind,
         Kind::SF => Class::Earthquake,
     }
@@ -33,6 +41,7 @@ pub fn source_of(kind: Kind) -> Source
         Kind::B | Kind::S | Kind::C => Source::Absent,
         Kind::E => Source::Earth,
         Kind::W => Source::Current,
+        Kind::G => Source::Surcharge,
         Kind::DL
         | Kind::EP
         | Kind::LL

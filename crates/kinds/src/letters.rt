@@ -1,4 +1,4 @@
-// How the kinds of the table are written (document 01, the job book; 02, P1), and the kind that a field is (refusal 3).
+// How the kinds of the table are written (document 01, the job book; 02, P1 and P5), and the kind that a field is (refusal 3).
 //
 // A field is a kind exactly if the stretch between its quotes is, since no letter is a quote.
 use crate::Kind;
@@ -28,6 +28,7 @@ pub fn kind_at(raw: &[u8]) -> KindRead
         0x143 => Kind::C,
         0x145 => Kind::E,
         0x157 => Kind::W,
+        0x147 => Kind::G,
         0x1444C => Kind::DL,
         0x14550 => Kind::EP,
         0x14C4C => Kind::LL,

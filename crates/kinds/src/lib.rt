@@ -1,4 +1,4 @@
-// The table of kinds (document 01, the job book; 02, P1 and P3), as data: the form (refusal 3) and the ranges (refusal 11) of a row's numbers.
+// The table of kinds (document 01, the job book; 02, P1, P3 and P5), as data: the form (refusal 3) and the ranges (refusal 11) of a row's numbers.
 //
 // Which columns are filled and in what range, how the kind is written, what a row of it is to its job, and where its phase and its train
 // stand, is stated in one table (`specs/Table.antt`), its class and the source of its forces with `classes`. A kind that is added joins both. The code's copies are
@@ -11,13 +11,14 @@ use fields::Entry;
 ghost use mathlib.Core.Path.{_≡_};
 ghost use Rattle.kinds.specs.Table.{columns, role, phase, train};
 
-// The kinds of a row: the base, the two river rows, earth pressure, water current, and the load rows that give their own forces.
+// The kinds of a row: the base, the two river rows, earth pressure, water current, surcharge, and the load rows that give their own forces.
 pub enum Kind {
     B,
     S,
     C,
     E,
     W,
+    G,
     DL,
     EP,
     LL,
@@ -118,6 +119,15 @@ const CURRENT_COLUMNS: Columns = Columns {
     n6: Column::Filled(0, 2),
 };
 
+const SURCHARGE_COLUMNS: Columns = Columns {
+    n1: Column::Filled(1, 7),
+    n2: Column::Filled(0, 20000),
+    n3: Column::Filled(1, 5),
+    n4: Column::Filled(1, 15000),
+    n5: Column::Filled(1, 60000),
+    n6: Column::Filled(0, 2),
+};
+
 const TRAIN_COLUMNS: Columns = Columns {
     n1: Column::Signed(50000, 50000),
     n2: Column::Signed(30000, 30000),
@@ -146,6 +156,7 @@ pub fn columns_of(kind: Kind) -> Columns
         Kind::C => CLEARANCE_COLUMNS,
         Kind::E => EARTH_COLUMNS,
         Kind::W => CURRENT_COLUMNS,
+        Kind::G => SURCHARGE_COLUMNS,
         Kind::LF | Kind::CF => TRAIN_COLUMNS,
         Kind::DL
         | Kind::EP
@@ -169,6 +180,7 @@ pub fn role_of(kind: Kind) -> Role
         Kind::C => Role::Clearance,
         Kind::E
         | Kind::W
+        | Kind::G
         | Kind::DL
         | Kind::EP
         | Kind::LL
@@ -183,13 +195,13 @@ pub fn role_of(kind: Kind) -> Role
     }
 }
 
-// The phase of a load row, by its kind: a W row has it in n6, every other in n5.
+// The phase of a load row, by its kind: a W or a G row has it in n6, every other in n5.
 pub fn phase_of(row: Row) -> u32
     ensures { λ r. ⌜ r ≡ phase (row .kind) (row .numbers) ⌝ }
 {
     let kind = row.kind;
     match kind {
-        Kind::W => row.numbers.n6.size,
+        Kind::W | Kind::G => row.numbers.n6.size,
         Kind::B
         | Kind::S
         | Kind::C
@@ -220,6 +232,7 @@ pub fn train_of(row: Row) -> u32
         | Kind::C
         | Kind::E
         | Kind::W
+        | Kind::G
         | Kind::DL
         | Kind::EP
         | Kind::LL

@@ -25,6 +25,7 @@ use Rattle.sets.specs.Led.{Led}
 use Rattle.loads.proofs.forces.Exerting.{exerts-bounded}
 use Rattle.loads.specs.forces.Blank.{BlankThere}
 use Rattle.loads.specs.forces.Wetted.{UpperBelowLower}
+use Rattle.loads.specs.forces.Laden.{LengthNotAbove, SoilTypeE}
 use Rattle.loads.specs.LoadRows.{Every, optionals, AllNamed, AreLoads}
 use Rattle.loads.proofs.FirstRows.{every-at, every-map, none-some, some-row, laid-at}
 use Rattle.loads.proofs.InRange.{all-ranged}
@@ -34,7 +35,7 @@ use Rattle.loads.proofs.Loaded.{loads-one, loads-few}
 use Rattle.loads.specs.declared.LoadsAnswer.{LoadsAnswer}
 use Rattle.loads.specs.declared.LoadsAnswer.the-variants.{Refused, Given}
 use Rattle.loads.specs.declared.LoadsRead.{LoadsRead}
-use Rattle.loads.specs.Answer.{LoadsTold, refused, given, loads-told, loads-told-by, RowsWhen, out-of-range, blank, too-many, upper-below-lower, no-train, LoadsSays, refuses, loaded, no-loads, Beside, LoadsAnswered}
+use Rattle.loads.specs.Answer.{LoadsTold, refused, given, loads-told, loads-told-by, RowsWhen, out-of-range, blank, too-many, upper-below-lower, no-train, not-above, type-e, LoadsSays, refuses, loaded, no-loads, Beside, LoadsAnswered}
 use Rattle.loads.specs.steps.Exerted as rows
 use Rattle.loads.specs.steps.Asking.{row-count, Lowest, ShownBy}
 
@@ -48,6 +49,8 @@ module _ (fill : ℕ → ℕ → Coefficient) (rs : List Row) where
   row-shows (rows.out-of-range h) one = out-of-range (λ all. h (one (λ row. Ranged (row .kind) (row .numbers)) all))
   row-shows (rows.blank b) one = blank (λ all. one (λ row. BlankThere fill row → ⊥) all b)
   row-shows (rows.upper-below-lower u) one = upper-below-lower (λ all. one (λ row. UpperBelowLower row → ⊥) all u)
+  row-shows (rows.not-above a) one = not-above (λ all. one (λ row. LengthNotAbove row → ⊥) all a)
+  row-shows (rows.type-e s) one = type-e (λ all. one (λ row. SoilTypeE row → ⊥) all s)
 
   shown-given : (n : ℕ) → Shown fill rs n → RowsWhen fill rs n
   shown-given n (inl (inl s)) = some-row (λ row. rows.RowWhen fill row n) rs s (λ r w one. row-shows w one)
@@ -64,6 +67,8 @@ module _ (fill : ℕ → ℕ → Coefficient) (rs : List Row) where
   not-given clear (too-many h) = clear (inl (inr (refl, h)))
   not-given clear (upper-below-lower h) = h (every-map (λ row. rows.RowWhen fill row 17 → ⊥) (λ row. UpperBelowLower row → ⊥) (λ row no u. no (rows.upper-below-lower u)) rs (hidden 17 clear))
   not-given clear (no-train h) = clear (inr (refl, h))
+  not-given clear (not-above h) = h (every-map (λ row. rows.RowWhen fill row 19 → ⊥) (λ row. LengthNotAbove row → ⊥) (λ row no a. no (rows.not-above a)) rs (hidden 19 clear))
+  not-given clear (type-e h) = h (every-map (λ row. rows.RowWhen fill row 20 → ⊥) (λ row. SoilTypeE row → ⊥) (λ row no s. no (rows.type-e s)) rs (hidden 20 clear))
 
   module _ {number : ℕ} (lowest : Lowest (Shown fill rs) number) where
     pub first-refused : (number ≡ 0 → ⊥) → Least (RowsWhen fill rs) number

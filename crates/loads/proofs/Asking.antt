@@ -14,7 +14,7 @@ use Rattle.sets.specs.declared.Class.{Class}
 use Rattle.sets.specs.declared.Class.the-variants.{Permanent, Free, Wind, Earthquake}
 use Rattle.sets.specs.declared.Load.{Load}
 use Rattle.loads.specs.LoadRows.{optionals}
-use Rattle.loads.specs.steps.Exerted.{RowWhen, out-of-range, blank, upper-below-lower, LoadOf}
+use Rattle.loads.specs.steps.Exerted.{RowWhen, out-of-range, blank, upper-below-lower, not-above, type-e, LoadOf}
 use Rattle.loads.specs.steps.Asking.{Lower, Some, Lowest, ShownBy, AskedIs}
 use Rattle.loads.specs.declared.forces.RowLoad.the-variants.{Refused, Exerted}
 use Rattle.loads.proofs.FirstRows.{load-row, some-last, some-more, some-either, optionals-more}
@@ -33,6 +33,8 @@ row-number : {fill : ℕ → ℕ → Coefficient} {row : Row} {n : ℕ} → RowW
 row-number (out-of-range h) e = omega arith
 row-number (blank h) e = omega arith
 row-number (upper-below-lower h) e = omega arith
+row-number (not-above h) e = omega arith
+row-number (type-e h) e = omega arith
 
 module _ (fill : ℕ → ℕ → Coefficient) where
   shown-none : Lowest (ShownBy fill []) 0

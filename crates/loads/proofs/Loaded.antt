@@ -1,7 +1,7 @@
 -- A row exerts one load, and the rows of a job one table of loads.
-use mathlib.Core.Path.{_≡_, refl, sym, _∙_, ap₂, subst₂}
+use mathlib.Core.Path.{_≡_, refl, sym, _∙_, ap₂, subst, subst₂}
 use mathlib.Core.List.{List, [], _∷_}
-use Prim.Native.Nat.{ℕ, _≤_, zero-le, suc-le-suc}
+use Prim.Native.Nat.{ℕ, _*_, _≤_, zero-le, suc-le-suc}
 use native.Mathlib.Omega.{arith}
 use lib.ListN.{length}
 use Rattle.kinds.specs.declared.Row.{Row}
@@ -10,12 +10,15 @@ use Rattle.earth.specs.Earth as earth
 use Rattle.earth.proofs.Pressures.{pushed-one}
 use Rattle.current.specs.Current as current
 use Rattle.current.proofs.Currents.{rule-one}
+use Rattle.surcharge.specs.Surcharge as surcharge
+use Rattle.surcharge.specs.declared.Parts.{Parts}
+use Rattle.surcharge.proofs.Surcharges as surcharges
 use Rattle.sets.specs.declared.Load.{Load}
 use Rattle.sets.specs.declared.Loads.{Loads}
 use Rattle.kinds.specs.declared.classes.Source.{Source}
-use Rattle.kinds.specs.declared.classes.Source.the-variants.{Absent, Earth, Current, Own}
+use Rattle.kinds.specs.declared.classes.Source.the-variants.{Absent, Earth, Current, Surcharge, Own}
 use Rattle.kinds.specs.classes.Classes.{source}
-use Rattle.loads.specs.forces.Exerts.{PushLoad, Forces, Exerts}
+use Rattle.loads.specs.forces.Exerts.{PushLoad, PartsLoad, Forces, Exerts}
 use Rattle.loads.proofs.forces.Exerting.{same-load}
 use Rattle.loads.specs.LoadRows.{Laid, AreLoads}
 
@@ -25,6 +28,9 @@ same-push e = (cc, cc)
 
 same-current : {H y G z : ℕ} → current.push H y ≡ current.push G z → (H ≡ G) × (y ≡ z)
 same-current e = (cc, cc)
+
+same-parts : {a b : Parts} → surcharge.pushes a ≡ surcharge.pushes b → a ≡ b
+same-parts e = cc
 
 pub exerts-one : (fill : ℕ → ℕ → Coefficient) (r : Row) (a b : Load) → Exerts fill r a → Exerts fill r b → a ≡ b
 unfolding Forces
@@ -39,15 +45,17 @@ exerts-one fill r a b p q = go (source (r .kind)) (p .forces) (q .forces)
     train : a .train ≡ b .train
     train = p .train ∙ sym (q .train)
 
-    same : {H y G z : ℕ} → (H ≡ G) × (y ≡ z) → PushLoad H y a → PushLoad G z b → a ≡ b
-    same e f g =
-        let k = subst₂ (λ (H y : ℕ). PushLoad H y a) (e .0) (e .1) f in
-        same-load class phase train (k .v ∙ sym (g .v)) (k .x ∙ sym (g .x)) (k .h ∙ sym (g .h)) (k .twist ∙ sym (g .twist))
+    same : {H twist : ℕ} → PushLoad H twist a → PushLoad H twist b → a ≡ b
+    same f g = same-load class phase train (f .v ∙ sym (g .v)) (f .x ∙ sym (g .x)) (f .h ∙ sym (g .h)) (f .turns ∙ sym (g .turns))
+
+    pushed : {H y G z : ℕ} → (H ≡ G) × (y ≡ z) → PushLoad H (H * y) a → PushLoad G (G * z) b → a ≡ b
+    pushed e f g = same (subst₂ (λ (H y : ℕ). PushLoad H (H * y) a) (e .0) (e .1) f) g
 
     go : (s : Source) → Forces fill s (r .numbers) a → Forces fill s (r .numbers) b → a ≡ b
-    go Absent f g = same (refl, refl) f g
-    go Earth f g = same (same-push (pushed-one (f .pressed) (g .pressed))) (f .exerts) (g .exerts)
-    go Current f g = same (same-current (rule-one (f .rule) (g .rule))) (f .exerts) (g .exerts)
+    go Absent f g = same f g
+    go Earth f g = pushed (same-push (pushed-one (f .pressed) (g .pressed))) (f .exerts) (g .exerts)
+    go Current f g = pushed (same-current (rule-one (f .rule) (g .rule))) (f .exerts) (g .exerts)
+    go Surcharge f g = same (subst (λ (parts : Parts). PartsLoad parts a) (same-parts (surcharges.rule-one (f .rule) (g .rule))) (f .exerts)) (g .exerts)
     go Own f g = same-load class phase train (f .v ∙ sym (g .v)) (f .x ∙ sym (g .x)) (f .h ∙ sym (g .h)) (f .twist ∙ sym (g .twist))
 
 -- ---- and the rows of a job one table of loads

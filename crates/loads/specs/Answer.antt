@@ -1,4 +1,4 @@
--- Document 01, Refusals of a job, and 02, P1, P3 and P4: what the load rows of a job are told, the lowest of 11 and 15 to 18, or the loads.
+-- Document 01, Refusals of a job, and 02, P1, P3, P4 and P5: what the load rows of a job are told, the lowest of 11 and 15 to 20, or the loads.
 use mathlib.Core.Path.{_≡_}
 use mathlib.Core.List.{List}
 use Prim.Native.Nat.{ℕ, _<_}
@@ -8,7 +8,7 @@ use Rattle.kinds.specs.declared.Row.{Row}
 use Rattle.earth.specs.declared.coefficients.Coefficient.{Coefficient}
 use Rattle.sets.specs.declared.Loads.{Loads}
 use Rattle.sets.specs.Sets.{no-load}
-use Rattle.loads.specs.LoadRows.{AllRanged, NoneBlank, AllUpright, AllNamed, optionals, AreLoads}
+use Rattle.loads.specs.LoadRows.{AllRanged, NoneBlank, AllUpright, AllNamed, AllAbove, NoTypeE, optionals, AreLoads}
 use Rattle.loads.specs.declared.LoadsAnswer.{LoadsAnswer}
 use Rattle.loads.specs.declared.LoadsAnswer.the-variants.{Refused, Given}
 use Rattle.loads.specs.declared.LoadsRead.{LoadsRead}
@@ -33,6 +33,8 @@ pub data RowsWhen (fill : ℕ → ℕ → Coefficient) (rows : List Row) : ℕ �
   too-many : 12 < optionals rows → RowsWhen fill rows 16
   upper-below-lower : (AllUpright rows → ⊥) → RowsWhen fill rows 17
   no-train : (AllNamed rows → ⊥) → RowsWhen fill rows 18
+  not-above : (AllAbove rows → ⊥) → RowsWhen fill rows 19
+  type-e : (NoTypeE rows → ⊥) → RowsWhen fill rows 20
 
 -- "Order as numbered": the least of their numbers, or the loads
 pub data LoadsSays (fill : ℕ → ℕ → Coefficient) (rows : List Row) : LoadsTold → Type 0 where

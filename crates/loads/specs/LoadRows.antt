@@ -1,4 +1,4 @@
--- Document 01, Refusals of a job, and 02, P1, P3 and P4: what 11 and 15 to 18 ask of the load rows of a job, and the loads that the rows exert.
+-- Document 01, Refusals of a job, and 02, P1, P3, P4 and P5: what 11 and 15 to 20 ask of the load rows of a job, and the loads that the rows exert.
 use mathlib.Core.Path.{_≡_}
 use mathlib.Core.List.{List, [], _∷_}
 use Prim.Native.Nat.{ℕ, zero, suc, _+_}
@@ -14,6 +14,7 @@ use Rattle.sets.specs.Sets.{no-load}
 use Rattle.kinds.specs.classes.Classes.{class-of, optional}
 use Rattle.loads.specs.forces.Blank.{BlankThere}
 use Rattle.loads.specs.forces.Wetted.{UpperBelowLower}
+use Rattle.loads.specs.forces.Laden.{LengthNotAbove, SoilTypeE}
 use Rattle.loads.specs.forces.Exerts.{Exerts}
 
 -- P holds of every row
@@ -52,6 +53,14 @@ NamesLive rows (suc i) = LiveAt rows i
 -- what 18 asks: of no LF or CF row "the row named is missing or is not LL"
 abbrev pub AllNamed : List Row → Type 0
 AllNamed rows = Every (λ row. NamesLive rows (train (row .kind) (row .numbers))) rows
+
+-- what 19 asks: in no G row the length is not above B
+abbrev pub AllAbove : List Row → Type 0
+AllAbove rows = Every (λ row. LengthNotAbove row → ⊥) rows
+
+-- what 20 asks: in no G row the soil is of type e
+abbrev pub NoTypeE : List Row → Type 0
+NoTypeE rows = Every (λ row. SoilTypeE row → ⊥) rows
 
 -- each row exerts the load in its place, and past the last row there stands no load
 unfoldable pub Laid : (ℕ → ℕ → Coefficient) → List Row → List Load → Type 0

@@ -1,3 +1,4 @@
 pub mod Blank
 pub mod Wetted
+pub mod Laden
 pub mod Exerts

@@ -1,5 +1,5 @@
-// What one load row exerts (document 01, the job book and Earth pressure; 02, P1, P3 and P4): its class, its phase, its train, and its forces, from its
-// own numbers, from its fill or from the water current; or why its job is refused, with 11, 15 or 17.
+// What one load row exerts (document 01, the job book and Earth pressure; 02, P1, P3, P4 and P5): its class, its phase, its train, and its forces, from
+// its own numbers, from its fill, from the water current or from its surcharge; or why its job is refused, with 11, 15, 17, 19 or 20.
 use arithmetic::signed::Amount;
 use current::CurrentAnswer;
 use earth::EarthAnswer;
@@ -8,13 +8,16 @@ use kinds::Row;
 use kinds::classes::Source;
 use sets::Class;
 use sets::Load;
+use surcharge::Parts;
+use surcharge::SurchargeAnswer;
 ghost use mathlib.Core.Path.{_≡_};
 ghost use mathlib.Core.Bool.{false};
 ghost use Prim.Native.Nat.{_≤_};
+ghost use Rattle.surcharge.specs.force.Moderate.{Moderate};
 ghost use Rattle.earth.specs.coefficients.Coefficients.{fill-of};
 ghost use Rattle.arithmetic.specs.signed.Whole.{signed, amount};
 ghost use Rattle.kinds.specs.classes.Classes.{class-of};
-ghost use Rattle.loads.specs.forces.Exerts.{OwnForces, PushLoad};
+ghost use Rattle.loads.specs.forces.Exerts.{OwnForces, PushLoad, PartsLoad};
 ghost use Rattle.loads.specs.steps.Exerted.{LoadOf};
 
 // What a load row is told: the lowest of its own refusals, or its load.
@@ -33,23 +36,36 @@ fn amount_of(minus: bool, size: u64) -> Amount
     }
 }
 
-// The load of a push toward +x at a height, and no V.
-fn push_load(class: Class, phase: u32, train: u32, force: u64, arm: u64) -> Load
-    requires { ⌜ (force ≤ 300000) × (arm ≤ 60000) ⌝ }
-    ensures { λ r. ⌜ (r .class ≡ class) × (r .phase ≡ phase) × (r .train ≡ train) × PushLoad force arm r ⌝ }
+// The load of a push toward +x with its twist, and no V.
+fn push_load(class: Class, phase: u32, train: u32, force: u64, twist: u64) -> Load
+    ensures { λ r. ⌜ (r .class ≡ class) × (r .phase ≡ phase) × (r .train ≡ train) × PushLoad force twist r ⌝ }
 {
     let none = amount_of(false, 0);
-    let h = amount_of(false, force);
-    let twist = amount_of(false, force * arm);
     Load {
         class,
         phase,
         train,
         v: none,
         x: none,
-        h,
-        twist,
+        h: amount_of(false, force),
+        twist: amount_of(false, twist),
     }
+}
+
+// The load of both parts of a surcharge, each at its own arm.
+fn surcharge_load(class: Class, phase: u32, train: u32, parts: Parts) -> Load
+    requires { ⌜ Moderate parts ⌝ }
+    ensures { λ r. ⌜ (r .class ≡ class) × (r .phase ≡ phase) × (r .train ≡ train) × PartsLoad parts r ⌝ }
+{
+    let first = parts.first;
+    let second = parts.second;
+    push_load(
+        class,
+        phase,
+        train,
+        first.force + second.force,
+        first.force * first.arm + second.force * second.arm,
+    )
 }
 
 // The load of a row's own numbers.
@@ -86,14 +102,22 @@ pub(crate) fn load_of(held: [[u32; 5]; 5], row: Row, class: Class) -> RowLoad
             EarthAnswer::OutOfRange => RowLoad::Refused(11),
             EarthAnswer::NoCoefficient => RowLoad::Refused(15),
             EarthAnswer::Push { thrust, arm } => {
-                RowLoad::Exerted(push_load(class, phase, train, thrust, arm))
+                RowLoad::Exerted(push_load(class, phase, train, thrust, thrust * arm))
             }
         },
         Source::Current => match current::pressure(numbers) {
             CurrentAnswer::OutOfRange => RowLoad::Refused(11),
             CurrentAnswer::UpperBelowLower => RowLoad::Refused(17),
             CurrentAnswer::Push { force, arm } => {
-                RowLoad::Exerted(push_load(class, phase, train, force, arm))
+                RowLoad::Exerted(push_load(class, phase, train, force, force * arm))
+            }
+        },
+        Source::Surcharge => match surcharge::pressure(numbers) {
+            SurchargeAnswer::OutOfRange => RowLoad::Refused(11),
+            SurchargeAnswer::LengthNotAbove => RowLoad::Refused(19),
+            SurchargeAnswer::SoilTypeE => RowLoad::Refused(20),
+            SurchargeAnswer::Pushes(parts) => {
+                RowLoad::Exerted(surcharge_load(class, phase, train, parts))
             }
         },
         Source::Own | Source::Absent => {

@@ -1,4 +1,4 @@
-// The loads of a job's load rows, or their refusal (document 01, refusals 11, 15 and 16 of a job; 02, P1, refusal 17, P3, refusal 18, and P4).
+// The loads of a job's load rows, or their refusal (document 01, refusals 11, 15 and 16 of a job; 02, P1, refusal 17, P3, refusal 18, P4, and P5, refusals 19 and 20).
 //
 // Everything above sees loads and no rows. One loop asks each row once, and another which row it names. The order of the refusals is over
 // all the rows and by number, and past the rows of the job there stands no load.
@@ -133,7 +133,7 @@ fn all_named(rows: [Row; 16], n: usize) -> bool
     true
 }
 
-// The loads of a job's load rows, which are the first `count` of `rows`, at most 16; or the lowest of the refusals 11 and 15 to 18.
+// The loads of a job's load rows, which are the first `count` of `rows`, at most 16; or the lowest of the refusals 11 and 15 to 20.
 pub fn loads_of(held: [[u32; 5]; 5], rows: [Row; 16], count: usize) -> LoadsRead
     ensures { λ r. ⌜ LoadsAnswered (fill-of held) rows count r ⌝ }
 {

@@ -1,4 +1,4 @@
--- B, S, C, E and W have columns of their own. LF and CF share theirs, and so do the nine other kinds of the table's last line, which `kind-arm` shows of
+-- B, S, C, E, W and G have columns of their own. LF and CF share theirs, and so do the nine other kinds of the table's last line, which `kind-arm` shows of
 -- their lists.
 use mathlib.Core.Path.{refl, sym, ap}
 use mathlib.Core.List.{[], _∷_}
@@ -25,6 +25,9 @@ enum-told-4 c = search needs
 enum-told-5 : tie.Need-enum-told-5
 enum-told-5 c = search needs
 
+enum-told-6 : tie.Need-enum-told-6
+enum-told-6 c = search needs
+
 returns : tie.Need-returns
 returns c = sym (ap columns (c .enum-told .given .1))
 
@@ -41,10 +44,13 @@ returns-5 : tie.Need-returns-5
 returns-5 c = sym (ap columns (c .enum-told5 .given .1))
 
 returns-6 : tie.Need-returns-6
-returns-6 c = kind-arm columns (load-columns (Filled 1 16)) (LF ∷ CF ∷ []) (c .before .args .kind) refl (c .match .keys6)
+returns-6 c = sym (ap columns (c .enum-told6 .given .1))
 
 returns-7 : tie.Need-returns-7
-returns-7 c = kind-arm columns (load-columns Empty) (DL ∷ EP ∷ LL ∷ WC ∷ BU ∷ TM ∷ EX ∷ WL ∷ SF ∷ []) (c .before .args .kind) refl (c .match .keys7)
+returns-7 c = kind-arm columns (load-columns (Filled 1 16)) (LF ∷ CF ∷ []) (c .before .args .kind) refl (c .match .keys7)
+
+returns-8 : tie.Need-returns-8
+returns-8 c = kind-arm columns (load-columns Empty) (DL ∷ EP ∷ LL ∷ WC ∷ BU ∷ TM ∷ EX ∷ WL ∷ SF ∷ []) (c .before .args .kind) refl (c .match .keys8)
 
 pub columns-of-spec : {M : Type 1} → statement M
-columns-of-spec = tie.close (tie.spec enum-told enum-told-2 enum-told-3 enum-told-4 enum-told-5 returns returns-2 returns-3 returns-4 returns-5 returns-6 returns-7)
+columns-of-spec = tie.close (tie.spec enum-told enum-told-2 enum-told-3 enum-told-4 enum-told-5 enum-told-6 returns returns-2 returns-3 returns-4 returns-5 returns-6 returns-7 returns-8)

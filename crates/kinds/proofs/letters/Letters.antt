@@ -20,7 +20,7 @@ use Rattle.fields.proofs.content.Contents.{bare-field, field-bare}
 use Rattle.kinds.specs.Table.{letters}
 use Rattle.kinds.specs.letters.Form.{KindAt}
 use Rattle.kinds.specs.declared.Kind.{Kind}
-use Rattle.kinds.specs.declared.Kind.the-variants.{B, S, C, E, W, DL, EP, LL, LF, CF, WC, BU, TM, EX, WL, SF}
+use Rattle.kinds.specs.declared.Kind.the-variants.{B, S, C, E, W, G, DL, EP, LL, LF, CF, WC, BU, TM, EX, WL, SF}
 use Rattle.kinds.specs.declared.letters.KindRead.{KindRead}
 use Rattle.kinds.specs.declared.letters.KindRead.the-variants.{Known, Unknown}
 
@@ -36,6 +36,7 @@ kind-by n =
     cond (eqb n 0x143) C (
     cond (eqb n 0x145) E (
     cond (eqb n 0x157) W (
+    cond (eqb n 0x147) G (
     cond (eqb n 0x1444C) DL (
     cond (eqb n 0x14550) EP (
     cond (eqb n 0x14C4C) LL (
@@ -47,7 +48,7 @@ kind-by n =
     cond (eqb n 0x14558) EX (
     cond (eqb n 0x1574C) WL (
     cond (eqb n 0x15346) SF (
-    B))))))))))))))))
+    B)))))))))))))))))
 
 decoded : (k : Kind) → kind-by (coded 1 (letters k)) ≡ k
 unfolding kind-by
@@ -56,6 +57,7 @@ decoded S = refl
 decoded C = refl
 decoded E = refl
 decoded W = refl
+decoded G = refl
 decoded DL = refl
 decoded EP = refl
 decoded LL = refl
@@ -83,6 +85,7 @@ kind-plain S = one-plain (high (omega arith) (omega arith))
 kind-plain C = one-plain (high (omega arith) (omega arith))
 kind-plain E = one-plain (high (omega arith) (omega arith))
 kind-plain W = one-plain (high (omega arith) (omega arith))
+kind-plain G = one-plain (high (omega arith) (omega arith))
 kind-plain DL = two-plain (high (omega arith) (omega arith)) (high (omega arith) (omega arith))
 kind-plain EP = two-plain (high (omega arith) (omega arith)) (high (omega arith) (omega arith))
 kind-plain LL = two-plain (high (omega arith) (omega arith)) (high (omega arith) (omega arith))
@@ -110,6 +113,7 @@ letters-few S = lit≤ tt
 letters-few C = lit≤ tt
 letters-few E = lit≤ tt
 letters-few W = lit≤ tt
+letters-few G = lit≤ tt
 letters-few DL = lit≤ tt
 letters-few EP = lit≤ tt
 letters-few LL = lit≤ tt
@@ -229,6 +233,7 @@ module _ (l : List ℕ) (i n : ℕ) (p : LettersRead l i n) where
     found C h = one-letter 0x43 (lit< tt) h
     found E h = one-letter 0x45 (lit< tt) h
     found W h = one-letter 0x57 (lit< tt) h
+    found G h = one-letter 0x47 (lit< tt) h
     found DL h = two-letters 0x44 0x4C (lit< tt) (lit< tt) h
     found EP h = two-letters 0x45 0x50 (lit< tt) (lit< tt) h
     found LL h = two-letters 0x4C 0x4C (lit< tt) (lit< tt) h

@@ -1,9 +1,9 @@
--- B, S and C have a role each. The thirteen kinds of the last arm are all load rows, so which of them came does not matter.
+-- B, S and C have a role each. The fourteen kinds of the last arm are all load rows, so which of them came does not matter.
 use mathlib.Core.Path.{refl, sym, ap}
 use mathlib.Core.List.{[], _∷_}
 use borrow.Author.Needs.{needs}
 use Rattle.kinds.specs.Table.{role}
-use Rattle.kinds.specs.declared.Kind.the-variants.{E, W, DL, EP, LL, LF, CF, WC, BU, TM, EX, WL, SF}
+use Rattle.kinds.specs.declared.Kind.the-variants.{E, W, G, DL, EP, LL, LF, CF, WC, BU, TM, EX, WL, SF}
 use Rattle.kinds.specs.declared.Role.the-variants.{Load}
 use Rattle.kinds.proofs.Arms.{kind-arm}
 use Rattle.kinds.proofs.role_of.Statement.{statement}
@@ -28,7 +28,7 @@ returns-3 : tie.Need-returns-3
 returns-3 c = ap role (sym (c .enum-told3 .given .1))
 
 returns-4 : tie.Need-returns-4
-returns-4 c = kind-arm role Load (E ∷ W ∷ DL ∷ EP ∷ LL ∷ LF ∷ CF ∷ WC ∷ BU ∷ TM ∷ EX ∷ WL ∷ SF ∷ []) (c .before .args .kind) refl (c .match .keys4)
+returns-4 c = kind-arm role Load (E ∷ W ∷ G ∷ DL ∷ EP ∷ LL ∷ LF ∷ CF ∷ WC ∷ BU ∷ TM ∷ EX ∷ WL ∷ SF ∷ []) (c .before .args .kind) refl (c .match .keys4)
 
 pub role-of-spec : {M : Type 1} → statement M
 role-of-spec =

@@ -1,11 +1,11 @@
 -- Document 01, the job book and Load sets, and 02, P1: what a row of a kind is to a combination, and where its forces come from.
 use Prim.Native.Nat.{ℕ}
 use Rattle.kinds.specs.declared.Kind.{Kind}
-use Rattle.kinds.specs.declared.Kind.the-variants.{B, S, C, E, W, DL, EP, LL, LF, CF, WC, BU, TM, EX, WL, SF}
+use Rattle.kinds.specs.declared.Kind.the-variants.{B, S, C, E, W, G, DL, EP, LL, LF, CF, WC, BU, TM, EX, WL, SF}
 use Rattle.sets.specs.declared.Class.{Class}
 use Rattle.sets.specs.declared.Class.the-variants.{Permanent, Free, Wind, Earthquake}
 use Rattle.kinds.specs.declared.classes.Source.{Source}
-use Rattle.kinds.specs.declared.classes.Source.the-variants.{Absent, Earth, Current, Own}
+use Rattle.kinds.specs.declared.classes.Source.the-variants.{Absent, Earth, Current, Surcharge, Own}
 
 -- DL, EP, E are permanent, the rest optional and free; WL and SF stand apart in the combinations. B, S and C are no load rows.
 unfoldable pub class-of : Kind → Class
@@ -14,6 +14,7 @@ class-of S = Permanent
 class-of C = Permanent
 class-of E = Permanent
 class-of W = Free
+class-of G = Free
 class-of DL = Permanent
 class-of EP = Permanent
 class-of LL = Free
@@ -26,13 +27,14 @@ class-of EX = Free
 class-of WL = Wind
 class-of SF = Earthquake
 
--- where a row's forces come from: E from its fill, W from the water current, the last line of the table from the row's own numbers
+-- where a row's forces come from: E from its fill, W from the water current, G from the surcharge, the last line of the table from the row's own numbers
 unfoldable pub source : Kind → Source
 source B = Absent
 source S = Absent
 source C = Absent
 source E = Earth
 source W = Current
+source G = Surcharge
 source DL = Own
 source EP = Own
 source LL = Own

@@ -1,4 +1,4 @@
--- What a row exerts: the columns that its source reads, the push of an E and of a W row, and how large it is.
+-- What a row exerts: the columns that its source reads, the push of an E, of a W and of a G row, and how large it is.
 use mathlib.Core.Path.{_≡_, refl, sym, _∙_, subst, subst⁻¹}
 use mathlib.Core.Bool.{Bool, true, false}
 use Prim.Native.Nat.{ℕ, _*_, _≤_}
@@ -9,7 +9,7 @@ use lib.IntN.{_*ℤ_}
 use Rattle.arithmetic.proofs.Cases.{impossible, unlike}
 use Rattle.fields.specs.declared.Entry.{Entry}
 use Rattle.kinds.specs.declared.Kind.{Kind}
-use Rattle.kinds.specs.declared.Kind.the-variants.{B, S, C, E, W, DL, EP, LL, LF, CF, WC, BU, TM, EX, WL, SF}
+use Rattle.kinds.specs.declared.Kind.the-variants.{B, S, C, E, W, G, DL, EP, LL, LF, CF, WC, BU, TM, EX, WL, SF}
 use Rattle.kinds.specs.declared.Numbers.{Numbers}
 use Rattle.kinds.specs.declared.Row.{Row}
 use Rattle.kinds.specs.Table.{load-columns, phase, train}
@@ -27,21 +27,26 @@ use Rattle.current.specs.CurrentRow as currents
 use Rattle.current.specs.declared.Shaft.{Shaft}
 use Rattle.current.proofs.Currents.{rule-one}
 use Rattle.current.proofs.Bounds.{push-mild}
+use Rattle.surcharge.specs.Surcharge as surcharge
+use Rattle.surcharge.specs.SurchargeRow as surcharges
+use Rattle.surcharge.specs.declared.Parts.{Parts}
+use Rattle.surcharge.proofs.Surcharges.{rule-above, rule-type-e, rule-pushes, says-out, says-rule}
+use Rattle.surcharge.proofs.Bounds.{pushes-moderate, both-forces, both-twists}
 use Rattle.arithmetic.specs.declared.signed.Amount.{Amount}
 use Rattle.arithmetic.specs.signed.Whole.{amount}
 use Rattle.sets.specs.declared.Load.{Load}
 use Rattle.sets.specs.Bounded.{BoundedLoad}
 use Rattle.kinds.specs.declared.classes.Source.{Source}
-use Rattle.kinds.specs.declared.classes.Source.the-variants.{Absent, Earth, Current, Own}
+use Rattle.kinds.specs.declared.classes.Source.the-variants.{Absent, Earth, Current, Surcharge, Own}
 use Rattle.kinds.specs.classes.Classes.{class-of, source}
 use Rattle.kinds.proofs.Trains.{train-low}
-use Rattle.kinds.proofs.classes.Sources.{current-earth, earth-current}
 use Rattle.loads.specs.forces.Blank.{BlankThere}
 use Rattle.loads.specs.forces.Wetted.{UpperBelowLower}
+use Rattle.loads.specs.forces.Laden.{LengthNotAbove, SoilTypeE}
 use Rattle.loads.specs.steps.Exerted.{LoadOf}
 use Rattle.loads.specs.steps.Exerted as rows
 use Rattle.loads.specs.declared.forces.RowLoad.the-variants as RowLoad
-use Rattle.loads.specs.forces.Exerts.{OwnForces, PushLoad, Forces, Exerts}
+use Rattle.loads.specs.forces.Exerts.{OwnForces, PushLoad, PartsLoad, Forces, Exerts}
 use Rattle.loads.proofs.forces.Amounts.{amount-size, value-size, product-size}
 
 -- ---- what the source of its forces says of a kind
@@ -49,6 +54,7 @@ abbrev OfSource : Source → Kind → Type 0
 OfSource Absent k = Unit {0}
 OfSource Earth k = k ≡ E
 OfSource Current k = k ≡ W
+OfSource Surcharge k = k ≡ G
 OfSource Own k = (n : Numbers) → Ranged k n → InColumns (load-columns Empty) n
 
 -- where a row with a train is in range, so is the row without it
@@ -62,6 +68,7 @@ of-source S = tt
 of-source C = tt
 of-source E = refl
 of-source W = refl
+of-source G = refl
 of-source DL = λ n r. r
 of-source EP = λ n r. r
 of-source LL = λ n r. r
@@ -125,6 +132,8 @@ module _ (fill : ℕ → ℕ → Coefficient) (row : Row) where
       lowest n (rows.out-of-range x) = omega arith
       lowest n (rows.blank x) = omega arith
       lowest n (rows.upper-below-lower x) = omega arith
+      lowest n (rows.not-above x) = omega arith
+      lowest n (rows.type-e x) = omega arith
 
   module _ (is-earth : source (row .kind) ≡ Earth) where
     own-range : Ranged E (row .numbers) → Ranged (row .kind) (row .numbers)
@@ -147,9 +156,11 @@ module _ (fill : ℕ → ℕ → Coefficient) (row : Row) where
         lowest n (rows.out-of-range x) = absurd (x (own-range (q .0)))
         lowest n (rows.blank x) = omega arith
         lowest n (rows.upper-below-lower x) = omega arith
+        lowest n (rows.not-above x) = omega arith
+        lowest n (rows.type-e x) = omega arith
 
-    pub earth-told-push : {H y : ℕ} (load : Load) → Pressed fill (row .numbers) (push H y) → Kept load → PushLoad H y load → LoadOf fill row (RowLoad.Exerted load)
-    unfolding LoadOf BlankThere UpperBelowLower Kept Forces
+    pub earth-told-push : {H y : ℕ} (load : Load) → Pressed fill (row .numbers) (push H y) → Kept load → PushLoad H (H * y) load → LoadOf fill row (RowLoad.Exerted load)
+    unfolding LoadOf BlankThere UpperBelowLower LengthNotAbove SoilTypeE Kept Forces
     earth-told-push {H} {y} load p k f =
         (none, record { class = k .0; phase = k .1; train = k .2; forces = subst⁻¹ (λ (s : Source). Forces fill s (row .numbers) load) is-earth (record { H = H; y = y; pressed = q .1; exerts = f }) })
       where
@@ -159,7 +170,9 @@ module _ (fill : ℕ → ℕ → Coefficient) (row : Row) where
         none : (n : ℕ) → rows.RowWhen fill row n → ⊥
         none n (rows.out-of-range x) = x (own-range (q .0))
         none n (rows.blank x) = let e = pushed-one (q .1) (x .1) in impossible cc
-        none n (rows.upper-below-lower x) = earth-current (sym is-earth ∙ x .0)
+        none n (rows.upper-below-lower x) = let e = sym is-earth ∙ x .0 in impossible cc
+        none n (rows.not-above x) = let e = sym is-earth ∙ x .0 in impossible cc
+        none n (rows.type-e x) = let e = sym is-earth ∙ x .0 in impossible cc
 
   module _ (is-current : source (row .kind) ≡ Current) where
     wet-range : Ranged W (row .numbers) → Ranged (row .kind) (row .numbers)
@@ -180,11 +193,13 @@ module _ (fill : ℕ → ℕ → Coefficient) (row : Row) where
 
         lowest : (n : ℕ) → rows.RowWhen fill row n → 17 ≤ n
         lowest n (rows.out-of-range x) = absurd (x (wet-range (q .0)))
-        lowest n (rows.blank x) = absurd (current-earth (sym is-current ∙ x .0))
+        lowest n (rows.blank x) = let e = sym is-current ∙ x .0 in impossible cc
         lowest n (rows.upper-below-lower x) = omega arith
+        lowest n (rows.not-above x) = omega arith
+        lowest n (rows.type-e x) = omega arith
 
-    pub current-told-push : {H y : ℕ} (load : Load) → currents.CurrentSays (row .numbers) (current.push H y) → Kept load → PushLoad H y load → LoadOf fill row (RowLoad.Exerted load)
-    unfolding LoadOf BlankThere UpperBelowLower Kept Forces
+    pub current-told-push : {H y : ℕ} (load : Load) → currents.CurrentSays (row .numbers) (current.push H y) → Kept load → PushLoad H (H * y) load → LoadOf fill row (RowLoad.Exerted load)
+    unfolding LoadOf BlankThere UpperBelowLower LengthNotAbove SoilTypeE Kept Forces
     current-told-push {H} {y} load p k f =
         (none, record { class = k .0; phase = k .1; train = k .2; forces = subst⁻¹ (λ (s : Source). Forces fill s (row .numbers) load) is-current (record { H = H; y = y; rule = q .1; exerts = f }) })
       where
@@ -193,28 +208,85 @@ module _ (fill : ℕ → ℕ → Coefficient) (row : Row) where
 
         none : (n : ℕ) → rows.RowWhen fill row n → ⊥
         none n (rows.out-of-range x) = x (wet-range (q .0))
-        none n (rows.blank x) = current-earth (sym is-current ∙ x .0)
+        none n (rows.blank x) = let e = sym is-current ∙ x .0 in impossible cc
         none n (rows.upper-below-lower x) = let e = rule-one (q .1) (x .1) in impossible cc
+        none n (rows.not-above x) = let e = sym is-current ∙ x .0 in impossible cc
+        none n (rows.type-e x) = let e = sym is-current ∙ x .0 in impossible cc
 
-  module _ {s : Source} (is : source (row .kind) ≡ s) (not-earth : s ≡ Earth → ⊥) (not-current : s ≡ Current → ⊥) (r : Ranged (row .kind) (row .numbers)) where
+  module _ (is-surcharge : source (row .kind) ≡ Surcharge) where
+    laden-range : Ranged G (row .numbers) → Ranged (row .kind) (row .numbers)
+    laden-range = subst⁻¹ (λ (k : Kind). Ranged k (row .numbers)) (kind-by (row .kind) Surcharge is-surcharge)
+
+    surcharge-range : Ranged (row .kind) (row .numbers) → Ranged G (row .numbers)
+    surcharge-range = subst (λ (k : Kind). Ranged k (row .numbers)) (kind-by (row .kind) Surcharge is-surcharge)
+
+    pub surcharge-told-out : surcharges.SurchargeSays (row .numbers) (surcharge.refused 11) → LoadOf fill row (RowLoad.Refused 11)
+    surcharge-told-out p = told-out (λ r. says-out p refl (surcharge-range r))
+
+    pub surcharge-told-above : surcharges.SurchargeSays (row .numbers) (surcharge.refused 19) → LoadOf fill row (RowLoad.Refused 19)
+    unfolding LoadOf BlankThere UpperBelowLower LengthNotAbove
+    surcharge-told-above p = record { holds = rows.not-above (is-surcharge, rule-above (q .1) refl); least = lowest }
+      where
+        q : Ranged G (row .numbers) × surcharge.SurchargeRule (surcharge.abutment-of (row .numbers)) (surcharge.refused 19)
+        q = says-rule p (λ e. unlike 19 11 refl cc)
+
+        lowest : (n : ℕ) → rows.RowWhen fill row n → 19 ≤ n
+        lowest n (rows.out-of-range x) = absurd (x (laden-range (q .0)))
+        lowest n (rows.blank x) = let e = sym is-surcharge ∙ x .0 in impossible cc
+        lowest n (rows.upper-below-lower x) = let e = sym is-surcharge ∙ x .0 in impossible cc
+        lowest n (rows.not-above x) = omega arith
+        lowest n (rows.type-e x) = omega arith
+
+    pub surcharge-told-type-e : surcharges.SurchargeSays (row .numbers) (surcharge.refused 20) → LoadOf fill row (RowLoad.Refused 20)
+    unfolding LoadOf BlankThere UpperBelowLower LengthNotAbove SoilTypeE
+    surcharge-told-type-e p = record { holds = rows.type-e (is-surcharge, rule-type-e (q .1) refl .1); least = lowest }
+      where
+        q : Ranged G (row .numbers) × surcharge.SurchargeRule (surcharge.abutment-of (row .numbers)) (surcharge.refused 20)
+        q = says-rule p (λ e. unlike 20 11 refl cc)
+
+        lowest : (n : ℕ) → rows.RowWhen fill row n → 20 ≤ n
+        lowest n (rows.out-of-range x) = absurd (x (laden-range (q .0)))
+        lowest n (rows.blank x) = let e = sym is-surcharge ∙ x .0 in impossible cc
+        lowest n (rows.upper-below-lower x) = let e = sym is-surcharge ∙ x .0 in impossible cc
+        lowest n (rows.not-above x) = absurd (rule-type-e (q .1) refl .0 (x .1))
+        lowest n (rows.type-e x) = omega arith
+
+    pub surcharge-told-pushes : {parts : Parts} (load : Load) → surcharges.SurchargeSays (row .numbers) (surcharge.pushes parts) → Kept load → PartsLoad parts load → LoadOf fill row (RowLoad.Exerted load)
+    unfolding LoadOf BlankThere UpperBelowLower LengthNotAbove SoilTypeE Kept Forces
+    surcharge-told-pushes {parts} load p k f =
+        (none, record { class = k .0; phase = k .1; train = k .2; forces = subst⁻¹ (λ (s : Source). Forces fill s (row .numbers) load) is-surcharge (record { parts = parts; rule = q .1; exerts = f }) })
+      where
+        q : Ranged G (row .numbers) × surcharge.SurchargeRule (surcharge.abutment-of (row .numbers)) (surcharge.pushes parts)
+        q = says-rule p (λ e. impossible cc)
+
+        none : (n : ℕ) → rows.RowWhen fill row n → ⊥
+        none n (rows.out-of-range x) = x (laden-range (q .0))
+        none n (rows.blank x) = let e = sym is-surcharge ∙ x .0 in impossible cc
+        none n (rows.upper-below-lower x) = let e = sym is-surcharge ∙ x .0 in impossible cc
+        none n (rows.not-above x) = rule-pushes (q .1) refl .0 (x .1)
+        none n (rows.type-e x) = rule-pushes (q .1) refl .1 (x .1)
+
+  module _ {s : Source} (is : source (row .kind) ≡ s) (not-earth : s ≡ Earth → ⊥) (not-current : s ≡ Current → ⊥) (not-surcharge : s ≡ Surcharge → ⊥) (r : Ranged (row .kind) (row .numbers)) where
     pub told-load : (load : Load) → Kept load → Forces fill s (row .numbers) load → LoadOf fill row (RowLoad.Exerted load)
-    unfolding LoadOf BlankThere UpperBelowLower Kept
+    unfolding LoadOf BlankThere UpperBelowLower LengthNotAbove SoilTypeE Kept
     told-load load k f = (none, record { class = k .0; phase = k .1; train = k .2; forces = subst⁻¹ (λ (x : Source). Forces fill x (row .numbers) load) is f })
       where
         none : (n : ℕ) → rows.RowWhen fill row n → ⊥
         none n (rows.out-of-range x) = x r
         none n (rows.blank x) = not-earth (sym is ∙ x .0)
         none n (rows.upper-below-lower x) = not-current (sym is ∙ x .0)
+        none n (rows.not-above x) = not-surcharge (sym is ∙ x .0)
+        none n (rows.type-e x) = not-surcharge (sym is ∙ x .0)
 
 -- ---- how large a load is
-push-bounded : {H y : ℕ} {load : Load} → load .train ≤ 16 → H ≤ 300000 → H * y ≤ 3000000000 → PushLoad H y load → BoundedLoad load
+push-bounded : {H twist : ℕ} {load : Load} → load .train ≤ 16 → H ≤ 300000 → twist ≤ 3000000000 → PushLoad H twist load → BoundedLoad load
 unfolding amount
-push-bounded {H} {y} t p q f =
+push-bounded t p q f =
     record {
       v = subst (λ (a : Amount). a .size ≤ 50000) (sym (f .v)) (lit≤ tt);
       x = subst (λ (a : Amount). a .size ≤ 32000) (sym (f .x)) (lit≤ tt);
       h = subst (λ (a : Amount). a .size ≤ 300000) (sym (f .h)) p;
-      twist = subst (λ (a : Amount). a .size ≤ 3000000000) (sym (f .twist)) q;
+      twist = subst (λ (a : Amount). a .size ≤ 3000000000) (sym (f .turns)) q;
       train = t;
     }
 
@@ -242,6 +314,7 @@ exerts-bounded fill small row load r e = go (source (row .kind)) refl (e .forces
     go Absent d f = push-bounded low (lit≤ tt) (lit≤ tt) f
     go Earth d f = let m = pressed-modest small (in-range (earth-range fill row d r) (f .pressed)) in push-bounded low (m .thrust) (m .moment) (f .exerts)
     go Current d f = let m = push-mild (current-range fill row d r) (f .rule) in push-bounded low (le-trans (m .force) (lit≤ tt)) (m .moment) (f .exerts)
+    go Surcharge d f = let m = pushes-moderate (surcharge-range fill row d r) (f .rule) in push-bounded low (both-forces m) (both-twists m) (f .exerts)
     go Own d f = own-bounded low (own-columns (row .kind) (row .numbers) d r) f
 
 -- loads are the same if their parts are

@@ -1,8 +1,8 @@
--- The six kinds of the first arm are all permanent and the eight of the second all free, whichever of them it is; WL and SF have their own arms.
+-- The six kinds of the first arm are all permanent and the nine of the second all free, whichever of them it is; WL and SF have their own arms.
 use borrow.Author.Needs.{needs}
-use mathlib.Core.Path.{refl}
+use mathlib.Core.Path.{refl, sym, ap}
 use mathlib.Core.List.{[], _∷_}
-use Rattle.kinds.specs.declared.Kind.the-variants.{B, S, C, E, W, DL, EP, LL, LF, CF, WC, BU, TM, EX}
+use Rattle.kinds.specs.declared.Kind.the-variants.{B, S, C, E, W, G, DL, EP, LL, LF, CF, WC, BU, TM, EX}
 use Rattle.sets.specs.declared.Class.the-variants.{Permanent, Free}
 use Rattle.kinds.specs.classes.Classes.{class-of}
 use Rattle.kinds.proofs.Arms.{kind-arm}
@@ -21,15 +21,15 @@ returns c = kind-arm class-of Permanent (B ∷ S ∷ C ∷ E ∷ DL ∷ EP ∷ [
 
 returns-2 : tie.Need-returns-2
 unfolding class-of
-returns-2 c = kind-arm class-of Free (W ∷ LL ∷ LF ∷ CF ∷ WC ∷ BU ∷ TM ∷ EX ∷ []) (c .before .args .kind) refl (c .match .keys2)
+returns-2 c = kind-arm class-of Free (W ∷ G ∷ LL ∷ LF ∷ CF ∷ WC ∷ BU ∷ TM ∷ EX ∷ []) (c .before .args .kind) refl (c .match .keys2)
 
 returns-3 : tie.Need-returns-3
 unfolding class-of
-returns-3 c = search needs
+returns-3 c = sym (ap class-of (c .enum-told .given .1))
 
 returns-4 : tie.Need-returns-4
 unfolding class-of
-returns-4 c = search needs
+returns-4 c = sym (ap class-of (c .enum-told2 .given .1))
 
 pub class-of-spec : {M : Type 1} → statement M
 class-of-spec = tie.close (tie.spec enum-told enum-told-2 returns returns-2 returns-3 returns-4)

@@ -8,7 +8,7 @@ use borrow.Author.Needs.{needs}
 use lib.ListN.{length, getD}
 use Rattle.kinds.specs.Table.{letters}
 use Rattle.kinds.specs.declared.Kind.{Kind}
-use Rattle.kinds.specs.declared.Kind.the-variants.{B, S, C, E, W, DL, EP, LL, LF, CF, WC, BU, TM, EX, WL, SF}
+use Rattle.kinds.specs.declared.Kind.the-variants.{B, S, C, E, W, G, DL, EP, LL, LF, CF, WC, BU, TM, EX, WL, SF}
 use Rattle.kinds.specs.letters.Form.{KindAt}
 use Rattle.kinds.specs.declared.letters.KindRead.the-variants.{Known, Unknown}
 use Rattle.kinds.proofs.letters.Letters.{kind-field, coded, LettersRead, letters-none, room, letters-more, found, no-kind}
@@ -86,11 +86,12 @@ returns : tie.Need-returns Inv-loop μ-loop
 returns c = is-none (c .before) other
   where
     other : (k : Kind) → n (c .before) ≡ coded 1 (letters k) → ⊥
-    other B e = c .match .rest .0 .0 .0 .0 .0 .0 .0 .0 .0 .0 .0 .0 .0 .0 .0 .1 e
-    other S e = c .match .rest .0 .0 .0 .0 .0 .0 .0 .0 .0 .0 .0 .0 .0 .0 .1 e
-    other C e = c .match .rest .0 .0 .0 .0 .0 .0 .0 .0 .0 .0 .0 .0 .0 .1 e
-    other E e = c .match .rest .0 .0 .0 .0 .0 .0 .0 .0 .0 .0 .0 .0 .1 e
-    other W e = c .match .rest .0 .0 .0 .0 .0 .0 .0 .0 .0 .0 .0 .1 e
+    other B e = c .match .rest .0 .0 .0 .0 .0 .0 .0 .0 .0 .0 .0 .0 .0 .0 .0 .0 .1 e
+    other S e = c .match .rest .0 .0 .0 .0 .0 .0 .0 .0 .0 .0 .0 .0 .0 .0 .0 .1 e
+    other C e = c .match .rest .0 .0 .0 .0 .0 .0 .0 .0 .0 .0 .0 .0 .0 .0 .1 e
+    other E e = c .match .rest .0 .0 .0 .0 .0 .0 .0 .0 .0 .0 .0 .0 .0 .1 e
+    other W e = c .match .rest .0 .0 .0 .0 .0 .0 .0 .0 .0 .0 .0 .0 .1 e
+    other G e = c .match .rest .0 .0 .0 .0 .0 .0 .0 .0 .0 .0 .0 .1 e
     other DL e = c .match .rest .0 .0 .0 .0 .0 .0 .0 .0 .0 .0 .1 e
     other EP e = c .match .rest .0 .0 .0 .0 .0 .0 .0 .0 .0 .1 e
     other LL e = c .match .rest .0 .0 .0 .0 .0 .0 .0 .0 .1 e
@@ -119,37 +120,40 @@ returns-6 : tie.Need-returns-6 Inv-loop μ-loop
 returns-6 c = is-kind (c .before) W (c .match .keys5)
 
 returns-7 : tie.Need-returns-7 Inv-loop μ-loop
-returns-7 c = is-kind (c .before) DL (c .match .keys6)
+returns-7 c = is-kind (c .before) G (c .match .keys6)
 
 returns-8 : tie.Need-returns-8 Inv-loop μ-loop
-returns-8 c = is-kind (c .before) EP (c .match .keys7)
+returns-8 c = is-kind (c .before) DL (c .match .keys7)
 
 returns-9 : tie.Need-returns-9 Inv-loop μ-loop
-returns-9 c = is-kind (c .before) LL (c .match .keys8)
+returns-9 c = is-kind (c .before) EP (c .match .keys8)
 
 returns-10 : tie.Need-returns-10 Inv-loop μ-loop
-returns-10 c = is-kind (c .before) LF (c .match .keys9)
+returns-10 c = is-kind (c .before) LL (c .match .keys9)
 
 returns-11 : tie.Need-returns-11 Inv-loop μ-loop
-returns-11 c = is-kind (c .before) CF (c .match .keys10)
+returns-11 c = is-kind (c .before) LF (c .match .keys10)
 
 returns-12 : tie.Need-returns-12 Inv-loop μ-loop
-returns-12 c = is-kind (c .before) WC (c .match .keys11)
+returns-12 c = is-kind (c .before) CF (c .match .keys11)
 
 returns-13 : tie.Need-returns-13 Inv-loop μ-loop
-returns-13 c = is-kind (c .before) BU (c .match .keys12)
+returns-13 c = is-kind (c .before) WC (c .match .keys12)
 
 returns-14 : tie.Need-returns-14 Inv-loop μ-loop
-returns-14 c = is-kind (c .before) TM (c .match .keys13)
+returns-14 c = is-kind (c .before) BU (c .match .keys13)
 
 returns-15 : tie.Need-returns-15 Inv-loop μ-loop
-returns-15 c = is-kind (c .before) EX (c .match .keys14)
+returns-15 c = is-kind (c .before) TM (c .match .keys14)
 
 returns-16 : tie.Need-returns-16 Inv-loop μ-loop
-returns-16 c = is-kind (c .before) WL (c .match .keys15)
+returns-16 c = is-kind (c .before) EX (c .match .keys15)
 
 returns-17 : tie.Need-returns-17 Inv-loop μ-loop
-returns-17 c = is-kind (c .before) SF (c .match .keys16)
+returns-17 c = is-kind (c .before) WL (c .match .keys16)
+
+returns-18 : tie.Need-returns-18 Inv-loop μ-loop
+returns-18 c = is-kind (c .before) SF (c .match .keys17)
 
 pub kind-at-spec : {M : Type 1} → statement M
 kind-at-spec =
@@ -182,4 +186,5 @@ kind-at-spec =
     returns-14
     returns-15
     returns-16
-    returns-17)
+    returns-17
+    returns-18)

@@ -1,2 +1,0 @@
--- The laws of sources. Other crates' proofs cite them.
-pub mod Sources

@@ -1,0 +1,2 @@
+-- The laws of Table 3 and of the coefficients.
+pub mod Sizes

@@ -1,0 +1,4 @@
+pub mod tables
+pub mod force
+pub mod Surcharge
+pub mod SurchargeRow

@@ -1,0 +1,4 @@
+pub mod Force
+pub mod Meeting
+pub mod Joint
+pub mod Moderate
