@@ -1,4 +1,4 @@
-/* The yardstick: document 01's printing program in plain C, with 02's kind W, its trains and its fill books. A book on standard input, the own and
+/* The yardstick: document 01's printing program in plain C, with 02's kinds W and G, its trains and its fill books. A book on standard input, the own and
    the common fill book as files that its arguments name, the book's lines on standard output. The book is read once; load sets are walked as two tables of half sums with carried sums, all checks of a combination
    at once, and a quotient is only worked out where the figure gets worse. What it takes from the C library is declared
    here, so that the kit's compiler, which has no headers, compiles it. */
@@ -20,7 +20,7 @@ int close(int);
 #define COLD static __attribute__((noinline, cold))
 
 enum { MAX_BOOK = 65536, MAX_JOBS = 64, MAX_LOADS = 16, MAX_OPTIONAL = 12 };
-enum { KB, KS, KC, KE, KDL, KEP, KLL, KLF, KCF, KWC, KBU, KTM, KEX, KW, KWL, KSF, NO_KIND };
+enum { KB, KS, KC, KE, KDL, KEP, KLL, KLF, KCF, KWC, KBU, KTM, KEX, KWL, KSF, KW, KG, NO_KIND };
 
 /* ---- RFC 4180 rows */
 enum { TEXT, COMMA, CR, LF, QUOTE, BAD };
@@ -85,19 +85,20 @@ typedef struct {
 } Job;
 typedef struct { Key key; int kind; i32 n[6]; int in_range; } Row;
 
-static const i32 ranges[6][6][2] = {
+static const i32 ranges[7][6][2] = {
     {{500, 30000}, {500, 60000}, {1, 10000}, {1, 1000}, {0, 1}},
     {{1, 50000000}, {1, 3000000}, {100, 3000}, {1000, 1300000}, {1, 5}, {0, 200000}},
     {{0, 10000}, {1, 100000}, {1, 100000}, {-500000, 9000000}, {-500000, 9000000}},
     {{1, 5}, {1, 5}, {1, 15000}, {1, 60000}, {0, 2}},
     {{-50000, 50000}, {-30000, 30000}, {-50000, 50000}, {0, 60000}, {0, 2}, {1, MAX_LOADS}},
     {{1, 6}, {1, 20000}, {0, 6000}, {0, 60000}, {0, 60000}, {0, 2}},
+    {{1, 7}, {0, 20000}, {1, 5}, {1, 15000}, {1, 60000}, {0, 2}},
 };
 
 INLINE int train_kind(int kind) { return kind == KLF || kind == KCF; }
 
 static int kind_of(const u8 *s, u32 n) {
-    if (n == 1) switch (s[0]) { case 'B': return KB; case 'S': return KS; case 'C': return KC; case 'E': return KE; case 'W': return KW; default: return NO_KIND; }
+    if (n == 1) switch (s[0]) { case 'B': return KB; case 'S': return KS; case 'C': return KC; case 'E': return KE; case 'W': return KW; case 'G': return KG; default: return NO_KIND; }
     if (n != 2) return NO_KIND;
     switch (s[0] << 8 | s[1]) {
     case 'D' << 8 | 'L': return KDL;
@@ -142,8 +143,8 @@ static int row_form(const u8 *book, int count, const Field *f, Row *r) {
     if (!name_form(m, mn) || !name_form(j, jn)) return 0;
     r->kind = kind_of(book + f[2].start, f[2].end - f[2].start);
     if (r->kind == NO_KIND) return 0;
-    int want = r->kind == KS || r->kind == KW || train_kind(r->kind) ? 6 : 5;
-    const i32(*g)[2] = ranges[r->kind < 4 ? r->kind : r->kind == KW ? 5 : 4];
+    int want = r->kind == KS || r->kind >= KW || train_kind(r->kind) ? 6 : 5;
+    const i32(*g)[2] = ranges[r->kind < 4 ? r->kind : r->kind < KW ? 4 : r->kind - KW + 5];
     r->in_range = 1;
     r->n[5] = 0;
     for (int i = 0; i < want; i++) {
@@ -298,6 +299,20 @@ static u64 fill_value(const Key *key, int soil, int slope) {
 }
 
 static const u64 table4[6] = {79, 35, 37, 47, 24, 26};
+static const u64 table3[7][2] = {{16300, 3000}, {13700, 3000}, {15800, 3000}, {13700, 3000}, {9800, 2100}, {9800, 2100}, {8300, 1800}};
+static const u64 active[4] = {27, 30, 39, 100};
+
+static u64 over_length(u64 p, u64 l) { return div_up(p * l * 980665, 100000000000ull); }
+
+/* H of both parts of a surcharge, and the sum of their 2Hy. */
+static u64 surcharge(const i32 *n, u64 b, u64 *turn) {
+    u64 t = (table3[n[0] - 1][0] + n[1]) * active[n[2] - 1], h = n[3], l = n[4], d = l - b;
+    u64 near = h <= d;
+    u64 first = over_length(div_up(t * h, 100 * (near ? b + h : l)), l);
+    u64 second = over_length(near ? div_up(t * h * h, 200 * b * (b + h)) : div_up(t * d * d, 200 * b * l), l);
+    *turn = 2 * (first * div_up(h, 2) + second * (near ? div_up(2 * h, 3) : div_up(3 * h - d, 3)));
+    return first + second;
+}
 
 /* ---- load sets */
 #define TOP (~0ul) /* "none" for OP, OM, SL; "off" for PR, RK; and no key */
@@ -317,8 +332,9 @@ INLINE Sums plus(Sums a, const Sums *b) {
     return a;
 }
 
-static Sums sums_row(i64 b, int index, i64 v, i64 x, i64 h, i64 y) {
-    i64 p = v * (b - 2 * x), q = v * (b + 2 * x), t = 2 * h * y;
+/* A row with V at x, H, and t the sum of its 2Hy, which have one sign. */
+static Sums sums_row(i64 b, int index, i64 v, i64 x, i64 h, i64 t) {
+    i64 p = v * (b - 2 * x), q = v * (b + 2 * x);
     Sums s = {v, h, 2 * v * x + t, (p < 0 ? -p : 0) + (t > 0 ? t : 0), (q < 0 ? -q : 0) + (t < 0 ? -t : 0), 1 << 16 | 1 << index};
     return s;
 }
@@ -437,7 +453,7 @@ static void power_with(Search *w, const Choice *c, const Sums *must, int nm, int
     }
 }
 
-INLINE int phase(const Load *o) { return o->n[o->kind == KW ? 5 : 4]; }
+INLINE int phase(const Load *o) { return o->n[o->kind >= KW ? 5 : 4]; }
 
 /* The LL row `at` as the head of a train; 0 if no row outside phase `other` names it. */
 static int add_train(Choice *c, const Job *j, const Sums *rows, int at, int other) {
@@ -547,15 +563,22 @@ static u32 lines(const Job *j) {
         const i32 *n = o->n;
         if (o->kind == KE) {
             u64 k = fill_value(&j->key, n[0], n[1]), ht = n[2];
+            u64 h = div_up(k * ht * ht * n[3], 2000000000000ull);
             if (k == 0) bad |= 1u << 15;
-            rows[i] = sums_row(b, i, 0, 0, div_up(k * ht * ht * n[3], 2000000000000ull), div_up(ht, 3));
+            rows[i] = sums_row(b, i, 0, 0, h, 2 * h * div_up(ht, 3));
         } else if (o->kind == KW) {
-            u64 v = n[2];
+            u64 v = n[2], h = div_up(table4[n[0] - 1] * n[1] * v * v * 196133, 2000000000000000ull);
             if (n[3] < n[4]) bad |= 1u << 17;
-            rows[i] = sums_row(b, i, 0, 0, div_up(table4[n[0] - 1] * n[1] * v * v * 196133, 2000000000000000ull), div_up(2 * n[3] + n[4], 3));
+            rows[i] = sums_row(b, i, 0, 0, h, 2 * h * div_up(2 * n[3] + n[4], 3));
+        } else if (o->kind == KG) {
+            u64 width = table3[n[0] - 1][1], turn = 0, h = 0;
+            if ((u64)n[4] <= width) bad |= 1u << 19;
+            else if (n[2] == 5) bad |= 1u << 20;
+            else h = surcharge(n, width, &turn);
+            rows[i] = sums_row(b, i, 0, 0, h, turn);
         } else {
             if (train_kind(o->kind) && (n[5] > j->count || j->loads[n[5] - 1].kind != KLL)) bad |= 1u << 18;
-            rows[i] = sums_row(b, i, n[0], n[1], n[2], n[3]);
+            rows[i] = sums_row(b, i, n[0], n[1], n[2], 2 * (i64)n[2] * n[3]);
         }
         optional += o->kind > KEP;
         some_1 |= phase(o) == 1;

@@ -22,7 +22,7 @@ use Rattle.sets.specs.declared.Loads.{Loads}
 use Rattle.sets.specs.Sets.{row}
 use Rattle.sets.specs.Bounded.{Bounded}
 use Rattle.sets.specs.Led.{Led}
-use Rattle.loads.proofs.forces.Exerting.{exerts-bounded}
+use Rattle.loads.proofs.forces.Sizes.{exerts-bounded}
 use Rattle.loads.specs.forces.Blank.{BlankThere}
 use Rattle.loads.specs.forces.Wetted.{UpperBelowLower}
 use Rattle.loads.specs.forces.Laden.{LengthNotAbove, SoilTypeE}

@@ -2,3 +2,4 @@
 pub mod Amounts
 pub mod Turning
 pub mod Exerting
+pub mod Sizes

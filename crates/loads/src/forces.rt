@@ -59,13 +59,11 @@ fn surcharge_load(class: Class, phase: u32, train: u32, parts: Parts) -> Load
 {
     let first = parts.first;
     let second = parts.second;
-    push_load(
-        class,
-        phase,
-        train,
-        first.force + second.force,
-        first.force * first.arm + second.force * second.arm,
-    )
+    let h1 = first.force;
+    let y1 = first.arm;
+    let h2 = second.force;
+    let y2 = second.arm;
+    push_load(class, phase, train, h1 + h2, h1 * y1 + h2 * y2)
 }
 
 // The load of a row's own numbers.

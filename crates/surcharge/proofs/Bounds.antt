@@ -1,5 +1,5 @@
 -- How large the two parts of a G row in range can be.
-use mathlib.Core.Path.{_≡_, subst, subst⁻¹}
+use mathlib.Core.Path.{subst}
 use Prim.Native.Nat.{ℕ, _+_, _*_, _-_, _^_, _≤_, _<_}
 use native.Mathlib.Nat.{le-refl, le-trans, le-of-lt, mul-le-mul}
 use native.Mathlib.Omega.{arith}
@@ -20,7 +20,7 @@ use Rattle.surcharge.proofs.tables.Sizes.{surcharge-small, width-wide, 
 use Rattle.surcharge.proofs.force.Sizes.{first-small, second-small}
 use Rattle.surcharge.proofs.force.Meeting.{within-joint, beyond-joint}
 
--- so that H of both together is at most 267,000 kN, and their twist at most 2.67·10⁹ kN mm
+-- H of two moderate parts together is at most 267,000 kN, and their twist at most 2.67·10⁹ kN mm
 pub both-forces : {parts : Parts} → Moderate parts → parts .first .force + parts .second .force ≤ 300000
 both-forces m = let a = m .first in let b = m .second in omega arith
 

@@ -1,11 +1,8 @@
--- What a row exerts: the columns that its source reads, the push of an E, of a W and of a G row, and how large it is.
+-- What a row is told by where its forces come from, and what it exerts: by the push of an E, of a W and of a G row, or by its own numbers.
 use mathlib.Core.Path.{_≡_, refl, sym, _∙_, subst, subst⁻¹}
 use mathlib.Core.Bool.{Bool, true, false}
 use Prim.Native.Nat.{ℕ, _*_, _≤_}
-use native.Mathlib.Nat.{le-trans, mul-le-mul}
 use native.Mathlib.Omega.{arith}
-use lib.Dec.{lit≤}
-use lib.IntN.{_*ℤ_}
 use Rattle.arithmetic.proofs.Cases.{impossible, unlike}
 use Rattle.fields.specs.declared.Entry.{Entry}
 use Rattle.kinds.specs.declared.Kind.{Kind}
@@ -14,40 +11,31 @@ use Rattle.kinds.specs.declared.Numbers.{Numbers}
 use Rattle.kinds.specs.declared.Row.{Row}
 use Rattle.kinds.specs.Table.{load-columns, phase, train}
 use Rattle.kinds.specs.declared.Column.the-variants.{Empty, Filled}
-use Rattle.kinds.specs.ranges.Range.{Around, InColumns, Ranged, value}
+use Rattle.kinds.specs.ranges.Range.{Around, InColumns, Ranged}
 use Rattle.earth.specs.declared.coefficients.Coefficient.{Coefficient}
-use Rattle.earth.specs.steps.LowCoefficient.{LowCoefficient}
 use Rattle.earth.specs.Earth.{EarthTold, refused, push, backfill-of, Pushed, blank, has-coefficient}
 use Rattle.earth.specs.EarthRow.{Pressed, out-of-range, in-range}
 use Rattle.earth.specs.declared.Backfill.{Backfill}
 use Rattle.earth.proofs.Pressures.{pushed-one}
-use Rattle.earth.proofs.Bounds.{pressed-modest}
 use Rattle.current.specs.Current as current
 use Rattle.current.specs.CurrentRow as currents
 use Rattle.current.specs.declared.Shaft.{Shaft}
 use Rattle.current.proofs.Currents.{rule-one}
-use Rattle.current.proofs.Bounds.{push-mild}
 use Rattle.surcharge.specs.Surcharge as surcharge
 use Rattle.surcharge.specs.SurchargeRow as surcharges
 use Rattle.surcharge.specs.declared.Parts.{Parts}
 use Rattle.surcharge.proofs.Surcharges.{rule-above, rule-type-e, rule-pushes, says-out, says-rule}
-use Rattle.surcharge.proofs.Bounds.{pushes-moderate, both-forces, both-twists}
-use Rattle.arithmetic.specs.declared.signed.Amount.{Amount}
-use Rattle.arithmetic.specs.signed.Whole.{amount}
 use Rattle.sets.specs.declared.Load.{Load}
-use Rattle.sets.specs.Bounded.{BoundedLoad}
 use Rattle.kinds.specs.declared.classes.Source.{Source}
 use Rattle.kinds.specs.declared.classes.Source.the-variants.{Absent, Earth, Current, Surcharge, Own}
 use Rattle.kinds.specs.classes.Classes.{class-of, source}
-use Rattle.kinds.proofs.Trains.{train-low}
 use Rattle.loads.specs.forces.Blank.{BlankThere}
 use Rattle.loads.specs.forces.Wetted.{UpperBelowLower}
 use Rattle.loads.specs.forces.Laden.{LengthNotAbove, SoilTypeE}
 use Rattle.loads.specs.steps.Exerted.{LoadOf}
 use Rattle.loads.specs.steps.Exerted as rows
 use Rattle.loads.specs.declared.forces.RowLoad.the-variants as RowLoad
-use Rattle.loads.specs.forces.Exerts.{OwnForces, PushLoad, PartsLoad, Forces, Exerts}
-use Rattle.loads.proofs.forces.Amounts.{amount-size, value-size, product-size}
+use Rattle.loads.specs.forces.Exerts.{PushLoad, PartsLoad, Forces, Exerts}
 
 -- ---- what the source of its forces says of a kind
 abbrev OfSource : Source → Kind → Type 0
@@ -83,6 +71,10 @@ of-source SF = λ n r. r
 
 kind-by : (k : Kind) (s : Source) → source k ≡ s → OfSource s k
 kind-by k s e = subst (λ (x : Source). OfSource x k) e (of-source k)
+
+-- a row in the range of its kind is in that of the kind which its source tells, and the other way round
+pub ranged-as : {j k : Kind} (n : Numbers) → j ≡ k → Ranged j n → Ranged k n
+ranged-as n e = subst (λ (k : Kind). Ranged k n) e
 
 pub own-columns : (k : Kind) (n : Numbers) → source k ≡ Own → Ranged k n → InColumns (load-columns Empty) n
 own-columns k n e = kind-by k Own e n
@@ -123,6 +115,10 @@ module _ (fill : ℕ → ℕ → Coefficient) (row : Row) where
   unfoldable pub Kept : Load → Type 0
   Kept load = (load .class ≡ class-of (row .kind)) × (load .phase ≡ phase (row .kind) (row .numbers)) × (load .train ≡ train (row .kind) (row .numbers))
 
+  exerted : {s : Source} → source (row .kind) ≡ s → (load : Load) → Kept load → Forces fill s (row .numbers) load → Exerts fill row load
+  unfolding Kept
+  exerted is load k f = record { class = k .0; phase = k .1; train = k .2; forces = subst⁻¹ (λ (s : Source). Forces fill s (row .numbers) load) is f }
+
   -- 11 is the lowest of a row's numbers
   pub told-out : (Ranged (row .kind) (row .numbers) → ⊥) → LoadOf fill row (RowLoad.Refused 11)
   unfolding LoadOf
@@ -136,14 +132,11 @@ module _ (fill : ℕ → ℕ → Coefficient) (row : Row) where
       lowest n (rows.type-e x) = omega arith
 
   module _ (is-earth : source (row .kind) ≡ Earth) where
-    own-range : Ranged E (row .numbers) → Ranged (row .kind) (row .numbers)
-    own-range = subst⁻¹ (λ (k : Kind). Ranged k (row .numbers)) (kind-by (row .kind) Earth is-earth)
-
-    earth-range : Ranged (row .kind) (row .numbers) → Ranged E (row .numbers)
-    earth-range = subst (λ (k : Kind). Ranged k (row .numbers)) (kind-by (row .kind) Earth is-earth)
+    pub earth-kind : row .kind ≡ E
+    earth-kind = kind-by (row .kind) Earth is-earth
 
     pub earth-told-out : Pressed fill (row .numbers) (refused 11) → LoadOf fill row (RowLoad.Refused 11)
-    earth-told-out p = told-out (λ r. earth-out p refl (earth-range r))
+    earth-told-out p = told-out (λ r. earth-out p refl (ranged-as (row .numbers) earth-kind r))
 
     pub earth-told-blank : Pressed fill (row .numbers) (refused 15) → LoadOf fill row (RowLoad.Refused 15)
     unfolding LoadOf BlankThere
@@ -153,36 +146,32 @@ module _ (fill : ℕ → ℕ → Coefficient) (row : Row) where
         q = earth-else p (λ e. unlike 15 11 refl cc)
 
         lowest : (n : ℕ) → rows.RowWhen fill row n → 15 ≤ n
-        lowest n (rows.out-of-range x) = absurd (x (own-range (q .0)))
+        lowest n (rows.out-of-range x) = absurd (x (ranged-as (row .numbers) (sym earth-kind) (q .0)))
         lowest n (rows.blank x) = omega arith
         lowest n (rows.upper-below-lower x) = omega arith
         lowest n (rows.not-above x) = omega arith
         lowest n (rows.type-e x) = omega arith
 
     pub earth-told-push : {H y : ℕ} (load : Load) → Pressed fill (row .numbers) (push H y) → Kept load → PushLoad H (H * y) load → LoadOf fill row (RowLoad.Exerted load)
-    unfolding LoadOf BlankThere UpperBelowLower LengthNotAbove SoilTypeE Kept Forces
-    earth-told-push {H} {y} load p k f =
-        (none, record { class = k .0; phase = k .1; train = k .2; forces = subst⁻¹ (λ (s : Source). Forces fill s (row .numbers) load) is-earth (record { H = H; y = y; pressed = q .1; exerts = f }) })
+    unfolding LoadOf BlankThere UpperBelowLower LengthNotAbove SoilTypeE Forces
+    earth-told-push {H} {y} load p k f = (none, exerted is-earth load k (record { H = H; y = y; pressed = q .1; exerts = f }))
       where
         q : Ranged E (row .numbers) × Pushed fill (backfill-of (row .numbers)) (push H y)
         q = earth-else p (λ e. impossible cc)
 
         none : (n : ℕ) → rows.RowWhen fill row n → ⊥
-        none n (rows.out-of-range x) = x (own-range (q .0))
+        none n (rows.out-of-range x) = x (ranged-as (row .numbers) (sym earth-kind) (q .0))
         none n (rows.blank x) = let e = pushed-one (q .1) (x .1) in impossible cc
         none n (rows.upper-below-lower x) = let e = sym is-earth ∙ x .0 in impossible cc
         none n (rows.not-above x) = let e = sym is-earth ∙ x .0 in impossible cc
         none n (rows.type-e x) = let e = sym is-earth ∙ x .0 in impossible cc
 
   module _ (is-current : source (row .kind) ≡ Current) where
-    wet-range : Ranged W (row .numbers) → Ranged (row .kind) (row .numbers)
-    wet-range = subst⁻¹ (λ (k : Kind). Ranged k (row .numbers)) (kind-by (row .kind) Current is-current)
-
-    current-range : Ranged (row .kind) (row .numbers) → Ranged W (row .numbers)
-    current-range = subst (λ (k : Kind). Ranged k (row .numbers)) (kind-by (row .kind) Current is-current)
+    pub current-kind : row .kind ≡ W
+    current-kind = kind-by (row .kind) Current is-current
 
     pub current-told-out : currents.CurrentSays (row .numbers) (current.refused 11) → LoadOf fill row (RowLoad.Refused 11)
-    current-told-out p = told-out (λ r. current-out p refl (current-range r))
+    current-told-out p = told-out (λ r. current-out p refl (ranged-as (row .numbers) current-kind r))
 
     pub current-told-below : currents.CurrentSays (row .numbers) (current.refused 17) → LoadOf fill row (RowLoad.Refused 17)
     unfolding LoadOf BlankThere UpperBelowLower
@@ -192,36 +181,32 @@ module _ (fill : ℕ → ℕ → Coefficient) (row : Row) where
         q = current-else p (λ e. unlike 17 11 refl cc)
 
         lowest : (n : ℕ) → rows.RowWhen fill row n → 17 ≤ n
-        lowest n (rows.out-of-range x) = absurd (x (wet-range (q .0)))
+        lowest n (rows.out-of-range x) = absurd (x (ranged-as (row .numbers) (sym current-kind) (q .0)))
         lowest n (rows.blank x) = let e = sym is-current ∙ x .0 in impossible cc
         lowest n (rows.upper-below-lower x) = omega arith
         lowest n (rows.not-above x) = omega arith
         lowest n (rows.type-e x) = omega arith
 
     pub current-told-push : {H y : ℕ} (load : Load) → currents.CurrentSays (row .numbers) (current.push H y) → Kept load → PushLoad H (H * y) load → LoadOf fill row (RowLoad.Exerted load)
-    unfolding LoadOf BlankThere UpperBelowLower LengthNotAbove SoilTypeE Kept Forces
-    current-told-push {H} {y} load p k f =
-        (none, record { class = k .0; phase = k .1; train = k .2; forces = subst⁻¹ (λ (s : Source). Forces fill s (row .numbers) load) is-current (record { H = H; y = y; rule = q .1; exerts = f }) })
+    unfolding LoadOf BlankThere UpperBelowLower LengthNotAbove SoilTypeE Forces
+    current-told-push {H} {y} load p k f = (none, exerted is-current load k (record { H = H; y = y; rule = q .1; exerts = f }))
       where
         q : Ranged W (row .numbers) × current.CurrentRule (current.shaft-of (row .numbers)) (current.push H y)
         q = current-else p (λ e. impossible cc)
 
         none : (n : ℕ) → rows.RowWhen fill row n → ⊥
-        none n (rows.out-of-range x) = x (wet-range (q .0))
+        none n (rows.out-of-range x) = x (ranged-as (row .numbers) (sym current-kind) (q .0))
         none n (rows.blank x) = let e = sym is-current ∙ x .0 in impossible cc
         none n (rows.upper-below-lower x) = let e = rule-one (q .1) (x .1) in impossible cc
         none n (rows.not-above x) = let e = sym is-current ∙ x .0 in impossible cc
         none n (rows.type-e x) = let e = sym is-current ∙ x .0 in impossible cc
 
   module _ (is-surcharge : source (row .kind) ≡ Surcharge) where
-    laden-range : Ranged G (row .numbers) → Ranged (row .kind) (row .numbers)
-    laden-range = subst⁻¹ (λ (k : Kind). Ranged k (row .numbers)) (kind-by (row .kind) Surcharge is-surcharge)
-
-    surcharge-range : Ranged (row .kind) (row .numbers) → Ranged G (row .numbers)
-    surcharge-range = subst (λ (k : Kind). Ranged k (row .numbers)) (kind-by (row .kind) Surcharge is-surcharge)
+    pub surcharge-kind : row .kind ≡ G
+    surcharge-kind = kind-by (row .kind) Surcharge is-surcharge
 
     pub surcharge-told-out : surcharges.SurchargeSays (row .numbers) (surcharge.refused 11) → LoadOf fill row (RowLoad.Refused 11)
-    surcharge-told-out p = told-out (λ r. says-out p refl (surcharge-range r))
+    surcharge-told-out p = told-out (λ r. says-out p refl (ranged-as (row .numbers) surcharge-kind r))
 
     pub surcharge-told-above : surcharges.SurchargeSays (row .numbers) (surcharge.refused 19) → LoadOf fill row (RowLoad.Refused 19)
     unfolding LoadOf BlankThere UpperBelowLower LengthNotAbove
@@ -231,7 +216,7 @@ module _ (fill : ℕ → ℕ → Coefficient) (row : Row) where
         q = says-rule p (λ e. unlike 19 11 refl cc)
 
         lowest : (n : ℕ) → rows.RowWhen fill row n → 19 ≤ n
-        lowest n (rows.out-of-range x) = absurd (x (laden-range (q .0)))
+        lowest n (rows.out-of-range x) = absurd (x (ranged-as (row .numbers) (sym surcharge-kind) (q .0)))
         lowest n (rows.blank x) = let e = sym is-surcharge ∙ x .0 in impossible cc
         lowest n (rows.upper-below-lower x) = let e = sym is-surcharge ∙ x .0 in impossible cc
         lowest n (rows.not-above x) = omega arith
@@ -245,22 +230,21 @@ module _ (fill : ℕ → ℕ → Coefficient) (row : Row) where
         q = says-rule p (λ e. unlike 20 11 refl cc)
 
         lowest : (n : ℕ) → rows.RowWhen fill row n → 20 ≤ n
-        lowest n (rows.out-of-range x) = absurd (x (laden-range (q .0)))
+        lowest n (rows.out-of-range x) = absurd (x (ranged-as (row .numbers) (sym surcharge-kind) (q .0)))
         lowest n (rows.blank x) = let e = sym is-surcharge ∙ x .0 in impossible cc
         lowest n (rows.upper-below-lower x) = let e = sym is-surcharge ∙ x .0 in impossible cc
         lowest n (rows.not-above x) = absurd (rule-type-e (q .1) refl .0 (x .1))
         lowest n (rows.type-e x) = omega arith
 
     pub surcharge-told-pushes : {parts : Parts} (load : Load) → surcharges.SurchargeSays (row .numbers) (surcharge.pushes parts) → Kept load → PartsLoad parts load → LoadOf fill row (RowLoad.Exerted load)
-    unfolding LoadOf BlankThere UpperBelowLower LengthNotAbove SoilTypeE Kept Forces
-    surcharge-told-pushes {parts} load p k f =
-        (none, record { class = k .0; phase = k .1; train = k .2; forces = subst⁻¹ (λ (s : Source). Forces fill s (row .numbers) load) is-surcharge (record { parts = parts; rule = q .1; exerts = f }) })
+    unfolding LoadOf BlankThere UpperBelowLower LengthNotAbove SoilTypeE Forces
+    surcharge-told-pushes {parts} load p k f = (none, exerted is-surcharge load k (record { parts = parts; rule = q .1; exerts = f }))
       where
         q : Ranged G (row .numbers) × surcharge.SurchargeRule (surcharge.abutment-of (row .numbers)) (surcharge.pushes parts)
         q = says-rule p (λ e. impossible cc)
 
         none : (n : ℕ) → rows.RowWhen fill row n → ⊥
-        none n (rows.out-of-range x) = x (laden-range (q .0))
+        none n (rows.out-of-range x) = x (ranged-as (row .numbers) (sym surcharge-kind) (q .0))
         none n (rows.blank x) = let e = sym is-surcharge ∙ x .0 in impossible cc
         none n (rows.upper-below-lower x) = let e = sym is-surcharge ∙ x .0 in impossible cc
         none n (rows.not-above x) = rule-pushes (q .1) refl .0 (x .1)
@@ -268,8 +252,8 @@ module _ (fill : ℕ → ℕ → Coefficient) (row : Row) where
 
   module _ {s : Source} (is : source (row .kind) ≡ s) (not-earth : s ≡ Earth → ⊥) (not-current : s ≡ Current → ⊥) (not-surcharge : s ≡ Surcharge → ⊥) (r : Ranged (row .kind) (row .numbers)) where
     pub told-load : (load : Load) → Kept load → Forces fill s (row .numbers) load → LoadOf fill row (RowLoad.Exerted load)
-    unfolding LoadOf BlankThere UpperBelowLower LengthNotAbove SoilTypeE Kept
-    told-load load k f = (none, record { class = k .0; phase = k .1; train = k .2; forces = subst⁻¹ (λ (x : Source). Forces fill x (row .numbers) load) is f })
+    unfolding LoadOf BlankThere UpperBelowLower LengthNotAbove SoilTypeE
+    told-load load k f = (none, exerted is load k f)
       where
         none : (n : ℕ) → rows.RowWhen fill row n → ⊥
         none n (rows.out-of-range x) = x r
@@ -277,45 +261,6 @@ module _ (fill : ℕ → ℕ → Coefficient) (row : Row) where
         none n (rows.upper-below-lower x) = not-current (sym is ∙ x .0)
         none n (rows.not-above x) = not-surcharge (sym is ∙ x .0)
         none n (rows.type-e x) = not-surcharge (sym is ∙ x .0)
-
--- ---- how large a load is
-push-bounded : {H twist : ℕ} {load : Load} → load .train ≤ 16 → H ≤ 300000 → twist ≤ 3000000000 → PushLoad H twist load → BoundedLoad load
-unfolding amount
-push-bounded t p q f =
-    record {
-      v = subst (λ (a : Amount). a .size ≤ 50000) (sym (f .v)) (lit≤ tt);
-      x = subst (λ (a : Amount). a .size ≤ 32000) (sym (f .x)) (lit≤ tt);
-      h = subst (λ (a : Amount). a .size ≤ 300000) (sym (f .h)) p;
-      twist = subst (λ (a : Amount). a .size ≤ 3000000000) (sym (f .turns)) q;
-      train = t;
-    }
-
-own-bounded : {n : Numbers} {load : Load} → load .train ≤ 16 → InColumns (load-columns Empty) n → OwnForces n load → BoundedLoad load
-own-bounded {n} t r f =
-    let h = around-size 50000 (n .n3) (r .n3) in
-    record {
-      v = subst (λ (a : Amount). a .size ≤ 50000) (sym (f .v)) (rw (amount-size (value (n .n1)), value-size (n .n1)) (around-size 50000 (n .n1) (r .n1)));
-      x = subst (λ (a : Amount). a .size ≤ 32000) (sym (f .x)) (rw (amount-size (value (n .n2)), value-size (n .n2)) (le-trans (around-size 30000 (n .n2) (r .n2)) (lit≤ tt)));
-      h = subst (λ (a : Amount). a .size ≤ 300000) (sym (f .h)) (rw (amount-size (value (n .n3)), value-size (n .n3)) (le-trans h (lit≤ tt)));
-      twist = subst (λ (a : Amount). a .size ≤ 3000000000) (sym (f .twist))
-          (rw (amount-size (value (n .n3) *ℤ value (n .n4)), product-size (value (n .n3)) (value (n .n4)), value-size (n .n3), value-size (n .n4)) (mul-le-mul h (r .n4 .to)));
-      train = t;
-    }
-
--- What a row in range exerts is bounded, whatever coefficients up to 40,000 are held.
-pub exerts-bounded : (fill : ℕ → ℕ → Coefficient) → ((soil slope : ℕ) → LowCoefficient (fill soil slope)) → (row : Row) (load : Load) → Ranged (row .kind) (row .numbers) → Exerts fill row load → BoundedLoad load
-unfolding Forces
-exerts-bounded fill small row load r e = go (source (row .kind)) refl (e .forces)
-  where
-    low : load .train ≤ 16
-    low = subst⁻¹ (λ (t : ℕ). t ≤ 16) (e .train) (train-low (row .kind) (row .numbers) r)
-
-    go : (s : Source) → source (row .kind) ≡ s → Forces fill s (row .numbers) load → BoundedLoad load
-    go Absent d f = push-bounded low (lit≤ tt) (lit≤ tt) f
-    go Earth d f = let m = pressed-modest small (in-range (earth-range fill row d r) (f .pressed)) in push-bounded low (m .thrust) (m .moment) (f .exerts)
-    go Current d f = let m = push-mild (current-range fill row d r) (f .rule) in push-bounded low (le-trans (m .force) (lit≤ tt)) (m .moment) (f .exerts)
-    go Surcharge d f = let m = pushes-moderate (surcharge-range fill row d r) (f .rule) in push-bounded low (both-forces m) (both-twists m) (f .exerts)
-    go Own d f = own-bounded low (own-columns (row .kind) (row .numbers) d r) f
 
 -- loads are the same if their parts are
 pub same-load : {a b : Load} → a .class ≡ b .class → a .phase ≡ b .phase → a .train ≡ b .train → a .v ≡ b .v → a .x ≡ b .x → a .h ≡ b .h → a .twist ≡ b .twist → a ≡ b

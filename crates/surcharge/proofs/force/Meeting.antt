@@ -1,6 +1,6 @@
 -- Both cases of 5.8.2 are one, by how far down the load spreads; so at h = L - B they give the same forces and arms, before they are rounded and after.
 use mathlib.Core.Path.{_≡_, sym, _∙_, ap, ap₂, subst}
-use Prim.Native.Nat.{ℕ, _+_, _*_, _-_, _^_, _≤_}
+use Prim.Native.Nat.{ℕ, _*_, _-_, _^_, _≤_}
 use native.Mathlib.Omega.{arith}
 use Rattle.arithmetic.specs.rounding.Least.{RoundedUp}
 use Rattle.arithmetic.proofs.rounding.Laws.{least-one}

@@ -3,14 +3,14 @@
 use mathlib.Core.Path.{_≡_, sym, _∙_, ap, subst, subst⁻¹}
 use mathlib.Core.Logic.{_⊎_, inl, inr, ⊎-elim}
 use Prim.Native.Nat.{ℕ, _+_, _-_, _≤_, _<_}
-use native.Mathlib.Nat.{le-refl, le-of-lt}
+use native.Mathlib.Nat.{le-of-lt}
 use native.Mathlib.Omega.{arith}
 use borrow.Author.Needs.{needs}
 use borrow.Author.Tests.{not-true, not-false}
 use Rattle.arithmetic.proofs.Deciding.{decided, refuted}
 use Rattle.kinds.specs.ranges.Range.{Ranged}
 use Rattle.kinds.specs.declared.Kind.the-variants.{G}
-use Rattle.surcharge.specs.tables.Tables.{table3-width, table3-surcharge, active}
+use Rattle.surcharge.specs.tables.Tables.{active}
 use Rattle.surcharge.specs.force.Force.{Pressures, BothAct}
 use Rattle.surcharge.specs.force.Joint.{joint}
 use Rattle.surcharge.specs.Surcharge.{abutment-of, B, total, SurchargeTold, Pushed, to-bound, past-bound, SurchargeRule, not-above, type-e, pushed}
@@ -62,7 +62,7 @@ width c = c .width-of .ensures
 returns-2 : tie.Need-returns-2
 returns-2 c =
     let known = c .before .before in
-    says (known .before) _ (not-above (subst (λ (w : ℕ). known .before .abutment-of .result .length ≤ w) (width known) (c .if2 .taken)))
+    says (known .before) _ (not-above (omega (arith, width known, c .if2 .taken)))
 
 -- past the first test the length is above the width
 module _ (c : tie.Else2) where
@@ -73,7 +73,7 @@ module _ (c : tie.Else2) where
   row = known .before .abutment-of .result
 
   above : B row < row .length
-  above = subst (λ (w : ℕ). w < row .length) (width known) (omega (arith, c .if2 .left))
+  above = omega (arith, width known, c .if2 .left)
 
 returns-3 : tie.Need-returns-3
 returns-3 c = let else = c .before .before in says (known else .before) _ (type-e (above else) (c .if3 .taken))
@@ -120,8 +120,8 @@ module _ (c : tie.Joined4) where
   either : ((its .depth ≤ its .length - B its) × (spread ≡ its .depth)) ⊎ ((its .length - B its < its .depth) × (spread ≡ its .length - B its))
   either =
       let w = width (known else) in
-      ⊎-elim (λ x. inl (subst (λ (n : ℕ). its .depth ≤ its .length - n) w (x .0 .taken), x .1))
-      (λ x. inr (subst (λ (n : ℕ). its .length - n < its .depth) w (omega (arith, x .0 .left)), subst (λ (n : ℕ). spread ≡ its .length - n) w (x .1))) (c .if4 .came)
+      ⊎-elim (λ x. inl (omega (arith, w, x .0 .taken), x .1))
+      (λ x. inr (omega (arith, w, x .0 .left), subst (λ (n : ℕ). spread ≡ its .length - n) w (x .1))) (c .if4 .came)
 
   down : spread ≤ its .depth
   down = ⊎-elim (λ x. omega (arith, x .1)) (λ x. omega (arith, x .0, x .1)) either
@@ -149,7 +149,7 @@ parts-of-requires c κs =
     let o = ordered (known (else c) .before) in
     let w = width (known (else c)) in (
       (
-        heavy (loaded c),
+        omega (arith, heavy (loaded c)),
         subst⁻¹ (λ (k : ℕ). k ≤ 100) (at c .active-of .ensures) (active-small (its c .soil)),
         subst⁻¹ (λ (n : ℕ). 1800 ≤ n) w (width-wide (its c .standard) (o .standard .0) (o .standard .1)),
         subst⁻¹ (λ (n : ℕ). n ≤ 3000) w (width-small (its c .standard)),

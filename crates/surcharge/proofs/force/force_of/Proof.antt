@@ -1,5 +1,5 @@
 -- `surcharge::force::force_of` meets its contract: no more than 302,500 kg are on a metre, so that the product fits a word.
-use Prim.Native.Nat.{ℕ, _*_, _≤_}
+use Prim.Native.Nat.{_*_, _≤_}
 use native.Mathlib.Nat.{le-refl, lt-of-le-of-lt, mul-le-mul}
 use lib.Dec.{lit<}
 use borrow.Author.Needs.{needs}
@@ -16,7 +16,7 @@ mul-up : tie.Need-mul-up
 mul-up c = record { fits = lt-of-le-of-lt (kilograms c) (lit< tt) }
 
 mul-up-2 : tie.Need-mul-up-2
-mul-up-2 c = record { fits = lt-of-le-of-lt (mul-le-mul (kilograms c) (le-refl 980665)) (lit< tt) }
+mul-up-2 c = record { fits = lt-of-le-of-lt (mul-le-mul (kilograms c) (le-refl _)) (lit< tt) }
 
 up-requires-2 : tie.Need-up-requires-2
 up-requires-2 c κs = search needs

@@ -1,5 +1,5 @@
 -- `surcharge::force::parts_of` meets its contract: the bounds keep each product within a word, and neither force is above 302,500 kg a metre.
-use Prim.Native.Nat.{ℕ, _+_, _*_, _≤_}
+use Prim.Native.Nat.{_+_, _*_, _≤_}
 use native.Mathlib.Nat.{le-refl, le-trans, lt-of-le-of-lt, mul-le-mul}
 use native.Mathlib.Omega.{arith}
 use lib.Dec.{lit<, lit≤}
