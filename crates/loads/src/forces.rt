@@ -13,7 +13,7 @@ use surcharge::SurchargeAnswer;
 ghost use mathlib.Core.Path.{_≡_};
 ghost use mathlib.Core.Bool.{false};
 ghost use Prim.Native.Nat.{_≤_};
-ghost use Rattle.surcharge.specs.force.Moderate.{Moderate};
+ghost use Rattle.surcharge.specs.force.steps.Moderate.{Moderate};
 ghost use Rattle.earth.specs.coefficients.Coefficients.{fill-of};
 ghost use Rattle.arithmetic.specs.signed.Whole.{signed, amount};
 ghost use Rattle.kinds.specs.classes.Classes.{class-of};

@@ -10,8 +10,8 @@ use Rattle.kinds.specs.declared.Kind.the-variants.{G}
 use Rattle.kinds.specs.declared.Numbers.{Numbers}
 use Rattle.surcharge.specs.tables.Tables.{active}
 use Rattle.surcharge.specs.force.Force.{Quotient, Pressures, Force, BothAct}
-use Rattle.surcharge.specs.force.Joint.{joint}
-use Rattle.surcharge.specs.force.Moderate.{Moderate}
+use Rattle.surcharge.specs.force.steps.Joint.{joint}
+use Rattle.surcharge.specs.force.steps.Moderate.{Moderate}
 use Rattle.surcharge.specs.Surcharge.{abutment-of, B, total, Pushed, to-bound, past-bound, pushes, SurchargeRule, pushed}
 use Rattle.surcharge.specs.SurchargeRow.{SurchargeSays, in-range}
 use Rattle.surcharge.specs.declared.Abutment.{Abutment}

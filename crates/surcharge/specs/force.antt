@@ -1,4 +1,3 @@
 pub mod Force
 pub mod Meeting
-pub mod Joint
-pub mod Moderate
+pub mod steps

@@ -6,7 +6,7 @@ use crate::Part;
 use crate::Parts;
 ghost use Prim.Native.Nat.{_*_, _≤_, _<_};
 ghost use Rattle.surcharge.specs.force.Force.{quotient, Force, BothAct};
-ghost use Rattle.surcharge.specs.force.Joint.{joint};
+ghost use Rattle.surcharge.specs.force.steps.Joint.{joint};
 
 // A force that is so many kg, the quotient of two numbers, on each metre of the length, in kN.
 fn force_of(over: u64, under: u64, length: u64) -> u64

@@ -47,7 +47,7 @@ pub record CurrentForces (numbers : Numbers) (load : Load) : Type 0 where
   pub rule : CurrentRule (shaft-of numbers) (current.push H y)
   pub exerts : PushLoad H (H * y) load
 
--- two pushes toward +x as one load: H is that of both, and each turns at its own arm
+-- two pushes toward +x as one load: H is that of both, and each has a 2Hy of its own, at its own arm
 abbrev pub PartsLoad : Parts → Load → Type 0
 PartsLoad parts load = PushLoad (parts .first .force + parts .second .force) (parts .first .force * parts .first .arm + parts .second .force * parts .second .arm) load
 

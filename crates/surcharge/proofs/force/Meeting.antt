@@ -6,7 +6,7 @@ use Rattle.arithmetic.specs.rounding.Least.{RoundedUp}
 use Rattle.arithmetic.proofs.rounding.Laws.{least-one}
 use Rattle.surcharge.specs.force.Force.{Quotient, quotient, Pressure, Pressures, within, beyond, Force, Acts, BothAct}
 use Rattle.surcharge.specs.force.Meeting.{SameParts}
-use Rattle.surcharge.specs.force.Joint.{joint}
+use Rattle.surcharge.specs.force.steps.Joint.{joint}
 use Rattle.surcharge.specs.declared.Part.{Part}
 use Rattle.surcharge.specs.declared.Parts.{Parts}
 

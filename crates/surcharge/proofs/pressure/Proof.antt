@@ -12,7 +12,7 @@ use Rattle.kinds.specs.ranges.Range.{Ranged}
 use Rattle.kinds.specs.declared.Kind.the-variants.{G}
 use Rattle.surcharge.specs.tables.Tables.{active}
 use Rattle.surcharge.specs.force.Force.{Pressures, BothAct}
-use Rattle.surcharge.specs.force.Joint.{joint}
+use Rattle.surcharge.specs.force.steps.Joint.{joint}
 use Rattle.surcharge.specs.Surcharge.{abutment-of, B, total, SurchargeTold, Pushed, to-bound, past-bound, SurchargeRule, not-above, type-e, pushed}
 use Rattle.surcharge.specs.SurchargeRow.{SurchargeSays, out-of-range, in-range}
 use Rattle.surcharge.specs.declared.Abutment.{Abutment}

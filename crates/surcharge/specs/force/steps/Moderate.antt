@@ -1,4 +1,4 @@
--- How large the two parts may be for what is worked out of them to fit; those of every G row in range are within it.
+-- What `surcharge_load` of `loads` asks: how large the two parts may be for what it works out of them to fit. Those of every G row in range are within it.
 use Prim.Native.Nat.{_≤_}
 use Rattle.surcharge.specs.declared.Parts.{Parts}
 

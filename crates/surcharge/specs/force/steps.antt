@@ -1,0 +1,2 @@
+pub mod Joint
+pub mod Moderate
