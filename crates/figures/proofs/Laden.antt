@@ -5,7 +5,7 @@ use lib.Dec.{T, leb, ltb, leb→le, ltb→lt}
 use Rattle.arithmetic.proofs.rounding.Tables.{both, both-first, both-second}
 use Rattle.arithmetic.proofs.rounding.Compute.{is-up, up-test}
 use Rattle.surcharge.specs.tables.Tables.{active}
-use Rattle.surcharge.specs.force.Force.{Pressure, Pressures, within, beyond, Acts, BothAct}
+use Rattle.surcharge.specs.force.Force.{Pressure, Pressures, within, beyond, PartIs, PartsAre}
 use Rattle.surcharge.specs.Surcharge.{B, total, TypeE, to-bound, past-bound, SurchargeRule, pushes, pushed}
 use Rattle.surcharge.specs.declared.Abutment.{Abutment}
 use Rattle.surcharge.specs.declared.Part.{Part}
@@ -14,7 +14,7 @@ use Rattle.surcharge.specs.declared.Parts.{Parts}
 abbrev acts : ℕ → Pressure → ℕ → Part → Bool
 acts L q p part = both (is-up (q .force .over) (q .force .under) p) (both (is-up (p * L * 980665) (10 ^ 3 * 10 ^ 5 * 10 ^ 3) (part .force)) (is-up (q .arm .over) (q .arm .under) (part .arm)))
 
-acts-test : (L : ℕ) (q : Pressure) (p : ℕ) (part : Part) → T (acts L q p part) → Acts L q part
+acts-test : (L : ℕ) (q : Pressure) (p : ℕ) (part : Part) → T (acts L q p part) → PartIs L q part
 acts-test L q p part t =
     let kilograms = is-up (q .force .over) (q .force .under) p in
     let newtons = is-up (p * L * 980665) (10 ^ 3 * 10 ^ 5 * 10 ^ 3) (part .force) in
@@ -32,7 +32,7 @@ module _ (row : Abutment) (p₁ p₂ : ℕ) (parts : Parts) where
   above : (q : Pressures) → T (tests q) → B row < row .length
   above q t = ltb→lt (B row) (row .length) (both-first (ltb (B row) (row .length)) (both (acts (row .length) (q .p1) p₁ (parts .first)) (acts (row .length) (q .p2) p₂ (parts .second))) t)
 
-  both-act : (q : Pressures) → T (tests q) → BothAct (row .length) q parts
+  both-act : (q : Pressures) → T (tests q) → PartsAre (row .length) q parts
   both-act q t =
       let first = acts (row .length) (q .p1) p₁ (parts .first) in
       let second = acts (row .length) (q .p2) p₂ (parts .second) in

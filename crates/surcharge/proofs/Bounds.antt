@@ -9,10 +9,10 @@ use Rattle.kinds.specs.ranges.Range.{Ranged}
 use Rattle.kinds.specs.declared.Kind.the-variants.{G}
 use Rattle.kinds.specs.declared.Numbers.{Numbers}
 use Rattle.surcharge.specs.tables.Tables.{active}
-use Rattle.surcharge.specs.force.Force.{Quotient, Pressures, Force, BothAct}
+use Rattle.surcharge.specs.force.Force.{Quotient, Pressures, Force, PartsAre}
 use Rattle.surcharge.specs.force.steps.Joint.{joint}
 use Rattle.surcharge.specs.force.steps.Moderate.{Moderate}
-use Rattle.surcharge.specs.Surcharge.{abutment-of, B, total, Pushed, to-bound, past-bound, pushes, SurchargeRule, pushed}
+use Rattle.surcharge.specs.Surcharge.{abutment-of, B, total, PartsOf, to-bound, past-bound, pushes, SurchargeRule, pushed}
 use Rattle.surcharge.specs.SurchargeRow.{SurchargeSays, in-range}
 use Rattle.surcharge.specs.declared.Abutment.{Abutment}
 use Rattle.surcharge.specs.declared.Parts.{Parts}
@@ -31,7 +31,7 @@ force-small : {L : ℕ} {q : Quotient} {H : ℕ} (most bound : ℕ) → L ≤ 60
 force-small most bound long small fits f = f .over-length .least bound (le-trans (mul-le-mul (mul-le-mul (f .kilograms .least most small) long) (le-refl 980665)) fits)
 
 -- by how far down the load spreads
-joint-moderate : (T k B h s : ℕ) {L : ℕ} {parts : Parts} → T ≤ 36300 → k ≤ 100 → 1800 ≤ B → h ≤ 15000 → s ≤ h → L ≤ 60000 → BothAct L (joint T k B h s) parts → Moderate parts
+joint-moderate : (T k B h s : ℕ) {L : ℕ} {parts : Parts} → T ≤ 36300 → k ≤ 100 → 1800 ≤ B → h ≤ 15000 → s ≤ h → L ≤ 60000 → PartsAre L (joint T k B h s) parts → Moderate parts
 joint-moderate T k B h s heavy pressing wide deep down long acts =
     record {
       first = force-small 302500 178000 long (first-small T k B h s heavy pressing wide deep) (lit≤ tt) (acts .p1 .force);
@@ -47,13 +47,13 @@ module _ (row : Abutment) (from : 1 ≤ row .standard) (to : row .standard ≤ 7
   wide : 1800 ≤ B row
   wide = width-wide (row .standard) from to
 
-  pushed-moderate : {parts : Parts} → B row < row .length → Pushed row parts → Moderate parts
+  pushed-moderate : {parts : Parts} → B row < row .length → PartsOf row parts → Moderate parts
   pushed-moderate {parts} above (to-bound near acts) =
       joint-moderate (total row) (active (row .soil)) (B row) (row .depth) (row .depth) heavy (active-small (row .soil)) wide deep (le-refl _) long
-      (subst (λ (q : Pressures). BothAct (row .length) q parts) (within-joint (total row) (active (row .soil)) (B row) (row .depth)) acts)
+      (subst (λ (q : Pressures). PartsAre (row .length) q parts) (within-joint (total row) (active (row .soil)) (B row) (row .depth)) acts)
   pushed-moderate {parts} above (past-bound far acts) =
       joint-moderate (total row) (active (row .soil)) (B row) (row .depth) (row .length - B row) heavy (active-small (row .soil)) wide deep (le-of-lt far) long
-      (subst (λ (q : Pressures). BothAct (row .length) q parts) (beyond-joint (total row) (active (row .soil)) (B row) (row .depth) (row .length) (le-of-lt above)) acts)
+      (subst (λ (q : Pressures). PartsAre (row .length) q parts) (beyond-joint (total row) (active (row .soil)) (B row) (row .depth) (row .length) (le-of-lt above)) acts)
 
   rule-moderate : {parts : Parts} → SurchargeRule row (pushes parts) → Moderate parts
   rule-moderate (pushed above e p) = pushed-moderate above p

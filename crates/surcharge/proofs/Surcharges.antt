@@ -7,7 +7,7 @@ use Rattle.arithmetic.proofs.Cases.{impossible, unlike}
 use Rattle.kinds.specs.ranges.Range.{Ranged}
 use Rattle.kinds.specs.declared.Kind.the-variants.{G}
 use Rattle.kinds.specs.declared.Numbers.{Numbers}
-use Rattle.surcharge.specs.Surcharge.{abutment-of, NotAbove, TypeE, SurchargeTold, refused, pushes, Pushed, to-bound, past-bound, SurchargeRule, not-above, type-e, pushed}
+use Rattle.surcharge.specs.Surcharge.{abutment-of, NotAbove, TypeE, SurchargeTold, refused, pushes, PartsOf, to-bound, past-bound, SurchargeRule, not-above, type-e, pushed}
 use Rattle.surcharge.specs.SurchargeRow.{SurchargeSays, out-of-range, in-range, surcharge-told}
 use Rattle.surcharge.specs.declared.Abutment.{Abutment}
 use Rattle.surcharge.specs.declared.Parts.{Parts}
@@ -15,7 +15,7 @@ use Rattle.surcharge.specs.declared.SurchargeAnswer.{SurchargeAnswer}
 use Rattle.surcharge.specs.declared.SurchargeAnswer.the-variants.{OutOfRange, LengthNotAbove, SoilTypeE, Pushes}
 use Rattle.surcharge.proofs.force.Meeting.{parts-one}
 
-pushed-one : {row : Abutment} {a b : Parts} → Pushed row a → Pushed row b → a ≡ b
+pushed-one : {row : Abutment} {a b : Parts} → PartsOf row a → PartsOf row b → a ≡ b
 pushed-one (to-bound h x) (to-bound k y) = parts-one x y
 pushed-one (to-bound h x) (past-bound k y) = absurd (omega arith)
 pushed-one (past-bound h x) (to-bound k y) = absurd (omega arith)

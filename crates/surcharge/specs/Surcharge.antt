@@ -4,7 +4,7 @@ use mathlib.Core.Path.{_≡_}
 use Prim.Native.Nat.{ℕ, _+_, _-_, _<_, _≤_}
 use Rattle.kinds.specs.declared.Numbers.{Numbers}
 use Rattle.surcharge.specs.tables.Tables.{table3-surcharge, table3-width, active}
-use Rattle.surcharge.specs.force.Force.{within, beyond, BothAct}
+use Rattle.surcharge.specs.force.Force.{within, beyond, PartsAre}
 use Rattle.surcharge.specs.declared.Abutment.{Abutment}
 use Rattle.surcharge.specs.declared.Parts.{Parts}
 
@@ -34,12 +34,12 @@ abbrev pub TypeE : Abutment → Type 0
 TypeE row = row .soil ≡ 5
 
 -- "Depth to L-B and beyond are two cases"
-pub data Pushed (row : Abutment) : Parts → Type 0 where
-  to-bound : {parts : Parts} → row .depth ≤ row .length - B row → BothAct (row .length) (within (total row) (active (row .soil)) (B row) (row .depth)) parts → Pushed row parts
-  past-bound : {parts : Parts} → row .length - B row < row .depth → BothAct (row .length) (beyond (total row) (active (row .soil)) (B row) (row .depth) (row .length)) parts → Pushed row parts
+pub data PartsOf (row : Abutment) : Parts → Type 0 where
+  to-bound : {parts : Parts} → row .depth ≤ row .length - B row → PartsAre (row .length) (within (total row) (active (row .soil)) (B row) (row .depth)) parts → PartsOf row parts
+  past-bound : {parts : Parts} → row .length - B row < row .depth → PartsAre (row .length) (beyond (total row) (active (row .soil)) (B row) (row .depth) (row .length)) parts → PartsOf row parts
 
 -- 19, else 20, else the two forces
 pub data SurchargeRule (row : Abutment) : SurchargeTold → Type 0 where
   not-above : NotAbove row → SurchargeRule row (refused 19)
   type-e : B row < row .length → TypeE row → SurchargeRule row (refused 20)
-  pushed : {parts : Parts} → B row < row .length → (TypeE row → ⊥) → Pushed row parts → SurchargeRule row (pushes parts)
+  pushed : {parts : Parts} → B row < row .length → (TypeE row → ⊥) → PartsOf row parts → SurchargeRule row (pushes parts)

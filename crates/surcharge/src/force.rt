@@ -5,7 +5,7 @@
 use crate::Part;
 use crate::Parts;
 ghost use Prim.Native.Nat.{_*_, _≤_, _<_};
-ghost use Rattle.surcharge.specs.force.Force.{quotient, Force, BothAct};
+ghost use Rattle.surcharge.specs.force.Force.{quotient, Force, PartsAre};
 ghost use Rattle.surcharge.specs.force.steps.Joint.{joint};
 
 // A force that is so many kg, the quotient of two numbers, on each metre of the length, in kN.
@@ -28,7 +28,7 @@ pub(crate) fn parts_of(
 ) -> Parts
     requires { ⌜ (total ≤ 36300) × (k ≤ 100) × (1800 ≤ width) × (width ≤ 3000) ⌝ }
     requires { ⌜ (depth ≤ 15000) × (spread ≤ depth) × (length ≤ 60000) ⌝ }
-    ensures { λ r. ⌜ BothAct length (joint total k width depth spread) r ⌝ }
+    ensures { λ r. ⌜ PartsAre length (joint total k width depth spread) r ⌝ }
 {
     let reach = width + spread;
     let first = Part {

@@ -11,9 +11,9 @@ use Rattle.arithmetic.proofs.Deciding.{decided, refuted}
 use Rattle.kinds.specs.ranges.Range.{Ranged}
 use Rattle.kinds.specs.declared.Kind.the-variants.{G}
 use Rattle.surcharge.specs.tables.Tables.{active}
-use Rattle.surcharge.specs.force.Force.{Pressures, BothAct}
+use Rattle.surcharge.specs.force.Force.{Pressures, PartsAre}
 use Rattle.surcharge.specs.force.steps.Joint.{joint}
-use Rattle.surcharge.specs.Surcharge.{abutment-of, B, total, SurchargeTold, Pushed, to-bound, past-bound, SurchargeRule, not-above, type-e, pushed}
+use Rattle.surcharge.specs.Surcharge.{abutment-of, B, total, SurchargeTold, PartsOf, to-bound, past-bound, SurchargeRule, not-above, type-e, pushed}
 use Rattle.surcharge.specs.SurchargeRow.{SurchargeSays, out-of-range, in-range}
 use Rattle.surcharge.specs.declared.Abutment.{Abutment}
 use Rattle.surcharge.specs.declared.Parts.{Parts}
@@ -126,7 +126,7 @@ module _ (c : tie.Joined4) where
   down : spread ≤ its .depth
   down = ⊎-elim (λ x. omega (arith, x .1)) (λ x. omega (arith, x .0, x .1)) either
 
-  pushed-by : {parts : Parts} → BothAct (its .length) (joint (total its) (active (its .soil)) (B its) (its .depth) spread) parts → Pushed its parts
+  pushed-by : {parts : Parts} → PartsAre (its .length) (joint (total its) (active (its .soil)) (B its) (its .depth) spread) parts → PartsOf its parts
   pushed-by {parts} acts = ⊎-elim near far either
     where
       T : ℕ
@@ -135,13 +135,13 @@ module _ (c : tie.Joined4) where
       k : ℕ
       k = active (its .soil)
 
-      near : (its .depth ≤ its .length - B its) × (spread ≡ its .depth) → Pushed its parts
-      near x = to-bound (x .0) (subst⁻¹ (λ (q : Pressures). BothAct (its .length) q parts) (within-joint T k (B its) (its .depth) ∙ ap (joint T k (B its) (its .depth)) (sym (x .1))) acts)
+      near : (its .depth ≤ its .length - B its) × (spread ≡ its .depth) → PartsOf its parts
+      near x = to-bound (x .0) (subst⁻¹ (λ (q : Pressures). PartsAre (its .length) q parts) (within-joint T k (B its) (its .depth) ∙ ap (joint T k (B its) (its .depth)) (sym (x .1))) acts)
 
-      far : (its .length - B its < its .depth) × (spread ≡ its .length - B its) → Pushed its parts
+      far : (its .length - B its < its .depth) × (spread ≡ its .length - B its) → PartsOf its parts
       far x =
           past-bound (x .0)
-          (subst⁻¹ (λ (q : Pressures). BothAct (its .length) q parts)
+          (subst⁻¹ (λ (q : Pressures). PartsAre (its .length) q parts)
           (beyond-joint T k (B its) (its .depth) (its .length) (le-of-lt (above else)) ∙ ap (joint T k (B its) (its .depth)) (sym (x .1))) acts)
 
 parts-of-requires : tie.Need-parts-of-requires
@@ -165,7 +165,7 @@ returns-4 c =
     let same : joint (loaded spreads .surcharge-of .result + a .dead) (at spreads .active-of .result) (known (else spreads) .width-of .result) (a .depth) (spread spreads)
     ≡ joint (total a) (active (a .soil)) (B a) (a .depth) (spread spreads) =
     λ i. joint (pressed i) (at spreads .active-of .ensures i) (width (known (else spreads)) i) (a .depth) (spread spreads) in
-    let acts = subst (λ (q : Pressures). BothAct (a .length) q (c .parts-of .result)) same (c .parts-of .ensures) in
+    let acts = subst (λ (q : Pressures). PartsAre (a .length) q (c .parts-of .result)) same (c .parts-of .ensures) in
     says (known (else spreads) .before) _ (pushed (above (else spreads)) (loaded spreads .before .if3 .left) (pushed-by spreads acts))
 
 pub pressure-spec : {M : Type 1} → statement M

@@ -51,11 +51,11 @@ pub record Force (L : ℕ) (q : Quotient) (H : ℕ) : Type 0 where
   pub over-length : RoundedUp (p * L * 980665) (10 ^ 3 * 10 ^ 5 * 10 ^ 3) H
 
 -- "and its arm rounded up."
-pub record Acts (L : ℕ) (q : Pressure) (part : Part) : Type 0 where
+pub record PartIs (L : ℕ) (q : Pressure) (part : Part) : Type 0 where
   pub force : Force L (q .force) (part .force)
   pub arm : Rounded (q .arm) (part .arm)
 
 -- both forces over the length L
-pub record BothAct (L : ℕ) (q : Pressures) (parts : Parts) : Type 0 where
-  pub p1 : Acts L (q .p1) (parts .first)
-  pub p2 : Acts L (q .p2) (parts .second)
+pub record PartsAre (L : ℕ) (q : Pressures) (parts : Parts) : Type 0 where
+  pub p1 : PartIs L (q .p1) (parts .first)
+  pub p2 : PartIs L (q .p2) (parts .second)
