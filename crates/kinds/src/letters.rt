@@ -1,8 +1,9 @@
-// How the kinds of the table are written (document 01, the job book; 02, P1 and P5), and the kind that a field is (refusal 3).
+// How the kinds of the table are written (document 01, the job book; 02, P1 and P5), the kind that letters are, and the kind that a field is
+// (refusal 3).
 //
 // A field is a kind exactly if the stretch between its quotes is, since no letter is a quote.
 use crate::Kind;
-ghost use Rattle.kinds.specs.letters.Form.{KindAt};
+ghost use Rattle.kinds.specs.letters.Form.{KindIs, KindAt};
 
 // The kind that letters are, or that they are none.
 pub enum KindRead {
@@ -10,11 +11,10 @@ pub enum KindRead {
     Unknown,
 }
 
-// The kind that a field is.
-pub fn kind_at(raw: &[u8]) -> KindRead
-    ensures { λ r. ⌜ KindAt (now (raw .entry)) r ⌝ }
+// The kind that a content is.
+pub fn kind_of(content: &[u8]) -> KindRead
+    ensures { λ r. ⌜ KindIs (now (content .entry)) r ⌝ }
 {
-    let content = fields::content::bare(raw);
     // the letters as one number, behind a 1 that tells how many they are; no kind has a third
     let mut code: u32 = 1;
     let mut i: usize = 0;
@@ -43,4 +43,11 @@ pub fn kind_at(raw: &[u8]) -> KindRead
         _ => return KindRead::Unknown,
     };
     KindRead::Known(kind)
+}
+
+// The kind that a field is.
+pub fn kind_at(raw: &[u8]) -> KindRead
+    ensures { λ r. ⌜ KindAt (now (raw .entry)) r ⌝ }
+{
+    kind_of(fields::content::bare(raw))
 }

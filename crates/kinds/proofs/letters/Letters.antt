@@ -18,7 +18,7 @@ use Rattle.arithmetic.proofs.Deciding.{decided, refuted, decides-both, decides-
 use Rattle.fields.specs.content.Content.{Bare}
 use Rattle.fields.proofs.content.Contents.{bare-field, field-bare}
 use Rattle.kinds.specs.Table.{letters}
-use Rattle.kinds.specs.letters.Form.{KindAt}
+use Rattle.kinds.specs.letters.Form.{KindIs, KindAt}
 use Rattle.kinds.specs.declared.Kind.{Kind}
 use Rattle.kinds.specs.declared.Kind.the-variants.{B, S, C, E, W, G, DL, EP, LL, LF, CF, WC, BU, TM, EX, WL, SF}
 use Rattle.kinds.specs.declared.letters.KindRead.{KindRead}
@@ -79,7 +79,7 @@ one-plain p = text p none
 two-plain : {a b : ℕ} → Textdata a → Textdata b → Plain (a ∷ b ∷ [])
 two-plain p q = text p (one-plain q)
 
-kind-plain : (k : Kind) → Plain (letters k)
+pub kind-plain : (k : Kind) → Plain (letters k)
 kind-plain B = one-plain (high (omega arith) (omega arith))
 kind-plain S = one-plain (high (omega arith) (omega arith))
 kind-plain C = one-plain (high (omega arith) (omega arith))
@@ -97,11 +97,6 @@ kind-plain TM = two-plain (high (omega arith) (omega arith)) (high (omega arith)
 kind-plain EX = two-plain (high (omega arith) (omega arith)) (high (omega arith) (omega arith))
 kind-plain WL = two-plain (high (omega arith) (omega arith)) (high (omega arith) (omega arith))
 kind-plain SF = two-plain (high (omega arith) (omega arith)) (high (omega arith) (omega arith))
-
--- the answer for a content
-abbrev pub KindIs : List ℕ → KindRead → Type 0
-KindIs c (Known k) = c ≡ letters k
-KindIs c Unknown = (k : Kind) → c ≡ letters k → ⊥
 
 pub kind-field : {raw r : List ℕ} → Bare raw r → (a : KindRead) → KindIs r a → KindAt raw a
 kind-field {raw} {r} h (Known k) e = subst (λ (c : List ℕ). Field raw c) e (bare-field (subst Plain (sym e) (kind-plain k)) h)

@@ -1,0 +1,5 @@
+pub mod Signs
+pub mod Wholes
+pub mod Answers
+pub mod Products
+pub mod Patterns

@@ -1,0 +1,15 @@
+-- What `nearest` answers.
+use Prim.Native.Nat.{_^_, _≤_, _<_}
+use mathlib.Core.Path.{_≡_}
+use lib.IntN.{ℤ, natAbs}
+use lib.Ieee.{Float}
+use Rattle.arithmetic.specs.signed.Whole.{amount}
+use Rattle.doubles.specs.Doubles.{Nearest}
+use Rattle.doubles.specs.declared.Whole.{Whole}
+use Rattle.doubles.specs.declared.Whole.the-variants.{Is, Beyond}
+
+-- the nearest whole number, where it has at most 32 bits; else that every nearest whole number has more, and so lies beyond every range of a
+-- row. Of what is not finite there is none
+abbrev pub NearestIs : Float → Whole → Type 0
+NearestIs x (Is a) = (z : ℤ) × Nearest x z × (a ≡ amount z) × (natAbs z < 2 ^ 32)
+NearestIs x Beyond = (z : ℤ) → Nearest x z → 2 ^ 32 ≤ natAbs z

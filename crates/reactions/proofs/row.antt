@@ -1,0 +1,2 @@
+-- Laws of the written row.
+pub mod Written
