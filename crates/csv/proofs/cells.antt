@@ -2,4 +2,5 @@
 pub mod Fields
 pub mod Standing
 pub mod Answers
+pub mod Left
 mod Noted

@@ -7,64 +7,6 @@ use fills::lookup::Place;
 use libc::STDERR_FILENO;
 use libc::STDIN_FILENO;
 use libc::STDOUT_FILENO;
-ghost use Prim.Native.Nat.{_<_};
-ghost use Rattle.io.specs.Counts.{Counts};
-
-// What a hexadecimal digit is worth; anything else is 0.
-fn worth(digit: u8) -> u8
-    ensures { λ r. ⌜ r < 16 ⌝ }
-{
-    if digit < b'0' {
-        return 0;
-    }
-    if digit <= b'9' {
-        return digit - b'0';
-    }
-    if digit < b'a' {
-        return 0;
-    }
-    if digit <= b'f' {
-        return digit - b'a' + 10;
-    }
-    0
-}
-
-// Bytes from their hexadecimal digits, two by two, as many as fit.
-fn decode(hex: &[u8], bytes: &mut [u8]) -> usize
-    ensures { λ r. ⌜ Counts r (now (bytes .exit)) ⌝ }
-{
-    let n = hex.len() / 2;
-    let mut i: usize = 0;
-    while i < bytes.len() {
-        if n <= i {
-            return i;
-        }
-        bytes[i] = worth(hex[2 * i]) * 16 + worth(hex[2 * i + 1]);
-        i += 1;
-    }
-    i
-}
-
-// The last hexadecimal digit of a number.
-fn digit_of(number: u8) -> u8 {
-    let worth = number % 16;
-    if worth < 10 {
-        return b'0' + worth;
-    }
-    b'a' + (worth - 10)
-}
-
-// Bytes in hexadecimal digits.
-fn put_hex(bytes: &[u8]) {
-    let n = bytes.len();
-    let mut i: usize = 0;
-    while i < n {
-        let byte = bytes[i];
-        let digits = [digit_of(byte / 16), digit_of(byte)];
-        io::write_all(STDOUT_FILENO, &digits);
-        i += 1;
-    }
-}
 
 // The number that a field is; or one that is no soil and no slope.
 fn number_of(raw: &[u8]) -> u32 {
@@ -93,7 +35,7 @@ fn look_up<'a>(own: &'a [u8], common: &'a [u8], member: &[u8], soil: u32, slope:
         Place::Common { from, to: _ } => put_place(b"common", from),
         Place::Nowhere => put_place(b"none", 0),
     }
-    put_hex(fills::lookup::row_of(own, common, member, soil, slope));
+    hex::put_hex(fills::lookup::row_of(own, common, member, soil, slope));
     io::write_all(STDOUT_FILENO, b"\r\n");
 }
 
@@ -101,8 +43,8 @@ fn look_up<'a>(own: &'a [u8], common: &'a [u8], member: &[u8], soil: u32, slope:
 fn look_up_row(s: &[u8], cells: Cells) {
     let mut own = [0u8; 65537];
     let mut common = [0u8; 65537];
-    let owns = decode(csv::cells::cell(s, cells, 0), &mut own);
-    let commons = decode(csv::cells::cell(s, cells, 1), &mut common);
+    let owns = hex::decode(csv::cells::cell(s, cells, 0), &mut own);
+    let commons = hex::decode(csv::cells::cell(s, cells, 1), &mut common);
     let soil = number_of(csv::cells::cell(s, cells, 3));
     let slope = number_of(csv::cells::cell(s, cells, 4));
     let member = csv::cells::cell(s, cells, 2);

@@ -2,14 +2,13 @@
 use mathlib.Core.Bool.{Bool, _&&_}
 use lib.Ieee.{binary64, mul}
 use Rattle.arithmetic.specs.decides.Decides.{Decides}
-use Rattle.arithmetic.proofs.Deciding.{decides-same}
+use Rattle.arithmetic.proofs.Deciding.{decides-same, decides-both}
 use Rattle.doubles.specs.Doubles.{Finite}
 use Rattle.doubles.proofs.Products.{mul-finite}
 use Rattle.reactions.specs.declared.xdr.FrameLoad.{FrameLoad}
 use Rattle.reactions.specs.declared.xdr.FrameLoad.the-variants.{Force, Line, Pressure}
 use Rattle.reactions.specs.declared.xdr.Reaction.{Reaction}
 use Rattle.reactions.specs.Force.{kilonewtons, FiniteLoad, AllFinite}
-use Rattle.reactions.proofs.Deciding.{decides-four}
 
 finite-load : (load : FrameLoad) → Finite (kilonewtons load) → FiniteLoad load
 finite-load (Force f) h = h
@@ -31,4 +30,6 @@ decides-finite r v x h y dv dx dh dy =
     decides-same (((v && x) && h) && y)
     (λ t. record { vertical = finite-load (r .vertical) (t .0 .0 .0); x = t .0 .0 .1; horizontal = finite-load (r .horizontal) (t .0 .1); y = t .1 })
     (λ f. (((load-finite (r .vertical) (f .vertical), f .x), load-finite (r .horizontal) (f .horizontal)), f .y))
-    (decides-four (Finite (kilonewtons (r .vertical))) (Finite (r .x)) (Finite (kilonewtons (r .horizontal))) (Finite (r .y)) v x h y dv dx dh dy)
+    (decides-both ((Finite (kilonewtons (r .vertical)) × Finite (r .x)) × Finite (kilonewtons (r .horizontal))) (Finite (r .y)) ((v && x) && h) y
+    (decides-both (Finite (kilonewtons (r .vertical)) × Finite (r .x)) (Finite (kilonewtons (r .horizontal))) (v && x) h
+    (decides-both (Finite (kilonewtons (r .vertical))) (Finite (r .x)) v x dv dx) dh) dy)

@@ -1,6 +1,6 @@
 -- Laws of the rows that records give.
-pub mod Deciding
 pub mod Finite
 pub mod Columns
 pub mod Exact
 pub mod Answers
+pub mod Length

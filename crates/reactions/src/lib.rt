@@ -63,12 +63,15 @@ fn is_taken(kind: Kind) -> bool
 fn asked_kind(member: &[u8], job: &[u8], kind: &[u8], phase: u32) -> KindRead
     ensures { λ r. ⌜ AskedIs (now (member .entry)) (now (job .entry)) (now (kind .entry)) phase r ⌝ }
 {
+    if 2 < phase {
+        return KindRead::Unknown;
+    }
     let KindRead::Known(of) = kinds::letters::kind_of(kind) else {
         return KindRead::Unknown;
     };
     let member_read = fields::names::name_of(member);
     let job_read = fields::names::name_of(job);
-    if is_taken(of) & member_read.good & job_read.good & (phase <= 2) {
+    if is_taken(of) & member_read.good & job_read.good {
         return KindRead::Known(of);
     }
     KindRead::Unknown

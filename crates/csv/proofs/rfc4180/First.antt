@@ -118,6 +118,11 @@ cell r c = record { raw = r; content = c }
 pub empty-readable : Readable []
 empty-readable = record { rows = _; reading = last (only {f = cell [] []} (plain none)) }
 
+-- what is left behind a row
+pub rest-readable : {t : List ℕ} {rs : List (List Cell)} → Rest t rs → Readable t
+rest-readable nothing = empty-readable
+rest-readable (more n q) = record { rows = _; reading = q }
+
 -- a row, a CRLF and a text
 pub join : {s : List ℕ} {r : List Cell} (t : List ℕ) → Record s r → Readable t → Readable (s ++ CR ∷ LF ∷ t)
 join [] p q = record { rows = _; reading = closed p }
@@ -134,10 +139,6 @@ module _ {r c : List ℕ} (h : Field r c) where
 
   pub comma-readable : (t : List ℕ) → Readable (r ++ COMMA ∷ t) ↔ Readable t
   comma-readable t = (λ q. record { rows = _; reading = comma-rows {f = cell r c} h (q .reading) .behind }, back-comma t)
-
-  rest-readable : {t : List ℕ} {rs : List (List Cell)} → Rest t rs → Readable t
-  rest-readable nothing = empty-readable
-  rest-readable (more n q) = record { rows = _; reading = q }
 
   pub row-readable : (t : List ℕ) → Readable (r ++ CR ∷ LF ∷ t) ↔ Readable t
   row-readable t = (λ q. rest-readable (row-rows {f = cell r c} h (q .reading) .behind), join t (only {f = cell r c} h))

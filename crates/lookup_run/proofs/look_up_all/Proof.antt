@@ -1,40 +1,13 @@
 -- The loop keeps that what is left of the list is RFC 4180: its first row is looked up, and behind that row stand the others, or nothing.
-use Prim.Native.Nat.{ℕ, _-_, _≤_, _<_}
-use native.Mathlib.Decide.{decLt}
+use Prim.Native.Nat.{_-_}
 use native.Mathlib.Omega.{arith}
-use mathlib.Core.Path.{subst}
-use mathlib.Core.List.{List, _∷_}
-use lib.ListN.{length, drop}
+use lib.ListN.{length}
 use borrow.Author.Needs.{needs}
 use borrow.Author.Tests.{not-false}
-use Rattle.arithmetic.proofs.Cases.{by-cases}
 use Rattle.arithmetic.proofs.Deciding.{decided}
-use Rattle.csv.specs.rfc4180.Rfc4180.{Cell, File, Readable}
-use Rattle.csv.specs.cells.Cells.{Rest, nothing, more, RowIs, RowAt}
-use Rattle.csv.specs.declared.cells.Cells.{Cells}
-use Rattle.csv.proofs.rfc4180.First.{first, some-row, empty-readable}
+use Rattle.csv.proofs.cells.Left.{Left, left-behind, goes-on}
 use Rattle.lookup_run.proofs.look_up_all.Statement.{statement}
 use Rattle.lookup_run.proofs.look_up_all.Tie as tie
-
-record Left (s : List ℕ) (at : ℕ) : Type 0 where
-  within : at ≤ length s
-  readable : Readable (drop at s)
-
-rest-readable : {t : List ℕ} {rs : List (List Cell)} → Rest t rs → Readable t
-rest-readable nothing = empty-readable
-rest-readable (more n q) = record { rows = _; reading = q }
-
-module _ {s : List ℕ} {at : ℕ} (l : at < length s) (h : Left s at) {cells : Cells} (row : RowAt s at cells) where
-  abbrev is : RowIs s at (some-row (first (h .readable .reading)) .0) (some-row (first (h .readable .reading)) .1) cells
-  is =
-      let m = some-row (first (h .readable .reading)) in
-      row (m .0) (m .1) (subst (File (drop at s)) (m .2) (h .readable .reading))
-
-  left-behind : Left s (cells .next)
-  left-behind = let e = is .behind in record { within = omega arith; readable = rest-readable (is .rest) }
-
-  goes-on : at < cells .next
-  goes-on = by-cases (decLt (cells .next) (length s)) (is .on) (λ n. omega (arith, n))
 
 abbrev Inv-loop : tie.InvT-loop
 Inv-loop s at₀ at = Left s at

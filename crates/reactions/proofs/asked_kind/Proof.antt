@@ -1,12 +1,12 @@
--- `asked_kind` meets its contract: the letters are those of one kind, and each of the four tests is exact.
+-- `asked_kind` meets its contract: the letters are those of one kind, and each test is exact.
 use Prim.Native.Nat.{ℕ, _≤_}
 use mathlib.Core.Path.{_≡_, sym, subst, _∙_}
 use mathlib.Core.Bool.{Bool, true, false, _&&_}
 use mathlib.Core.List.{List}
+use native.Mathlib.Omega.{arith}
 use borrow.Author.Needs.{needs}
-use lib.Dec.{leb}
 use Rattle.arithmetic.specs.decides.Decides.{Decides}
-use Rattle.arithmetic.proofs.Deciding.{decided, refuted, decides-at-most}
+use Rattle.arithmetic.proofs.Deciding.{decided, refuted, decides-both}
 use Rattle.fields.specs.names.Names.{IsName, NameOf}
 use Rattle.fields.specs.names.NameAt.{ContentNamed}
 use Rattle.fields.specs.declared.names.Name.{Name}
@@ -15,7 +15,6 @@ use Rattle.kinds.specs.letters.Form.{KindIs}
 use Rattle.kinds.specs.declared.Kind.{Kind}
 use Rattle.kinds.proofs.letters.Letters.{letters-one}
 use Rattle.reactions.specs.Asked.{Taken}
-use Rattle.reactions.proofs.Deciding.{decides-four}
 use Rattle.reactions.proofs.asked_kind.Statement.{statement}
 use Rattle.reactions.proofs.asked_kind.Tie as tie
 
@@ -28,10 +27,10 @@ value : (good : Bool) (s : List ℕ) (n : Name) → ContentNamed good s n → Is
 value true s n w h = w
 value false s n w h = absurd (w .0 h)
 
--- where all four are asked
+-- where all is asked
 module _ (c : tie.After-struct-known2) where
   abbrev start : tie.Start
-  start = c .before .before .before .before .before .before .before .before .before .before .before .before
+  start = c .before .before .before .before .before .before .before .before .before .before .before .before .before
 
   abbrev of : Kind
   of = c .before .before .before .before .before .before .of .given .0 .0
@@ -45,12 +44,15 @@ module _ (c : tie.After-struct-known2) where
   lettered : start .args .kind .now ≡ letters of
   lettered = subst (KindIs _) (c .before .before .before .before .before .before .of .given .1) (c .before .before .before .before .before .before .before .before .kind-of .ensures)
 
-  all : Decides (((c .before .before .is-taken .result && good) && good2) && leb (start .args .phase) 2)
-      (((Taken of × IsName (start .args .member .now)) × IsName (start .args .job .now)) × (start .args .phase ≤ 2))
+  all : Decides ((c .before .before .is-taken .result && good) && good2) ((Taken of × IsName (start .args .member .now)) × IsName (start .args .job .now))
   all =
-      decides-four (Taken of) (IsName (start .args .member .now)) (IsName (start .args .job .now)) (start .args .phase ≤ 2) (c .before .before .is-taken .result) good good2
-      (leb (start .args .phase) 2) (c .before .before .is-taken .ensures) (named good _ _ (c .before .before .before .before .name-of .ensures))
-      (named good2 _ _ (c .before .before .before .name-of2 .ensures)) (decides-at-most (start .args .phase) 2)
+      decides-both (Taken of × IsName (start .args .member .now)) (IsName (start .args .job .now)) (c .before .before .is-taken .result && good) good2
+      (decides-both (Taken of) (IsName (start .args .member .now)) (c .before .before .is-taken .result) good (c .before .before .is-taken .ensures)
+      (named good _ _ (c .before .before .before .before .name-of .ensures)))
+      (named good2 _ _ (c .before .before .before .name-of2 .ensures))
+
+  in-phase : start .args .phase ≤ 2
+  in-phase = let t = c .before .before .before .before .before .before .before .before .before .if1 .left in omega arith
 
 kind-of-requires : tie.Need-kind-of-requires
 kind-of-requires c κs = search needs
@@ -62,7 +64,10 @@ enum-told : tie.Need-enum-told
 enum-told c = search needs
 
 returns : tie.Need-returns
-returns c = λ key of a. subst (KindIs _) (c .enum-told .given .1) (c .before .before .kind-of .ensures) of (a .lettered)
+returns c = λ key of a. let p = a .phased in let t = c .if1 .taken in omega arith
+
+returns-2 : tie.Need-returns-2
+returns-2 c = λ key of a. subst (KindIs _) (c .enum-told .given .1) (c .before .before .kind-of .ensures) of (a .lettered)
 
 name-of-requires : tie.Need-name-of-requires
 name-of-requires c κs = search needs
@@ -73,36 +78,37 @@ name-of-requires-2 c κs = search needs
 is-taken-requires : tie.Need-is-taken-requires
 is-taken-requires c κs = search needs
 
-returns-2 : tie.Need-returns-2
-returns-2 c =
+returns-3 : tie.Need-returns-3
+returns-3 c =
     let at = c .before in
-    let t = decided _ (c .if1 .taken) (all at) in (
+    let t = decided _ (c .if2 .taken) (all at) in (
       record { member = at .before .before .before .before .name-of .result .name; job = at .before .before .before .name-of2 .result .name },
       record {
-        member-named = value (good at) _ _ (at .before .before .before .before .name-of .ensures) (t .0 .0 .1);
-        job-named = value (good2 at) _ _ (at .before .before .before .name-of2 .ensures) (t .0 .1);
+        member-named = value (good at) _ _ (at .before .before .before .before .name-of .ensures) (t .0 .1);
+        job-named = value (good2 at) _ _ (at .before .before .before .name-of2 .ensures) (t .1);
         lettered = lettered at;
-        taken = t .0 .0 .0;
-        phased = t .1;
+        taken = t .0 .0;
+        phased = in-phase at;
       },
     )
 
-returns-3 : tie.Need-returns-3
-returns-3 c = λ key of′ a.
+returns-4 : tie.Need-returns-4
+returns-4 c = λ key of′ a.
     let at = c .before in
     let same : of′ ≡ of at = letters-one of′ (of at) (sym (a .lettered) ∙ lettered at) in
-    refuted _ (c .if1 .left) (all at) (((subst Taken same (a .taken), a .member-named .is), a .job-named .is), a .phased)
+    refuted _ (c .if2 .left) (all at) ((subst Taken same (a .taken), a .member-named .is), a .job-named .is)
 
 pub asked-kind-spec : {M : Type 1} → statement M
 asked-kind-spec =
     tie.close
     (tie.spec
+    returns
     kind-of-requires
     enum-known-of
     enum-told
-    returns
+    returns-2
     name-of-requires
     name-of-requires-2
     is-taken-requires
-    returns-2
-    returns-3)
+    returns-3
+    returns-4)

@@ -25,7 +25,7 @@ module _ (c : tie.Else3) where
   case = c .before .before .first-number .result
 
   fits : 12 + 8 * case ≤ length s
-  fits = c .if3 .left
+  fits = let t = c .if3 .left in omega arith
 
   first : take 4 s ≡ discriminant case
   first =
@@ -82,7 +82,7 @@ first-double-requires c κs = search needs
 returns-4 : tie.Need-returns-4
 returns-4 c =
     let at = c .before .before .before in
-    told at 0 (c .if4 .taken) (omega arith) (λ e. force-first (s at) e (from (s at) 4 (c .before .first-double .ensures)))
+    told at 0 (let t = c .if4 .taken in omega arith) (omega arith) (λ e. force-first (s at) e (from (s at) 4 (c .before .first-double .ensures)))
 
 sub-first-double-2 : tie.Need-sub-first-double-2
 sub-first-double-2 c = search needs
@@ -99,7 +99,7 @@ first-double-requires-2 c κs = search needs
 returns-5 : tie.Need-returns-5
 returns-5 c =
     let at = c .before .before .before .before .before .before in
-    told at 1 (c .if5 .taken) (omega arith)
+    told at 1 (let t = c .if5 .taken in omega arith) (omega arith)
     (λ e. line-first (s at) e (from (s at) 4 (c .before .before .before .before .first-double .ensures)) (from (s at) 12 (c .before .first-double2 .ensures)))
 
 sub-first-double-3 : tie.Need-sub-first-double-3

@@ -118,7 +118,9 @@ returns-4 : tie.Need-returns-4
 returns-4 c = λ r p.
     let at = c .before .before in
     let v = front at in
-    c .if2 .taken (whole-length (s v) (n v) (first v .2) (m at) (second at .2) (second at .1) p)
+    let long = whole-length (s v) (n v) (first v .2) (m at) (second at .2) (second at .1) p in
+    let other = c .if2 .taken in
+    omega arith
 
 sub-first-double-2 : tie.Need-sub-first-double-2
 sub-first-double-2 c = search needs
@@ -138,7 +140,7 @@ returns-5 c =
     let v = front at in
     let x = subst (λ (t : List ℕ). Double (take 8 t) (at .before .before .before .before .first-double .result)) (to-end (s v) (n v)) (at .before .before .before .before .first-double .ensures) in
     let y = subst (λ (t : List ℕ). Double (take 8 t) (c .first-double2 .result)) (to-end (s v) (n v + 8 + m at)) (c .first-double2 .ensures) in
-    assembled (s v) (n v) (first v .2) (m at) (second at .2) (second at .1) x (c .before .before .if2 .left) y
+    assembled (s v) (n v) (first v .2) (m at) (second at .2) (second at .1) x (let l = c .before .before .if2 .left in omega arith) y
 
 pub read-record-spec : {M : Type 1} → statement M
 read-record-spec =

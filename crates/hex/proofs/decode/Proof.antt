@@ -7,8 +7,8 @@ use lib.ListN.{length}
 use lib.Seq.{length-take-le}
 use Rattle.io.specs.Counts.{Counts}
 use borrow.Author.Needs.{needs}
-use Rattle.lookup_run.proofs.decode.Statement.{statement}
-use Rattle.lookup_run.proofs.decode.Tie as tie
+use Rattle.hex.proofs.decode.Statement.{statement}
+use Rattle.hex.proofs.decode.Tie as tie
 
 abbrev Inv-loop : tie.InvT-loop
 Inv-loop hex bytes₀ n i₀ bytes i = (i ≤ length bytes₀) × (length bytes ≡ length bytes₀)

@@ -1,8 +1,8 @@
 -- i is counted up only while it is below the number of bytes, so it fits, and fewer bytes are left.
 use Prim.Native.Nat.{_-_}
 use borrow.Author.Needs.{needs}
-use Rattle.lookup_run.proofs.put_hex.Statement.{statement}
-use Rattle.lookup_run.proofs.put_hex.Tie as tie
+use Rattle.hex.proofs.put_hex.Statement.{statement}
+use Rattle.hex.proofs.put_hex.Tie as tie
 
 abbrev Inv-loop : tie.InvT-loop
 Inv-loop bytes n i₀ i = Unit
