@@ -2,6 +2,7 @@
 use mathlib.Core.Path.{refl}
 use native.Mathlib.Nat.{not-le-of-lt}
 use lib.Dec.{lit<, lit≤}
+use lib.Ieee.{ofBits, mul}
 use Rattle.arithmetic.proofs.Cases.{impossible, unlike}
 use Rattle.arithmetic.proofs.rounding.Compute.{up-test, cube-test, cube-test′}
 use Rattle.scour.specs.discharge.Discharge.{to-500, to-5000, to-25000}
@@ -13,9 +14,11 @@ use Rattle.sums.specs.Totals.{counted, sum, arm, v-moment, h-moment, resists, o
 use Rattle.checks.specs.ranks.Figures.{Presses}
 use Rattle.kinds.specs.classes.Classes.{class-of, optional}
 use Rattle.loads.specs.LoadRows.{optionals}
-use Rattle.figures.specs.Figures.{needed, surcharge, optional-rows, position, named, braked-set, pressure, pressure-either, AllHold, none, more, starred, worked, trained, laden}
+use Rattle.figures.specs.Figures.{needed, surcharge, optional-rows, position, named, braked-set, pressure, pressure-either, load-row, AllHold, none, more, starred, worked, trained, laden, sent}
 use Rattle.figures.proofs.Loaded.{overturns-test}
 use Rattle.figures.proofs.Laden.{near-test, far-test}
+use Rattle.figures.proofs.Sent.{whole-shown, line-shown, pressure-shown}
+use Rattle.figures.proofs.Recorded.{dead-given, wind-given}
 use Rattle.figures.proofs.Trained.{position-0, braking-ranged, position-17, first-named, second-named, itself-named, past-named, braked-permitted, without-train}
 
 pub figures : AllHold starred
@@ -101,3 +104,23 @@ train-figures =
     (more {x = braked-set _ _} without-train
     (more {x = braked-set _ _} (braked-permitted 7 (lit< tt) refl (λ b. refl))
     none)))))))))))
+
+pub reaction-figures : AllHold sent
+unfolding ofBits mul
+reaction-figures =
+    whole-shown tt
+    (whole-shown tt
+    (whole-shown tt
+    (whole-shown tt
+    (whole-shown tt
+    (whole-shown tt
+    (whole-shown tt
+    (whole-shown tt
+    (whole-shown tt
+    (line-shown tt
+    (line-shown tt
+    (line-shown tt
+    (pressure-shown tt
+    (more {x = load-row _ _ _ _ _ _} dead-given
+    (more {x = load-row _ _ _ _ _ _} wind-given
+    none))))))))))))))

@@ -27,7 +27,7 @@ use Rattle.loads.specs.LoadRows.{Every, LiveAt, NamesLive, AllNamed, Laid, AreL
 use Rattle.figures.specs.Figures.{braking, braked, Permits}
 use Rattle.figures.proofs.Loaded.{exerted, exerts, no-more}
 
-around : (n limit : ℕ) → n ≤ limit → Around limit limit (positive n)
+pub around : (n limit : ℕ) → n ≤ limit → Around limit limit (positive n)
 around n limit h = record { filled = refl; under = λ e. absurd (not-both e refl); over = λ _. h }
 
 pub braking-ranged : (n : ℕ) → 1 ≤ n → n ≤ 16 → Ranged LF (braking n .numbers)

@@ -4,15 +4,17 @@ use mathlib.Core.Path.{_≡_}
 use mathlib.Core.Bool.{Bool, true, false}
 use mathlib.Core.List.{List, [], _∷_, _++_}
 use Prim.Native.Nat.{ℕ}
+use lib.IntN.{ℤ, pos, negℤ}
+use lib.Ieee.{Float, binary64, ofBits}
 use lib.ListN.{replicate}
 use Rattle.arithmetic.specs.decides.Decides.{Decides}
 use Rattle.fields.specs.declared.Entry.{Entry}
 use Rattle.fields.specs.Numbers.{positive, absent}
 use Rattle.kinds.specs.declared.Kind.{Kind}
-use Rattle.kinds.specs.declared.Kind.the-variants.{DL, LL, LF}
+use Rattle.kinds.specs.declared.Kind.the-variants.{DL, LL, LF, WL}
 use Rattle.kinds.specs.declared.Kind.the-variants as kind
 use Rattle.kinds.specs.declared.Row.{Row}
-use Rattle.kinds.specs.Table.{blank-numbers}
+use Rattle.kinds.specs.Table.{letters, blank-numbers}
 use Rattle.kinds.specs.ranges.Range.{Ranged}
 use Rattle.scour.specs.discharge.Discharge.{FoundationDischarge}
 use Rattle.scour.specs.lacey.Lacey.{RegimeMet, RegimeDepth, ConstrictedDepth, DepthNeeded}
@@ -30,6 +32,10 @@ use Rattle.checks.specs.declared.Figure.the-variants.{Number}
 use Rattle.checks.specs.ranks.Figures.{PressesWhole, PressesPart, Presses}
 use Rattle.checks.specs.set_figures.Figures.{Shows}
 use Rattle.loads.specs.LoadRows.{AllNamed, optionals, AreLoads}
+use Rattle.doubles.specs.Doubles.{Nearest}
+use Rattle.reactions.specs.declared.xdr.FrameLoad.the-variants.{Line, Pressure}
+use Rattle.reactions.specs.Force.{kilonewtons}
+use Rattle.reactions.specs.Reacts.{GivesRow}
 
 -- a row of its own forces as it is written: V, x, H, y, in service, and n6
 abbrev pub written : Kind → (v x h y : ℕ) → Entry → Row
@@ -68,6 +74,10 @@ pub record PressesEither (B L N M figure : ℕ) : Type 0 where
   pub whole : PressesWhole B L N M figure
   pub part : PressesPart B L N M figure
 
+-- the double that these 64 bits are
+abbrev pub double : ℕ → Float
+double bits = ofBits binary64 bits
+
 -- a figure: what is asked, and what 01 says, or the work by hand
 pub data WorkedFigure : Type 0 where
   flood : (Q Z Qf : ℕ) → WorkedFigure
@@ -86,6 +96,10 @@ pub data WorkedFigure : Type 0 where
   overturning : (B v x h y figure : ℕ) → WorkedFigure
   pressure : (B L N M figure : ℕ) → WorkedFigure
   pressure-either : (B L N M figure : ℕ) → WorkedFigure
+  nearest-whole : (bits : ℕ) (whole : ℤ) → WorkedFigure
+  line-load : (load length : ℕ) (whole : ℤ) → WorkedFigure
+  pressure-load : (load side other : ℕ) (whole : ℤ) → WorkedFigure
+  load-row : (member job kind : List ℕ) (phase : ℕ) (sent row : List ℕ) → WorkedFigure
 
 abbrev pub Holds : WorkedFigure → Type 0
 Holds (flood Q Z Qf) = FoundationDischarge Q Z Qf
@@ -107,6 +121,10 @@ Holds (braked-set set permitted) = Permits (braked 2) set permitted
 Holds (overturning B v x h y figure) = Overturns B (dead-load v x h y) figure
 Holds (pressure B L N M figure) = Presses B L N M (Number figure)
 Holds (pressure-either B L N M figure) = PressesEither B L N M figure
+Holds (nearest-whole bits whole) = Nearest (double bits) whole
+Holds (line-load load length whole) = Nearest (kilonewtons (Line (double load) (double length))) whole
+Holds (pressure-load load side other whole) = Nearest (kilonewtons (Pressure (double load) (double side) (double other))) whole
+Holds (load-row member job kind phase sent row) = GivesRow member job kind phase sent row
 
 -- all of a list hold
 pub data AllHold : List WorkedFigure → Type 0 where
@@ -205,4 +223,57 @@ laden =
     ∷ surcharge 7 20000 4 15000 60000 14868 7500 61949 10000
     ∷ surcharge 1 0 1 1 3001 1 1 1 1
     ∷ optional-rows 12 kind.G 13
+    ∷ []
+
+-- the member and the job of 01's example
+abbrev pub K7 : List ℕ
+K7 = 0x4B ∷ 0x37 ∷ []
+
+abbrev pub P-12 : List ℕ
+P-12 = 0x50 ∷ 0x2D ∷ 0x31 ∷ 0x32 ∷ []
+
+-- P6, a record's vertical load, x, horizontal load and y, a line each: 6,000 kN at x 0, and 0 kN at y 0; and the load row of 01's example, K7,P-12,DL,6000,0,0,0,0,, and CRLF
+abbrev pub dead-sent : List ℕ
+dead-sent =
+    (0 ∷ 0 ∷ 0 ∷ 0 ∷ 0x40 ∷ 0xB7 ∷ 0x70 ∷ 0 ∷ 0 ∷ 0 ∷ 0 ∷ 0 ∷ [])
+    ++ ((0 ∷ 0 ∷ 0 ∷ 0 ∷ 0 ∷ 0 ∷ 0 ∷ 0 ∷ [])
+    ++ ((0 ∷ 0 ∷ 0 ∷ 0 ∷ 0 ∷ 0 ∷ 0 ∷ 0 ∷ 0 ∷ 0 ∷ 0 ∷ 0 ∷ [])
+    ++ (0 ∷ 0 ∷ 0 ∷ 0 ∷ 0 ∷ 0 ∷ 0 ∷ 0 ∷ [])))
+
+abbrev pub dead-row : List ℕ
+dead-row = 0x4B ∷ 0x37 ∷ 0x2C ∷ 0x50 ∷ 0x2D ∷ 0x31 ∷ 0x32 ∷ 0x2C ∷ 0x44 ∷ 0x4C ∷ 0x2C ∷ 0x36 ∷ 0x30 ∷ 0x30 ∷ 0x30 ∷ 0x2C ∷ 0x30 ∷ 0x2C ∷ 0x30 ∷ 0x2C ∷ 0x30 ∷ 0x2C ∷ 0x30 ∷ 0x2C ∷ 0x2C ∷ 0x0D ∷ 0x0A ∷ []
+
+-- and with the other two union cases: 1.4 kN/m² on 7.5 m by 3 m at x -250.5, and 12.5 kN/m over 3.2 m at y 4,500.25; and its row, K7,P-12,WL,32,-251,40,4500,2,, and CRLF
+abbrev pub wind-sent : List ℕ
+wind-sent =
+    (0 ∷ 0 ∷ 0 ∷ 2 ∷ 0x3F ∷ 0xF6 ∷ 0x66 ∷ 0x66 ∷ 0x66 ∷ 0x66 ∷ 0x66 ∷ 0x66 ∷ 0x40 ∷ 0x1E ∷ 0 ∷ 0 ∷ 0 ∷ 0 ∷ 0 ∷ 0 ∷ 0x40 ∷ 0x08 ∷ 0 ∷ 0 ∷ 0 ∷ 0 ∷ 0 ∷ 0 ∷ [])
+    ++ ((0xC0 ∷ 0x6F ∷ 0x50 ∷ 0 ∷ 0 ∷ 0 ∷ 0 ∷ 0 ∷ [])
+    ++ ((0 ∷ 0 ∷ 0 ∷ 1 ∷ 0x40 ∷ 0x29 ∷ 0 ∷ 0 ∷ 0 ∷ 0 ∷ 0 ∷ 0 ∷ 0x40 ∷ 0x09 ∷ 0x99 ∷ 0x99 ∷ 0x99 ∷ 0x99 ∷ 0x99 ∷ 0x9A ∷ [])
+    ++ (0x40 ∷ 0xB1 ∷ 0x94 ∷ 0x40 ∷ 0 ∷ 0 ∷ 0 ∷ 0 ∷ [])))
+
+abbrev pub wind-row : List ℕ
+wind-row = 0x4B ∷ 0x37 ∷ 0x2C ∷ 0x50 ∷ 0x2D ∷ 0x31 ∷ 0x32 ∷ 0x2C ∷ 0x57 ∷ 0x4C ∷ 0x2C ∷ 0x33 ∷ 0x32 ∷ 0x2C ∷ 0x2D ∷ 0x32 ∷ 0x35 ∷ 0x31 ∷ 0x2C ∷ 0x34 ∷ 0x30 ∷ 0x2C ∷ 0x34 ∷ 0x35 ∷ 0x30 ∷ 0x30 ∷ 0x2C ∷ 0x32 ∷ 0x2C ∷ 0x2C ∷ 0x0D ∷ 0x0A ∷ []
+
+-- P6, reactions: each double by its bits. It "goes to the nearest whole kN or mm, halves away from zero": 0.49999999999999994, the double before 0.5, and 0.5; -0.5; 2.5 and
+-- -2.5; -0.4, whose 0 has no sign; 49,999.5; -0.0; and the smallest double above 0.
+-- "Products are taken in doubles, left to right, each rounded once": 12.5 kN/m over 3.2 m; 1.4 over 7.5, where the exact product of the two doubles is less than 10.5 and
+-- the nearest double is 10.5; 250 over 24; and 1.4 kN/m² by 7.5 m by 3 m, 31.5, where 1.4 by the product of the sides is 31.499999999999996, and 1.4 by 3 by 7.5 less still.
+-- "A record holds a vertical load, x, a horizontal load and y", and "the output is a load row": the two records.
+abbrev pub sent : List WorkedFigure
+sent =
+    nearest-whole 0x3FDFFFFFFFFFFFFF (pos 0)
+    ∷ nearest-whole 0x3FE0000000000000 (pos 1)
+    ∷ nearest-whole 0xBFE0000000000000 (negℤ (pos 1))
+    ∷ nearest-whole 0x4004000000000000 (pos 3)
+    ∷ nearest-whole 0xC004000000000000 (negℤ (pos 3))
+    ∷ nearest-whole 0xBFD999999999999A (pos 0)
+    ∷ nearest-whole 0x40E869F000000000 (pos 50000)
+    ∷ nearest-whole 0x8000000000000000 (pos 0)
+    ∷ nearest-whole 1 (pos 0)
+    ∷ line-load 0x4029000000000000 0x400999999999999A (pos 40)
+    ∷ line-load 0x3FF6666666666666 0x401E000000000000 (pos 11)
+    ∷ line-load 0x406F400000000000 0x4038000000000000 (pos 6000)
+    ∷ pressure-load 0x3FF6666666666666 0x401E000000000000 0x4008000000000000 (pos 32)
+    ∷ load-row K7 P-12 (letters DL) 0 dead-sent dead-row
+    ∷ load-row K7 P-12 (letters WL) 2 wind-sent wind-row
     ∷ []

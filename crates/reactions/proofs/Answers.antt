@@ -22,8 +22,10 @@ use Rattle.reactions.specs.row.Text.{Rounded, row-numbers, row-text}
 use Rattle.reactions.specs.row.Reads.{IsLoadRow}
 use Rattle.reactions.specs.Asked.{Asked}
 use Rattle.reactions.specs.Reacts.{RowTold, written, refused, row-told, Rounds, GivesRow, Reacts, no-row, no-record, not-finite, out-of-range, too-short, row}
+use Rattle.reactions.specs.RowsOfRecords.{RowsOfRecords}
 use Rattle.reactions.proofs.xdr.Records.{record-one}
 use Rattle.reactions.proofs.row.Written.{row-is-load}
+use Rattle.reactions.proofs.Exact.{exact-where-whole}
 
 -- a record goes to one row of whole numbers
 rounds-one : (r : Reaction) {q p : Rounded} → Rounds r q → Rounds r p → q ≡ p
@@ -144,3 +146,12 @@ row-told-one TooShort NoRecord e = impossible (let z = ap number e in omega arit
 row-told-one TooShort NotFinite e = impossible (let z = ap number e in omega arith)
 row-told-one TooShort OutOfRange e = impossible (let z = ap number e in omega arith)
 row-told-one TooShort TooShort e = refl
+
+pub rows-of-records : RowsOfRecords
+rows-of-records = record {
+  one-reading = λ sent r t. record-one;
+  one-answer = λ member job kind phase sent before x y t u. reacts-one;
+  told-apart = row-told-one;
+  load-row = λ member job kind phase sent bytes. gives-load-row;
+  exact = exact-where-whole;
+}

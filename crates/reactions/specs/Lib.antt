@@ -4,4 +4,5 @@ pub mod Exact
 pub mod row
 pub mod Asked
 pub mod Reacts
+pub mod RowsOfRecords
 pub mod steps

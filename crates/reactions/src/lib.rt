@@ -34,7 +34,7 @@ pub enum RowWritten {
 }
 
 // The numbers of the row that a record gives; or why it gives none.
-pub enum NumbersRead {
+enum NumbersRead {
     Is(Numbers),
     NoRecord,
     NotFinite,

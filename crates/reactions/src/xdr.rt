@@ -23,7 +23,7 @@ pub struct Reaction {
 }
 
 // The load that bytes begin with, and how many bytes it has; or that they begin with none.
-pub enum LoadRead {
+enum LoadRead {
     Is(FrameLoad, usize),
     Unknown,
 }
