@@ -2,14 +2,12 @@
 use Prim.Native.Nat.{ℕ}
 use native.Mathlib.Omega.{arith}
 use mathlib.Core.Path.{_≡_, refl, sym, ap, subst, _∙_}
+use mathlib.Core.Bool.{cond}
 use mathlib.Core.List.{List, _++_}
+use lib.Dec.{eqb}
 use lib.ListN.{length, drop}
-use Rattle.arithmetic.proofs.Cases.{impossible}
 use Rattle.doubles.proofs.Wholes.{nearest-one}
-use Rattle.fields.specs.names.Names.{NameOf}
-use Rattle.fields.specs.declared.names.Name.{Name}
 use Rattle.kinds.specs.declared.Kind.{Kind}
-use Rattle.kinds.specs.declared.Numbers.{Numbers}
 use Rattle.kinds.specs.ranges.Range.{Ranged}
 use Rattle.kinds.proofs.letters.Letters.{letters-one}
 use Rattle.rows.specs.declared.keys.Key.{Key}
@@ -103,49 +101,22 @@ module _ {member job kind : List ℕ} {phase : ℕ} {sent before : List ℕ} whe
       let z = gives-one g g′ in
       (e ∙ ap (λ (t : List ℕ). t ++ drop (length t) before) z ∙ sym e′, f ∙ ap (λ (t : List ℕ). written (length t)) z ∙ sym f′)
 
-number : RowTold → ℕ
-number (written n) = n
-number (refused n) = n
+-- no two answers are told alike: what is told tells the answer
+unfoldable answer-of : RowTold → RowWritten
+answer-of (written n) = Length n
+answer-of (refused n) = cond (eqb n 26) NoRow (cond (eqb n 21) NoRecord (cond (eqb n 22) NotFinite (cond (eqb n 23) OutOfRange TooShort)))
 
--- no two answers are told alike
+told-back : (a : RowWritten) → answer-of (row-told a) ≡ a
+unfolding answer-of
+told-back (Length n) = refl
+told-back NoRow = refl
+told-back NoRecord = refl
+told-back NotFinite = refl
+told-back OutOfRange = refl
+told-back TooShort = refl
+
 pub row-told-one : (a b : RowWritten) → row-told a ≡ row-told b → a ≡ b
-unfolding number
-row-told-one (Length m) (Length n) e = ap Length (ap number e)
-row-told-one (Length m) NoRow e = impossible cc
-row-told-one (Length m) NoRecord e = impossible cc
-row-told-one (Length m) NotFinite e = impossible cc
-row-told-one (Length m) OutOfRange e = impossible cc
-row-told-one (Length m) TooShort e = impossible cc
-row-told-one NoRow (Length n) e = impossible cc
-row-told-one NoRow NoRow e = refl
-row-told-one NoRow NoRecord e = impossible (let z = ap number e in omega arith)
-row-told-one NoRow NotFinite e = impossible (let z = ap number e in omega arith)
-row-told-one NoRow OutOfRange e = impossible (let z = ap number e in omega arith)
-row-told-one NoRow TooShort e = impossible (let z = ap number e in omega arith)
-row-told-one NoRecord (Length n) e = impossible cc
-row-told-one NoRecord NoRow e = impossible (let z = ap number e in omega arith)
-row-told-one NoRecord NoRecord e = refl
-row-told-one NoRecord NotFinite e = impossible (let z = ap number e in omega arith)
-row-told-one NoRecord OutOfRange e = impossible (let z = ap number e in omega arith)
-row-told-one NoRecord TooShort e = impossible (let z = ap number e in omega arith)
-row-told-one NotFinite (Length n) e = impossible cc
-row-told-one NotFinite NoRow e = impossible (let z = ap number e in omega arith)
-row-told-one NotFinite NoRecord e = impossible (let z = ap number e in omega arith)
-row-told-one NotFinite NotFinite e = refl
-row-told-one NotFinite OutOfRange e = impossible (let z = ap number e in omega arith)
-row-told-one NotFinite TooShort e = impossible (let z = ap number e in omega arith)
-row-told-one OutOfRange (Length n) e = impossible cc
-row-told-one OutOfRange NoRow e = impossible (let z = ap number e in omega arith)
-row-told-one OutOfRange NoRecord e = impossible (let z = ap number e in omega arith)
-row-told-one OutOfRange NotFinite e = impossible (let z = ap number e in omega arith)
-row-told-one OutOfRange OutOfRange e = refl
-row-told-one OutOfRange TooShort e = impossible (let z = ap number e in omega arith)
-row-told-one TooShort (Length n) e = impossible cc
-row-told-one TooShort NoRow e = impossible (let z = ap number e in omega arith)
-row-told-one TooShort NoRecord e = impossible (let z = ap number e in omega arith)
-row-told-one TooShort NotFinite e = impossible (let z = ap number e in omega arith)
-row-told-one TooShort OutOfRange e = impossible (let z = ap number e in omega arith)
-row-told-one TooShort TooShort e = refl
+row-told-one a b e = sym (told-back a) ∙ ap answer-of e ∙ told-back b
 
 pub rows-of-records : RowsOfRecords
 rows-of-records = record {

@@ -1,9 +1,9 @@
 -- What stands in the columns of the row: where every number is in its range, each is the nearest whole number; and numbers in their ranges are those that
 -- stand there.
-use Prim.Native.Nat.{ℕ, _^_, _≤_}
+use Prim.Native.Nat.{ℕ, _≤_}
 use mathlib.Core.Path.{_≡_, sym, ap, subst, _∙_}
 use mathlib.Core.Bool.{true}
-use mathlib.Core.Logic.{_⊎_, inl, inr}
+use mathlib.Core.Logic.{inl, inr}
 use native.Mathlib.Omega.{arith}
 use lib.IntN.{ℤ, natAbs}
 use lib.Ieee.{Float}
@@ -12,11 +12,9 @@ use Rattle.doubles.specs.Doubles.{Nearest}
 use Rattle.doubles.proofs.Wholes.{nearest-one, nearest-some}
 use Rattle.fields.specs.Numbers.{absent, positive}
 use Rattle.fields.specs.declared.Entry.{Entry}
-use Rattle.kinds.specs.Table.{columns, load-columns}
 use Rattle.kinds.specs.ranges.Range.{InColumns, Ranged}
 use Rattle.kinds.specs.declared.Kind.{Kind}
 use Rattle.kinds.specs.declared.Columns.{Columns}
-use Rattle.kinds.specs.declared.Column.the-variants.{Empty}
 use Rattle.kinds.specs.declared.Numbers.{Numbers}
 use Rattle.reactions.specs.declared.xdr.Reaction.{Reaction}
 use Rattle.reactions.specs.Force.{kilonewtons, AllFinite}

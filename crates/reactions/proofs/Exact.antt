@@ -1,5 +1,4 @@
 -- Where all factors are whole and every partial product is below 2^53 in size, no product is rounded, and so nothing is rounded.
-use Prim.Native.Nat.{_^_, _<_}
 use lib.IntN.{ℤ}
 use Rattle.doubles.specs.Doubles.{Exactly}
 use Rattle.doubles.proofs.Products.{exact-product}

@@ -14,7 +14,6 @@ use kinds::Kind;
 use kinds::Numbers;
 use kinds::letters::KindRead;
 use xdr::FrameLoad;
-use xdr::Reaction;
 use xdr::RecordRead;
 ghost use mathlib.Core.Path.{_≡_};
 ghost use Rattle.arithmetic.specs.decides.Decides.{Decides};

@@ -1,25 +1,16 @@
--- A byte is written only where there is room for it, and only while i is below half the number of digits.
-use Prim.Native.Nat.{ℕ, _-_, _≤_}
-use native.Mathlib.Omega.{arith}
-use mathlib.Core.Path.{_≡_, sym}
-use mathlib.Core.List.{List}
+-- The buffer holds the bytes read so far, and behind them what it held; each turn reads one more, and a return stands where there is no digit or no room left.
+use Prim.Native.Nat.{_-_}
 use lib.ListN.{length}
-use lib.Seq.{length-take-le}
-use Rattle.io.specs.Counts.{Counts}
+use Rattle.hex.proofs.Decoding.{SoFar, reads-next, read-all}
 use borrow.Author.Needs.{needs}
 use Rattle.hex.proofs.decode.Statement.{statement}
 use Rattle.hex.proofs.decode.Tie as tie
 
 abbrev Inv-loop : tie.InvT-loop
-Inv-loop hex bytes₀ n i₀ bytes i = (i ≤ length bytes₀) × (length bytes ≡ length bytes₀)
+Inv-loop hex bytes₀ n i₀ bytes i = SoFar hex bytes₀ bytes i
 
 abbrev μ-loop : tie.MeasureT-loop
 μ-loop hex bytes₀ n i₀ bytes i = length bytes₀ - i
-
-counted : (i room : ℕ) (bytes : List ℕ) → (i ≤ room) × (length bytes ≡ room) → Counts i bytes
-counted i room bytes h =
-    let few : i ≤ length bytes = let a = h .0 in let b = h .1 in omega arith in
-    (few, sym (length-take-le i bytes few))
 
 loop-holds : tie.Need-loop-holds Inv-loop μ-loop
 loop-holds c = search needs
@@ -28,7 +19,7 @@ same-length : tie.Need-same-length Inv-loop μ-loop
 same-length c = search needs
 
 returns : tie.Need-returns Inv-loop μ-loop
-returns c = counted _ _ _ (c .before .before .loop .inv)
+returns c = read-all _ _ _ _ (c .before .before .loop .inv) (search needs)
 
 mul-worth : tie.Need-mul-worth Inv-loop μ-loop
 mul-worth c = search needs
@@ -38,9 +29,6 @@ shared-slice-read-worth c = search needs
 
 worth-requires : tie.Need-worth-requires Inv-loop μ-loop
 worth-requires c κs = search needs
-
-mul-bytes : tie.Need-mul-bytes Inv-loop μ-loop
-mul-bytes c = search needs
 
 mul-worth-2 : tie.Need-mul-worth-2 Inv-loop μ-loop
 mul-worth-2 c = search needs
@@ -53,6 +41,9 @@ shared-slice-read-worth-2 c = search needs
 
 worth-requires-2 : tie.Need-worth-requires-2 Inv-loop μ-loop
 worth-requires-2 c κs = search needs
+
+mul-bytes : tie.Need-mul-bytes Inv-loop μ-loop
+mul-bytes c = search needs
 
 add-bytes : tie.Need-add-bytes Inv-loop μ-loop
 add-bytes c = search needs
@@ -67,13 +58,15 @@ loop-less : tie.Need-loop-less Inv-loop μ-loop
 loop-less c = search needs
 
 loop-again : tie.Need-loop-again Inv-loop μ-loop
-loop-again c = (search needs, search needs)
+loop-again c =
+    let turn = c .before .before .before .before .before .before in
+    reads-next _ _ _ _ (turn .loop .inv) _ _ (c .before .before .worth .ensures .0) (c .worth2 .ensures .0) (search needs) (search needs)
 
 same-length-2 : tie.Need-same-length-2 Inv-loop μ-loop
 same-length-2 c = search needs
 
 returns-2 : tie.Need-returns-2 Inv-loop μ-loop
-returns-2 c = counted _ _ _ (c .before .loop .inv)
+returns-2 c = read-all _ _ _ _ (c .before .loop .inv) (search needs)
 
 pub decode-spec : {M : Type 1} → statement M
 decode-spec =
@@ -87,11 +80,11 @@ decode-spec =
     mul-worth
     shared-slice-read-worth
     worth-requires
-    mul-bytes
     mul-worth-2
     add-worth
     shared-slice-read-worth-2
     worth-requires-2
+    mul-bytes
     add-bytes
     slice-write-bytes
     add-i

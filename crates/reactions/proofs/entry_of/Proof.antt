@@ -9,7 +9,7 @@ use borrow.Author.Needs.{needs}
 use Rattle.arithmetic.specs.signed.Whole.{amount}
 use Rattle.arithmetic.specs.declared.signed.Amount.{Amount}
 use Rattle.doubles.specs.Answers.{NearestIs}
-use Rattle.doubles.specs.declared.Whole.the-variants.{Is, Beyond}
+use Rattle.doubles.specs.declared.Whole.the-variants.{Is}
 use Rattle.fields.specs.declared.Entry.{Entry}
 use Rattle.reactions.specs.row.Text.{entry}
 use Rattle.reactions.proofs.entry_of.Statement.{statement}

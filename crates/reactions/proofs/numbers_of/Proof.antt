@@ -1,6 +1,5 @@
 -- `numbers_of` meets its contract: the record has one reading, its doubles are tested together, and what stands in the columns is judged by the table.
-use Prim.Native.Nat.{ℕ}
-use mathlib.Core.Path.{_≡_, refl, subst}
+use mathlib.Core.Path.{refl, subst}
 use mathlib.Core.Bool.{Bool, _&&_}
 use borrow.Author.Tests.{not-true, not-false}
 use borrow.Author.Needs.{needs}
@@ -12,7 +11,6 @@ use Rattle.fields.specs.Numbers.{positive}
 use Rattle.kinds.specs.ranges.Range.{Ranged}
 use Rattle.kinds.specs.declared.Numbers.{Numbers}
 use Rattle.reactions.specs.declared.xdr.Reaction.{Reaction}
-use Rattle.reactions.specs.declared.xdr.RecordRead.the-variants.{Is}
 use Rattle.reactions.specs.xdr.Record.{IsRecord}
 use Rattle.reactions.specs.xdr.steps.Reading.{RecordIs}
 use Rattle.reactions.specs.Force.{AllFinite}

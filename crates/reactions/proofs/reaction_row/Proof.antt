@@ -5,18 +5,16 @@ use mathlib.Core.List.{List}
 use lib.ListN.{length}
 use borrow.Author.Needs.{needs}
 use Rattle.block.specs.Block.{text-held}
-use Rattle.block.specs.declared.Block.{Block}
 use Rattle.block.proofs.Pages.{block-held}
 use Rattle.buffer.specs.Copying.{Wrote, copy-told}
 use Rattle.buffer.specs.declared.Copied.{Copied}
 use Rattle.buffer.specs.declared.Copied.the-variants.{Length, TooShort}
 use Rattle.kinds.specs.declared.Kind.{Kind}
 use Rattle.kinds.specs.declared.Numbers.{Numbers}
-use Rattle.kinds.specs.declared.letters.KindRead.the-variants.{Known}
 use Rattle.rows.specs.declared.keys.Key.{Key}
 use Rattle.reactions.specs.declared.NumbersRead.{NumbersRead}
 use Rattle.reactions.specs.declared.NumbersRead.the-variants.{Is}
-use Rattle.reactions.specs.row.Text.{row-text, row-numbers}
+use Rattle.reactions.specs.row.Text.{row-text}
 use Rattle.reactions.specs.Asked.{Asked}
 use Rattle.reactions.specs.Reacts.{written, no-row, no-record, not-finite, out-of-range, too-short, row, GivesRow}
 use Rattle.reactions.specs.steps.Calling.{AskedIs, NumbersIs}

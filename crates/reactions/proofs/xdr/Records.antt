@@ -2,10 +2,10 @@
 -- reading.
 use Prim.Native.Nat.{ℕ, zero, suc, _+_, _-_, _*_, _≤_, _<_}
 use native.Mathlib.Omega.{arith}
-use mathlib.Core.Path.{_≡_, refl, sym, ap, ap₂, subst, _∙_}
+use mathlib.Core.Path.{_≡_, refl, sym, ap, ap₂, _∙_}
 use mathlib.Core.List.{List, [], _∷_, _++_, append-assoc}
 use lib.Ieee.{Float, binary64, ofBits}
-use lib.ListN.{length, length-append, length-take, length-drop, getD, take, drop, take-append-drop}
+use lib.ListN.{length, length-append, length-drop, getD, take, drop, take-append-drop}
 use lib.Seq.{take-add, drop-drop, take-at, drop-at, take-all}
 use Rattle.reactions.specs.declared.xdr.FrameLoad.{FrameLoad}
 use Rattle.reactions.specs.declared.xdr.FrameLoad.the-variants.{Force, Line, Pressure}

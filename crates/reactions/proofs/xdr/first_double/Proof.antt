@@ -1,6 +1,5 @@
 -- `first_double` meets its contract: the first eight bytes are eight, and their number is the double's bits.
-use mathlib.Core.Path.{_≡_, ap, _∙_}
-use Prim.Native.Nat.{ℕ}
+use mathlib.Core.Path.{ap, _∙_}
 use native.Mathlib.Omega.{arith}
 use lib.Ieee.{binary64, ofBits}
 use lib.ListN.{length-take}

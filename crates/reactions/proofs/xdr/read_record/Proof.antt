@@ -1,15 +1,13 @@
 -- `read_record` meets its contract: load, arm, load and arm follow each other to the end, and where a test fails the bytes are no record.
-use Prim.Native.Nat.{ℕ, _+_, _-_, _≤_}
-use mathlib.Core.Path.{_≡_, sym, ap, subst, _∙_}
+use Prim.Native.Nat.{ℕ, _+_, _≤_}
+use mathlib.Core.Path.{subst}
 use mathlib.Core.List.{List}
 use native.Mathlib.Omega.{arith}
 use borrow.Author.Needs.{needs}
-use lib.Ieee.{Float}
 use lib.ListN.{length, take, drop}
 use Rattle.reactions.specs.declared.xdr.FrameLoad.{FrameLoad}
-use Rattle.reactions.specs.declared.xdr.LoadRead.{LoadRead}
 use Rattle.reactions.specs.declared.xdr.LoadRead.the-variants.{Is, Unknown}
-use Rattle.reactions.specs.xdr.Record.{Double, LoadBytes, IsRecord}
+use Rattle.reactions.specs.xdr.Record.{Double, LoadBytes}
 use Rattle.reactions.specs.xdr.steps.Reading.{BeginsWith}
 use Rattle.reactions.proofs.xdr.Records.{to-end, arm-room, behind-arm, whole-length, assembled}
 use Rattle.reactions.proofs.xdr.read_record.Statement.{statement}
