@@ -1,5 +1,5 @@
 -- Bytes in hexadecimal digits, two digits a byte, the first worth sixteen times as much. Letters are small.
-use Prim.Native.Nat.{ℕ, _+_, _-_, _*_, min}
+use Prim.Native.Nat.{ℕ, _+_, _-_, _*_, _/_, _%_, min}
 use mathlib.Core.Path.{_≡_}
 use mathlib.Core.Bool.{Bool, cond, _&&_}
 use mathlib.Core.List.{List, [], _∷_, _++_}
@@ -29,3 +29,14 @@ decoded (a ∷ b ∷ s) = (worth a * 16 + worth b) ∷ decoded s
 pub record Decoded (digits before after : List ℕ) (r : ℕ) : Type 0 where
   pub count : r ≡ min (length (decoded digits)) (length before)
   pub holds : after ≡ take r (decoded digits) ++ drop r before
+
+-- the digits of bytes, two for each, the higher first
+unfoldable pub encoded : List ℕ → List ℕ
+encoded [] = []
+encoded (b ∷ s) = digit (b / 16) ∷ digit (b % 16) ∷ encoded s
+
+-- A buffer that held `before` holds `after` then: the digits of as many whole bytes as fit, and behind them what it held; r digits are told. Both fields
+-- are equations, of the answer and of the state, so each has one.
+pub record Encoded (bytes before after : List ℕ) (r : ℕ) : Type 0 where
+  pub count : r ≡ 2 * min (length bytes) (length before / 2)
+  pub holds : after ≡ take r (encoded bytes) ++ drop r before

@@ -1,12 +1,11 @@
 // Bytes in hexadecimal digits, for the programs that run listed cases: a list is comma-separated text, and what is lent to a call may be any bytes.
 //
-// What digits leave in a lent buffer is promised for any bytes: one that is no digit counts as 0. What is written to standard output no promise can
-// say: `put_hex` is safe and ends, and which digit a number has is promised by `digit_of`, from which it takes them.
-use libc::STDOUT_FILENO;
+// What each function leaves in a lent buffer is promised for any bytes: as much as fits, and behind it what the buffer held. A byte that is no digit
+// counts as 0. That the digits of bytes stand for these bytes is a law (proofs/Encoding, `decoded-encoded`).
 ghost use Prim.Native.Nat.{_<_, _%_};
 ghost use mathlib.Core.Path.{_≡_};
 ghost use Rattle.io.specs.Counts.{Counts};
-ghost use Rattle.hex.specs.Hex.{worth, digit, Decoded};
+ghost use Rattle.hex.specs.Hex.{worth, digit, Decoded, Encoded};
 
 // What a hexadecimal digit is worth; anything else is 0.
 fn worth(byte: u8) -> u8
@@ -58,14 +57,23 @@ fn digit_of(number: u8) -> u8
     b'a' + (worth - 10)
 }
 
-// Writes bytes to standard output, each as two hexadecimal digits. What is written no promise can say.
-pub fn put_hex(bytes: &[u8]) {
-    let n = bytes.len();
+// The bytes in hexadecimal digits, two a byte, as many whole bytes as fit; how many digits there are is answered.
+pub fn encode(bytes: &[u8], out: &mut [u8]) -> usize
+    ensures { λ r. ⌜ Encoded (now (bytes .entry)) (now (out .entry)) (now (out .exit)) r ⌝ }
+    ensures within { λ r. ⌜ Counts r (now (out .exit)) ⌝ }
+{
+    let room = out.len() / 2;
     let mut i: usize = 0;
-    while i < n {
+    while i < bytes.len() {
+        if room <= i {
+            return 2 * i;
+        }
         let byte = bytes[i];
-        let digits = [digit_of(byte / 16), digit_of(byte)];
-        io::write_all(STDOUT_FILENO, &digits);
+        let high = digit_of(byte / 16);
+        let low = digit_of(byte);
+        out[2 * i] = high;
+        out[2 * i + 1] = low;
         i += 1;
     }
+    2 * i
 }

@@ -27,6 +27,13 @@ fn put_place(book: &[u8], from: usize) {
     io::write_all(STDOUT_FILENO, b",");
 }
 
+// The row in hex. A book that is read has at most 65,536 bytes, and so has a row.
+fn put_row(row: &[u8]) {
+    let mut digits = [0u8; 131072];
+    let len = hex::encode(row, &mut digits);
+    io::write_all(STDOUT_FILENO, &digits[..len]);
+}
+
 // One lookup.
 fn look_up<'a>(own: &'a [u8], common: &'a [u8], member: &[u8], soil: u32, slope: u32) {
     let place = fills::lookup::place_of(own, common, member, soil, slope);
@@ -35,7 +42,7 @@ fn look_up<'a>(own: &'a [u8], common: &'a [u8], member: &[u8], soil: u32, slope:
         Place::Common { from, to: _ } => put_place(b"common", from),
         Place::Nowhere => put_place(b"none", 0),
     }
-    hex::put_hex(fills::lookup::row_of(own, common, member, soil, slope));
+    put_row(fills::lookup::row_of(own, common, member, soil, slope));
     io::write_all(STDOUT_FILENO, b"\r\n");
 }
 

@@ -1,13 +1,15 @@
 -- The buffer holds the bytes read so far, and behind them what it held; each turn reads one more, and a return stands where there is no digit or no room left.
 use Prim.Native.Nat.{_-_}
 use lib.ListN.{length}
-use Rattle.hex.proofs.Decoding.{SoFar, reads-next, read-all}
+use Rattle.hex.specs.Hex.{decoded}
+use Rattle.hex.proofs.Filling.{Filled}
+use Rattle.hex.proofs.Decoding.{reads-next, read-all}
 use borrow.Author.Needs.{needs}
 use Rattle.hex.proofs.decode.Statement.{statement}
 use Rattle.hex.proofs.decode.Tie as tie
 
 abbrev Inv-loop : tie.InvT-loop
-Inv-loop hex bytes₀ n i₀ bytes i = SoFar hex bytes₀ bytes i
+Inv-loop hex bytes₀ n i₀ bytes i = Filled (decoded hex) bytes₀ bytes i
 
 abbrev μ-loop : tie.MeasureT-loop
 μ-loop hex bytes₀ n i₀ bytes i = length bytes₀ - i

@@ -3,7 +3,6 @@
 use Prim.Native.Nat.{ℕ, suc, _≤_, _<_, _^_}
 use native.Mathlib.Omega.{arith}
 use mathlib.Core.Path.{_≡_, refl, sym, subst}
-use mathlib.Core.Bool.{true}
 use mathlib.Core.List.{List, []}
 use lib.IntN.{ℤ, pos, negsuc, natAbs}
 use lib.ListN.{length, length-append}
@@ -51,10 +50,6 @@ pub taken-load : {of : Kind} → Taken of → role of ≡ Load
 taken-load t = taken-kind t .1
 
 -- ---- a whole number as an entry
-
-pub entry-filled : (z : ℤ) → entry z .filled ≡ true
-entry-filled (pos n) = refl
-entry-filled (negsuc n) = refl
 
 pub entry-size : (z : ℤ) → entry z .size ≡ natAbs z
 entry-size (pos n) = refl
