@@ -75,7 +75,7 @@ fn nearest_of(bits: u64) -> Whole
     }
     let digits = FIELD + bits % FIELD;
     let half = 1u64 << (1074 - field);
-    let size = (digits + half) / (2 * half);
+    let size = arithmetic::rounding::down(digits + half, 2 * half);
     if BEYOND <= size {
         return Whole::Beyond;
     }

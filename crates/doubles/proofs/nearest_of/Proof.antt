@@ -8,7 +8,9 @@ use lib.Pow.{pow-mono, pow-pos, shl-exact}
 use lib.IntN.{pos}
 use lib.Ieee.{binary64, ofBits}
 use borrow.Author.Needs.{needs}
+use Rattle.arithmetic.specs.rounding.Least.{RoundedDown}
 use Rattle.arithmetic.specs.signed.Whole.{signed, amount}
+use Rattle.arithmetic.proofs.rounding.Laws.{greatest-one, down-div}
 use Rattle.doubles.specs.Doubles.{Nearest}
 use Rattle.doubles.proofs.Signs.{size-signed, amount-signed}
 use Rattle.doubles.proofs.Patterns.{below-half, from-half, beyond, reached}
@@ -23,7 +25,7 @@ field b = b % 2 ^ 63 / 2 ^ 52
 abbrev half : ℕ → ℕ
 half b = (1 * 2 ^ (1074 - field b)) % 2 ^ 64
 
--- what it answers
+-- the quotient that it takes, rounded down
 abbrev size : ℕ → ℕ
 size b = (2 ^ 52 + b % 2 ^ 52 + half b) / (2 * half b)
 
@@ -39,6 +41,9 @@ module _ (b : ℕ) (low : 1022 ≤ field b) where
 
   size-pos : 0 < size b
   size-pos = le-div-iff-mul-le {k = 2 * half b} {x = 1} {y = 2 ^ 52 + b % 2 ^ 52 + half b} (omega (arith, half-pos)) .1 (omega (arith, half-most))
+
+  size-is : (n : ℕ) → RoundedDown (2 ^ 52 + b % 2 ^ 52 + half b) (2 * half b) n → n ≡ size b
+  size-is n r = greatest-one r (down-div (2 ^ 52 + b % 2 ^ 52 + half b) (2 * half b) (omega (arith, half-pos)))
 
   near : field b ≤ 1054 → Nearest (ofBits binary64 b) (signed (leb (2 ^ 63) b) (size b))
   unfolding ofBits
@@ -65,28 +70,40 @@ sub-half c = search needs
 shl-half : tie.Need-shl-half
 shl-half c = search needs
 
-add-size : tie.Need-add-size
-add-size c = omega (arith, half-most (c .before .before .args .bits) (omega arith))
+add-down : tie.Need-add-down
+add-down c = omega (arith, half-most (c .before .before .args .bits) (omega arith))
 
-mul-size : tie.Need-mul-size
-mul-size c = omega (arith, half-most (c .before .before .args .bits) (omega arith))
+mul-down : tie.Need-mul-down
+mul-down c = omega (arith, half-most (c .before .before .args .bits) (omega arith))
 
-div-size : tie.Need-div-size
-div-size c = omega (arith, half-pos (c .before .before .args .bits) (omega arith))
+down-requires : tie.Need-down-requires
+down-requires c κs = omega (arith, half-pos (c .before .before .args .bits) (omega arith))
+
+-- the size that is told is that of the nearest number
+module _ (c : tie.After-down) where
+  abbrev b : ℕ
+  b = c .before .before .before .args .bits
+
+  is : c .down .result ≡ size b
+  is = size-is b (omega arith) (c .down .result) (c .down .ensures)
+
+  close : Nearest (ofBits binary64 b) (signed (leb (2 ^ 63) b) (c .down .result))
+  close = subst⁻¹ (λ (n : ℕ). Nearest (ofBits binary64 b) (signed (leb (2 ^ 63) b) n)) is (near b (omega arith) (omega arith))
 
 returns-3 : tie.Need-returns-3
 returns-3 c =
-    let b = c .before .before .before .args .bits in
-    reached (ofBits binary64 b) (leb (2 ^ 63) b) (size b) (near b (omega arith) (omega arith)) (omega arith)
+    let at = c .before in
+    reached (ofBits binary64 (b at)) (leb (2 ^ 63) (b at)) (at .down .result) (close at) (omega arith)
 
 returns-4 : tie.Need-returns-4
 returns-4 c =
-    let b = c .before .before .before .args .bits in
-    let s = leb (2 ^ 63) b in (
-      signed s (size b),
-      near b (omega arith) (omega arith),
-      amount-signed s (size b) (size-pos b (omega arith)),
-      omega (arith, size-signed s (size b)),
+    let at = c .before in
+    let s = leb (2 ^ 63) (b at) in
+    let n = at .down .result in (
+      signed s n,
+      close at,
+      amount-signed s n (omega (arith, is at, size-pos (b at) (omega arith))),
+      omega (arith, size-signed s n),
     )
 
 pub nearest-of-spec : {M : Type 1} → statement M
@@ -98,8 +115,8 @@ nearest-of-spec =
     add-digits
     sub-half
     shl-half
-    add-size
-    mul-size
-    div-size
+    add-down
+    mul-down
+    down-requires
     returns-3
     returns-4)
