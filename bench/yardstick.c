@@ -1,4 +1,4 @@
-/* The yardstick: document 01's printing program in plain C, with 02's kinds W and G, its trains and its fill books. A book on standard input, the own and
+/* The yardstick: document 01's printing program in plain C, with 02's kinds W and G, its trains, its fill books and its eighth field. A book on standard input, the own and
    the common fill book as files that its arguments name, the book's lines on standard output. The book is read once; load sets are walked as two tables of half sums with carried sums, all checks of a combination
    at once, and a quotient is only worked out where the figure gets worse. What it takes from the C library is declared
    here, so that the kit's compiler, which has no headers, compiles it. */
@@ -232,9 +232,9 @@ static u64 cube_root_up(u64 t) {
     return hi;
 }
 
-static u64 depth_needed(u64 d, u64 reach) {
+static u64 greatest_scour(u64 d, u64 reach) {
     static const u64 num[6] = {0, 5, 3, 7, 2, 11}, den[6] = {1, 4, 2, 4, 1, 4};
-    return div_up(133 * div_up(num[reach] * d, den[reach]), 100);
+    return div_up(num[reach] * d, den[reach]);
 }
 
 static u64 clearance_needed(u64 q) {
@@ -501,7 +501,16 @@ static void integer(i64 v) {
     if (v < 0) { PUT("-"); num(-(u64)v); } else num(v);
 }
 
-static int yes(int y) { put(y ? ",Y\r\n" : ",N\r\n", 4); return y; }
+/* Whether a value is the quotient of two numbers itself, or was rounded to it. */
+static const char *mark(u64 value, u64 by, u64 of) { return value * by == of ? "E" : "R"; }
+
+/* The end of a line with Y or N, and with E, R or nothing. */
+static int yes(int y, const char *exact) {
+    put(y ? ",Y," : ",N,", 3);
+    put(exact, strlen(exact));
+    PUT("\r\n");
+    return y;
+}
 
 static void head(const Job *j) {
     put(j->key.bytes, j->key.member_len);
@@ -510,7 +519,31 @@ static void head(const Job *j) {
     PUT(",");
 }
 
-static int line(const Job *j, const char *name, const char *check, const Worst *w, const char *top, u64 limit, int low) {
+/* The sums of a set, added up once more from its rows. */
+static Sums sums_of(const Sums *rows, u64 set) {
+    Sums s;
+    memset(&s, 0, sizeof s);
+    for (; set; set &= set - 1) s = plus(s, &rows[__builtin_ctzl(set)]);
+    return s;
+}
+
+/* Whether the figure of the set that a line names was rounded; nothing of a word. */
+static const char *mark_of(const Search *w, const Sums *rows, const char *check, const Worst *worst) {
+    u64 value = worst->value;
+    if (value == TOP) return "";
+    Sums s = sums_of(rows, worst->key & 0xFFFF);
+    u64 nb = s.n * w->b, m = s.m < 0 ? -s.m : s.m, h = s.h < 0 ? -s.h : s.h;
+    switch (check[0] << 8 | check[1]) {
+    case 'O' << 8 | 'P': return mark(value, s.op, 100 * (nb - s.m + s.op));
+    case 'O' << 8 | 'M': return mark(value, s.om, 100 * (nb + s.m + s.om));
+    case 'S' << 8 | 'L': return s.n <= 0 ? "E" : mark(value, 10 * h, w->friction * s.n);
+    case 'R' << 8 | 'K': return mark(value, 2 * nb, 1000 * m);
+    }
+    if (3 * m <= nb) return mark(value, w->b * w->b * w->l, 1000000 * (nb + 3 * m));
+    return mark(value, 3 * w->l * (nb - m), 4000000 * s.n * s.n);
+}
+
+static int line(const Job *j, const char *name, const char *check, const Worst *w, const char *top, u64 limit, int low, const char *exact) {
     head(j);
     put(name, strlen(name));
     put(check, 3);
@@ -519,19 +552,19 @@ static int line(const Job *j, const char *name, const char *check, const Worst *
     num(limit);
     PUT(",");
     num(w->key & 0xFFFF);
-    return yes(low ? w->value >= limit : w->value <= limit);
+    return yes(low ? w->value >= limit : w->value <= limit, exact);
 }
 
-static int lines_of(const Job *j, const char *name, const Search *s, u64 over, u64 slide, u64 press, int full, int rock) {
+static int lines_of(const Job *j, const char *name, const Search *s, const Sums *rows, u64 over, u64 slide, u64 press, int full, int rock) {
     int y = 1;
     if (s->pr.key == TOP) return 1;
     if (full) {
-        y &= line(j, name, "OP,", &s->op, "none", over, 1);
-        y &= line(j, name, "OM,", &s->om, "none", over, 1);
-        y &= line(j, name, "SL,", &s->sl, "none", slide, 1);
+        y &= line(j, name, "OP,", &s->op, "none", over, 1, mark_of(s, rows, "OP", &s->op));
+        y &= line(j, name, "OM,", &s->om, "none", over, 1, mark_of(s, rows, "OM", &s->om));
+        y &= line(j, name, "SL,", &s->sl, "none", slide, 1, mark_of(s, rows, "SL", &s->sl));
     }
-    y &= line(j, name, "PR,", &s->pr, "off", press, 0);
-    if (rock) y &= line(j, name, "RK,", &s->rk, "off", 250, 0);
+    y &= line(j, name, "PR,", &s->pr, "off", press, 0, mark_of(s, rows, "PR", &s->pr));
+    if (rock) y &= line(j, name, "RK,", &s->rk, "off", 250, 0, mark_of(s, rows, "RK", &s->rk));
     return y;
 }
 
@@ -539,7 +572,7 @@ static int lines_of(const Job *j, const char *name, const Search *s, u64 over, u
 static u32 lines(const Job *j) {
     if (j->out_of_range) return 11;
     int rock = j->base[4] == 1;
-    u64 needed = 0;
+    u64 scour = 0, needed = 0;
     if (j->has_scour) {
         u64 q = j->scour[0], z = j->scour[1], f = j->scour[2], w = j->scour[3];
         if (z > 25000) return 12;
@@ -550,7 +583,8 @@ static u32 lines(const Job *j) {
             if (i > 50000) return 13;
             d = rock ? 0 : cube_root_up(div_up(1338ull * 1338 * 1338 * i * i, 1000 * f));
         }
-        needed = depth_needed(d, j->scour[4]);
+        scour = greatest_scour(d, j->scour[4]);
+        needed = div_up(133 * scour, 100);
     }
     if (j->has_clear && j->clear[2] > j->clear[1]) return 14;
 
@@ -589,26 +623,26 @@ static u32 lines(const Job *j) {
     head(j);
     PUT("VERDICT,");
     u32 at = out_len;
-    PUT("A,,,\r\n");
+    PUT("A,,,,\r\n");
     int y = 1;
     Choice c;
     choose(&c, j, rows, 1);
     Search s = fresh(b, l, friction);
     power_trains(&s, &c.fixed, c.plain, c.np, c.trains, c.nt, 1, rock);
-    y &= lines_of(j, "I-", &s, 200, 150, p, 1, rock);
+    y &= lines_of(j, "I-", &s, rows, 200, 150, p, 1, rock);
     s = fresh(b, l, friction);
     power_with(&s, &c, c.wind, c.nw, 1, rock);
-    y &= lines_of(j, "II-", &s, 150, 125, p * 4 / 3, 1, rock);
+    y &= lines_of(j, "II-", &s, rows, 150, 125, p * 4 / 3, 1, rock);
     s = fresh(b, l, friction);
     power_with(&s, &c, c.quake, c.nq, 1, rock);
-    y &= lines_of(j, "III-", &s, 150, 125, p * 4 / 3, 1, rock);
+    y &= lines_of(j, "III-", &s, rows, 150, 125, p * 4 / 3, 1, rock);
     if (some_1) {
         choose(&c, j, rows, 0);
         s = fresh(b, l, friction);
         power_with(&s, &c, c.quake, c.nq, 0, rock);
         memcpy(c.plain + c.np, c.wind, c.nw * sizeof(Sums));
         power_trains(&s, &c.fixed, c.plain, c.np + c.nw, c.trains, c.nt, 0, rock);
-        y &= lines_of(j, "IV-", &s, 0, 0, p * 7 / 5, 0, rock);
+        y &= lines_of(j, "IV-", &s, rows, 0, 0, p * 7 / 5, 0, rock);
     }
     if (j->has_scour && !rock) {
         head(j);
@@ -617,19 +651,19 @@ static u32 lines(const Job *j) {
         PUT(",");
         num(j->scour[5]);
         PUT(",");
-        y &= yes(needed <= (u64)j->scour[5]);
+        y &= yes(needed <= (u64)j->scour[5], mark(needed, 100, 133 * scour));
     }
     if (j->has_clear) {
         u64 v = j->clear[0], area = j->clear[1], a = j->clear[2];
-        i64 rise = div_up((10 * v * v + 2724912) * (area * area - a * a), 178800 * a * a);
-        i64 value = (i64)j->clear[3] - j->clear[4] - rise, limit = clearance_needed(j->scour[0]);
+        u64 raised = (10 * v * v + 2724912) * (area * area - a * a), part = 178800 * a * a, rise = div_up(raised, part);
+        i64 value = (i64)j->clear[3] - j->clear[4] - (i64)rise, limit = clearance_needed(j->scour[0]);
         head(j);
         PUT("CL,");
         integer(value);
         PUT(",");
         num(limit);
         PUT(",");
-        y &= yes(value >= limit);
+        y &= yes(value >= limit, mark(rise, part, raised));
     }
     out[at] = y ? 'A' : 'N';
     return 0;
@@ -664,7 +698,7 @@ int main(int argc, char **argv) {
         num(no);
         PUT(",");
         num(row);
-        PUT(",,\r\n");
+        PUT(",,,\r\n");
     }
     for (int i = 0; i < count; i++) {
         u32 refusal = lines(&jobs[i]);
@@ -672,7 +706,7 @@ int main(int argc, char **argv) {
             head(&jobs[i]);
             PUT("VERDICT,");
             num(refusal);
-            PUT(",,,\r\n");
+            PUT(",,,,\r\n");
         }
     }
     for (u32 at = 0; at < out_len;) {

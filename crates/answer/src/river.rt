@@ -26,7 +26,7 @@ enum RowGives {
     Line(RiverLine),
 }
 
-// The S row: it is refused on rock too, where no depth is needed. SC needs value <= limit.
+// The S row: it is refused on rock too, where no depth is needed. SC needs value <= limit, and is as exact as the 1.33 (02, P7).
 fn depth_of(rock: bool, found: u64, answer: ScourAnswer) -> RowGives
     ensures { λ r. ⌜ DepthGiven rock found (scour-told answer) r ⌝ }
 {
@@ -40,28 +40,34 @@ fn depth_of(rock: bool, found: u64, answer: ScourAnswer) -> RowGives
             }
             let value = Amount {
                 minus: false,
-                size: needed,
+                size: needed.value,
             };
             RowGives::Line(RiverLine::Shown {
                 value,
                 limit: found,
-                passes: needed <= found,
+                passes: needed.value <= found,
+                exact: needed.exact,
             })
         }
     }
 }
 
-// The C row. CL needs value >= limit, and a value below zero is never enough.
+// The C row. CL needs value >= limit, and a value below zero is never enough; it is as exact as the afflux (02, P7).
 fn clear_of(answer: ClearanceAnswer) -> RowGives
     ensures { λ r. ⌜ ClearGiven answer r ⌝ }
 {
     match answer {
         ClearanceAnswer::OutOfRange => RowGives::Refused(11),
         ClearanceAnswer::OverObstructed => RowGives::Refused(14),
-        ClearanceAnswer::Given { clearance, needed } => RowGives::Line(RiverLine::Shown {
+        ClearanceAnswer::Given {
+            clearance,
+            needed,
+            exact,
+        } => RowGives::Line(RiverLine::Shown {
             value: clearance,
             limit: needed,
             passes: !clearance.minus & (needed <= clearance.size),
+            exact,
         }),
     }
 }

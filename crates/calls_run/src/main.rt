@@ -64,22 +64,22 @@ fn note(book: &[u8], row: usize) {
 }
 
 fn three_jobs(book: &[u8]) {
-    // The first job has lines of 128 bytes: a buffer that fits exactly, one byte short, none, and one with room to spare.
-    call(book, 1, 128);
-    call(book, 1, 127);
+    // The first job has lines of 136 bytes: a buffer that fits exactly, one byte short, none, and one with room to spare.
+    call(book, 1, 136);
+    call(book, 1, 135);
     call(book, 1, 0);
-    call(book, 1, 140);
-    // The second job is refused: its one line has 23 bytes, and the jobs before and after it go on.
+    call(book, 1, 148);
+    // The second job is refused: its one line has 24 bytes, and the jobs before and after it go on.
+    call(book, 2, 24);
     call(book, 2, 23);
-    call(book, 2, 22);
     call(book, 2, 0);
     call(book, 2, 30);
     // The last place, one past it and 0; and then with a buffer too short besides.
-    call(book, 3, 129);
+    call(book, 3, 135);
     call(book, 4, 160);
     call(book, 0, 160);
     call(book, 4, 0);
-    call(book, 0, 22);
+    call(book, 0, 23);
     // Notes as they stand in the book, and none where there is no such row.
     note(book, 1);
     note(book, 2);
@@ -125,11 +125,11 @@ fn read(name: &[u8], text: &mut [u8; 4096]) -> usize
 fn good_fills(earth: &[u8]) {
     let mut own = io::buffer();
     let table2 = fills::table2_book::bytes();
-    call(earth, 1, 130);
+    call(earth, 1, 138);
     let len = read(b"tested.own", &mut own);
-    call_with(earth, &own[..len], &table2, 1, 130);
+    call_with(earth, &own[..len], &table2, 1, 138);
     put_bytes(b"tested.own, no common rows");
-    call_with(earth, &own[..len], b"", 1, 140);
+    call_with(earth, &own[..len], b"", 1, 148);
     put_bytes(b"no own rows, no common rows");
     call_with(earth, b"", b"", 1, 30);
 }

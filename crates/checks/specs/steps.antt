@@ -1,3 +1,4 @@
+pub mod Rounded
 pub mod Ranks
 pub mod BySums
 pub mod HasCheck

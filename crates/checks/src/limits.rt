@@ -2,6 +2,7 @@
 // more are rounded down, and not taken as per cent.
 use crate::Base;
 use crate::Check;
+use arithmetic::rounding;
 use sets::Combination;
 ghost use Prim.Native.Nat.{_≤_};
 ghost use Rattle.checks.specs.steps.HasCheck.{HasCheck};
@@ -32,8 +33,8 @@ pub fn limit_of(combination: Combination, check: Check, base: Base) -> u64
         // In kN/m²: the allowable pressure, with a third more in II and III and two fifths more in IV (002, 6.7).
         Check::PR => match combination {
             Combination::I => base.allowable,
-            Combination::II | Combination::III => arithmetic::rounding::down(4 * base.allowable, 3),
-            Combination::IV => arithmetic::rounding::down(7 * base.allowable, 5),
+            Combination::II | Combination::III => rounding::down(4 * base.allowable, 3).value,
+            Combination::IV => rounding::down(7 * base.allowable, 5).value,
         },
         Check::RK => MIDDLE_HALF,
     }

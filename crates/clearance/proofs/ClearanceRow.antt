@@ -9,13 +9,13 @@ use Rattle.clearance.specs.declared.ClearanceAnswer.the-variants.{OutOfR
 
 back : ClearanceTold → ClearanceAnswer
 back (refused n) = cond (eqb n 11) OutOfRange OverObstructed
-back (given clearance needed) = Given clearance needed
+back (given clearance needed exact) = Given clearance needed exact
 
 back-told : (r : ClearanceAnswer) → back (clearance-told r) ≡ r
 unfolding back
 back-told OutOfRange = refl
 back-told OverObstructed = refl
-back-told (Given clearance needed) = refl
+back-told (Given clearance needed exact) = refl
 
 -- answers that tell the same are one
 pub clearance-told-one : (r s : ClearanceAnswer) → clearance-told r ≡ clearance-told s → r ≡ s

@@ -11,6 +11,7 @@ use Rattle.arithmetic.specs.signed.Whole.{worth, amount}
 use Rattle.arithmetic.specs.declared.signed.Amount.{Amount}
 use Rattle.arithmetic.proofs.Cases.{impossible}
 use Rattle.arithmetic.proofs.rounding.Laws.{least-one}
+use Rattle.arithmetic.proofs.rounding.Exactness.{rounding-one}
 use Rattle.kinds.specs.declared.Numbers.{Numbers}
 use Rattle.clearance.proofs.afflux.Rules.{clearance-needed-one}
 use Rattle.clearance.specs.ClearanceRow.{clearance-told, ClearanceSays, out-of-range, in-range}
@@ -25,8 +26,10 @@ module _ {row : Opening} {Q : ℕ} where
   cleared-one (over-obstructed h) (clear k l e n) = absurd (omega arith)
   cleared-one (clear h l d m) (over-obstructed k) = absurd (omega arith)
   cleared-one (clear {clearance = y} h l d m) (clear {clearance = z} k o e n) =
-      let same : y ≡ z = d ∙ ap (λ (afflux : ℕ). amount (worth (row .underside) -ℤ worth (row .flood) -ℤ pos afflux)) (least-one l o) ∙ sym e in
+      let afflux = rounding-one least-one l o in
+      let same : y ≡ z = d ∙ ap (λ (h : ℕ). amount (worth (row .underside) -ℤ worth (row .flood) -ℤ pos h)) (afflux .0) ∙ sym e in
       let needed = clearance-needed-one m n in
+      let exact = afflux .1 in
       cc
 
 pub clearance-says-one : {row : Numbers} {Q : ℕ} {t u : ClearanceTold} → ClearanceSays row Q t → ClearanceSays row Q u → t ≡ u

@@ -11,7 +11,7 @@ use Rattle.clearance.specs.Clear.{opening-of, ClearanceTold, refused, gi
 abbrev pub clearance-told : ClearanceAnswer → ClearanceTold
 clearance-told OutOfRange = refused 11
 clearance-told OverObstructed = refused 14
-clearance-told (Given clearance needed) = given clearance needed
+clearance-told (Given clearance needed exact) = given clearance needed exact
 
 -- "11, a number out of range"; else what the row's columns give
 pub data ClearanceSays (row : Numbers) (Q : ℕ) : ClearanceTold → Type 0 where

@@ -23,11 +23,16 @@ pub struct Opening {
     pub flood: Amount,
 }
 
-// What a C row is told: the clearance there is, underside - flood - afflux, and the clearance needed, in mm; or a refusal.
+// What a C row is told: the clearance there is, underside - flood - afflux, and the clearance needed, in mm, and whether the afflux is exact; or a
+// refusal.
 pub enum ClearanceAnswer {
     OutOfRange,
     OverObstructed,
-    Given { clearance: Amount, needed: u64 },
+    Given {
+        clearance: Amount,
+        needed: u64,
+        exact: bool,
+    },
 }
 
 // A C row by its columns. The rules take them in words of 64 bits.
@@ -63,9 +68,13 @@ pub fn clearance(row: Numbers, discharge: u64) -> ClearanceAnswer
         return ClearanceAnswer::OverObstructed;
     }
     let rise = afflux::afflux(opening.velocity, opening.area, opening.obstructed);
-    let clearance = clearance_under(opening.underside, opening.flood, rise);
+    let clearance = clearance_under(opening.underside, opening.flood, rise.value);
     let needed = afflux::clearance_needed(discharge);
-    ClearanceAnswer::Given { clearance, needed }
+    ClearanceAnswer::Given {
+        clearance,
+        needed,
+        exact: rise.exact,
+    }
 }
 
 // Underside - flood - afflux.

@@ -6,7 +6,9 @@
 // begin with p3 have LF or CF rows, and all whose names begin with train: train-ends.book with n6 at its ends and past them, naming rows
 // that are not LL, and beside each refusal of a job that comes before 18, the others as docs/DECISIONS.md works them out; those whose names
 // begin with p5 or surcharge have G rows: surcharge-ends.book at the ends of their ranges and past them, on both sides of 19, and beside each
-// refusal of load rows that comes before 19. A file that cannot be read to its end is told, and has no lines.
+// refusal of load rows that comes before 19; those whose names begin with p7 or exact, and using-exact.book, try what the eighth field says: exact-named-set.book has sets
+// of one printed figure, of which one is exact, exact-checks.book each check with an exact and with a rounded figure, exact-river.book the same of SC and
+// CL; docs/DECISIONS.md works them out. A file that cannot be read to its end is told, and has no lines.
 use libc::STDERR_FILENO;
 use libc::STDOUT_FILENO;
 

@@ -14,7 +14,7 @@ pub(crate) fn force_of(k: u64, area: u64, velocity: u64) -> u64
     arithmetic::rounding::up(
         k * area * (velocity * velocity) * 196_133,
         2_000_000_000_000_000,
-    )
+    ).value
 }
 
 // How high the force of a current stands above the base: a third of the way down from the upper wetted height is twice the upper and once
@@ -23,5 +23,5 @@ pub(crate) fn arm_of(upper: u64, lower: u64) -> u64
     requires { ⌜ (upper ≤ 60000) × (lower ≤ upper) ⌝ }
     ensures { λ r. ⌜ Arm upper lower r ⌝ }
 {
-    arithmetic::rounding::up(2 * upper + lower, 3)
+    arithmetic::rounding::up(2 * upper + lower, 3).value
 }

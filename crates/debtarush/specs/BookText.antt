@@ -1,5 +1,5 @@
 -- Document 01, The printed answer: the text of a whole book. "The printing program reads a book .. and prints its jobs in book order."
--- "A refused book prints `,,BOOK,number,row,,`"; so does a book whose fill books are refused (02, P4).
+-- "A refused book prints `,,BOOK,number,row,,`", with 02's empty eighth field behind it (P7); so does a book whose fill books are refused (02, P4).
 use Prim.Native.Nat.{ℕ, _≤_}
 use mathlib.Core.Path.{_≡_}
 use mathlib.Core.List.{List, [], _++_}

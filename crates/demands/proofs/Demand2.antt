@@ -11,19 +11,20 @@ use Rattle.sets.specs.declared.Combination.{Combination}
 use Rattle.checks.specs.declared.Check.{Check}
 use Rattle.lines.specs.declared.Verdict.{Verdict}
 use Rattle.lines.specs.declared.Verdict.the-variants.{Accepted, NotAccepted, Refused}
-use Rattle.lines.specs.Lines.{PrintedLine, check, accepted, not-accepted, number, verdict-value, verdict-line, unless-refused, later-lines, lines-of}
+use Rattle.lines.specs.Lines.{PrintedLine, accepted, not-accepted, number, verdict-value, verdict-line, unless-refused, later-lines, lines-of}
 use Rattle.answer.specs.Rules.{Unrefused}
 use Rattle.printing.specs.Text.{line-text, texts}
 use Rattle.printing.proofs.Injective.{line-injective, texts-injective}
 use Rattle.printing.specs.Keys.{IsKey}
 use Rattle.debtarush.specs.Lines.{LinesOf}
-use Rattle.demands.specs.CheckLine.{NamesSet, Checked, HasLine}
+use Rattle.demands.specs.CheckLine.{Checked, HasLine}
+use Rattle.demands.specs.EachLine.{LineTold}
 use Rattle.demands.specs.Sound.{Sound}
 use Rattle.demands.specs.Bytes.{CallWrote, StartsWith, Tells}
 use Rattle.demands.specs.Demand2.{Demand2}
 use Rattle.demands.proofs.Keys.{job-key}
 use Rattle.demands.proofs.Sound.{sound-accepted, accepted-sound}
-use Rattle.demands.proofs.Lines.{line-named, line-shown}
+use Rattle.demands.proofs.Lines.{line-told, line-shown}
 use Rattle.demands.proofs.Wrote.{WroteJob, call-on-job, wrote}
 
 -- the verdict line says the verdict
@@ -81,11 +82,8 @@ module _ (fill : ℕ → ℕ → Coefficient) {job : Job} {bytes : List ℕ} (c 
       let rest = texts (job .key) (unless-refused (did .text .is .answer .verdict) (later-lines (did .text .is .answer))) in
       record { rest = rest; are = subst (λ (x : Verdict). bytes ≡ line-text (job .key) (verdict-line x) ++ rest) v laid }
 
-  named : (key : Key) (lines : List PrintedLine) → Tells bytes key lines → (n : ℕ) (line : PrintedLine) → Nth lines n line
-      → (combination : Combination) (of : Check) → line .name ≡ check combination of → NamesSet fill job combination of line
-  named key lines t n line r combination of e =
-      let own-lines = lines-own key lines t in
-      line-named fill job (own-lines .is) (subst (λ (l : List PrintedLine). Nth l n line) (own-lines .are) r) e
+  each : (key : Key) (lines : List PrintedLine) → Tells bytes key lines → (n : ℕ) (line : PrintedLine) → Nth lines n line → LineTold fill job line (line .name)
+  each key lines t n line r = let own-lines = lines-own key lines t in line-told fill job (own-lines .is) (subst (λ (l : List PrintedLine). Nth l n line) (own-lines .are) r)
 
   shown : (key : Key) (lines : List PrintedLine) → Tells bytes key lines → Unrefused fill job
       → (combination : Combination) (of : Check) → Checked fill job combination of → HasLine lines combination of
@@ -96,4 +94,4 @@ module _ (fill : ℕ → ℕ → Coefficient) {job : Job} {bytes : List ℕ} (c 
 
 pub demand2 : Demand2
 demand2 fill job bytes c =
-    record { told = told fill c; nothing-else = nothing-else fill c; accepted = accepted-bytes fill c; accepts = accepts fill c; named = named fill c; shown = shown fill c }
+    record { told = told fill c; nothing-else = nothing-else fill c; accepted = accepted-bytes fill c; accepts = accepts fill c; each = each fill c; shown = shown fill c }

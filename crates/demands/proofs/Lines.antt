@@ -1,8 +1,8 @@
--- Each line of a check in a job's answer names a permitted set that reaches its figure, and none is worse; and no check that applies is left out.
+-- Each line of a job's answer is told as its name says: that of a check names a permitted set that reaches its figure, and none is worse; and no check
+-- that applies is left out.
 use Prim.Native.Nat.{ℕ}
 use mathlib.Core.Path.{_≡_, refl, sym, subst}
 use mathlib.Core.List.{List}
-use Rattle.arithmetic.proofs.Cases.{impossible}
 use Rattle.jobs.specs.declared.Job.{Job}
 use Rattle.earth.specs.declared.coefficients.Coefficient.{Coefficient}
 use Rattle.sets.specs.declared.Combination.{Combination}
@@ -23,80 +23,79 @@ use Rattle.lines.specs.declared.Verdict.the-variants.{Accepted, NotAccepted, Re
 use Rattle.lines.specs.declared.RiverLine.{RiverLine}
 use Rattle.lines.specs.declared.RiverLine.the-variants as river
 use Rattle.lines.specs.declared.Answer.{Answer}
-use Rattle.lines.specs.Lines.{LineName, PrintedLine, VERDICT, check, SC, CL, verdict-line, shown-line, check-line, combination-lines, river-line, later-lines, unless-refused, lines-of}
+use Rattle.lines.specs.Lines.{PrintedLine, check, SC, CL, verdict-line, shown-line, check-line, combination-lines, river-shown, river-line, later-lines, unless-refused, lines-of}
 use Rattle.answer.specs.Rules.{load-rows-of, Unrefused}
 use Rattle.lines.specs.verdicts.Verdict.{VerdictIs}
 use Rattle.answer.specs.Columns.{base-of}
+use Rattle.answer.specs.river.River.{DepthIs, ClearIs}
 use Rattle.answer.specs.Answer.{LinesAre, LinesGiven, refusal, AnswerIs, refused, answered}
 use Rattle.csv.specs.Nth.{Nth}
-use Rattle.demands.specs.CheckLine.{NamesSet}
+use Rattle.demands.specs.EachLine.{LineTold}
 use Rattle.demands.proofs.All as all
 
 module _ (fill : ℕ → ℕ → Coefficient) (job : Job) where
-  -- if it is the line of a check
-  IsNamed : PrintedLine → Type 0
-  IsNamed l = (combination : Combination) (of : Check) → l .name ≡ check combination of → NamesSet fill job combination of l
-
-  named-same : {c d : Combination} {k m : Check} {l : PrintedLine} → c ≡ d → k ≡ m → NamesSet fill job c k l → NamesSet fill job d m l
-  named-same {d = d} {k} {l = l} e f p = subst (λ (x : Check). NamesSet fill job d x l) f (subst (λ (x : Combination). NamesSet fill job x k l) e p)
+  Told : PrintedLine → Type 0
+  Told l = LineTold fill job l (l .name)
 
   module _ (unrefused : Unrefused fill job) (loads : Loads) (are : AreLoads fill (load-rows-of job) loads) where
-    check-named : (c : Combination) (k : Check) (l : Line) → worst.LineSays c k (base-of (job .base)) loads l → all.All IsNamed (check-line c k l)
-    unfolding IsNamed shown-line check-line worst.LineSays
-    check-named c k Missing p = all.none
-    check-named c k (Shown figure limit set passes) p =
-        all.more
-        (λ d m e. named-same (cc) (cc) (record { unrefused = unrefused; loads = loads; are = are; figure = figure; limit = limit; set = set; passes = passes; shown = p; is = refl }))
+    check-told : (c : Combination) (k : Check) (l : Line) → worst.LineSays c k (base-of (job .base)) loads l → all.All Told (check-line c k l)
+    unfolding Told shown-line check-line worst.LineSays
+    check-told c k Missing p = all.none
+    check-told c k (Shown figure limit set passes exact) p =
+        all.more {x = shown-line c k figure limit set passes exact}
+        (record { unrefused = unrefused; loads = loads; are = are; figure = figure; limit = limit; set = set; passes = passes; exact = exact; shown = p; is = refl })
         all.none
 
-    lines-named : (c : Combination) (l : Lines) → LinesAre c (base-of (job .base)) loads l → all.All IsNamed (combination-lines c l)
+    lines-told : (c : Combination) (l : Lines) → LinesAre c (base-of (job .base)) loads l → all.All Told (combination-lines c l)
     unfolding combination-lines worst.line
-    lines-named c l p =
-        all.all-append (check-named c OP (l .op) (p OP))
-        (all.all-append (check-named c OM (l .om) (p OM))
-        (all.all-append (check-named c SL (l .sl) (p SL)) (all.all-append (check-named c PR (l .pr) (p PR)) (check-named c RK (l .rk) (p RK)))))
+    lines-told c l p =
+        all.all-append (check-told c OP (l .op) (p OP))
+        (all.all-append (check-told c OM (l .om) (p OM))
+        (all.all-append (check-told c SL (l .sl) (p SL)) (all.all-append (check-told c PR (l .pr) (p PR)) (check-told c RK (l .rk) (p RK)))))
 
-  -- VERDICT, SC and CL are no line of a check
-  other-named : (l : PrintedLine) → ((combination : Combination) (of : Check) → l .name ≡ check combination of → ⊥) → IsNamed l
-  unfolding IsNamed
-  other-named l n c k e = absurd (n c k e)
+  depth-told : (l : RiverLine) → DepthIs job l → all.All Told (river-line SC l)
+  unfolding Told river-line river-shown
+  depth-told river.Missing p = all.none
+  depth-told (river.Shown depth found passes exact) p =
+      all.more {x = river-shown SC depth found passes exact} (record { depth = depth; found = found; passes = passes; exact = exact; shown = p; is = refl }) all.none
 
-  river-named : (name : LineName) → ((combination : Combination) (of : Check) → name ≡ check combination of → ⊥) → (l : RiverLine) → all.All IsNamed (river-line name l)
-  unfolding river-line
-  river-named name n river.Missing = all.none
-  river-named name n (river.Shown value limit passes) = all.more (other-named _ n) all.none
+  clear-told : (l : RiverLine) → ClearIs job l → all.All Told (river-line CL l)
+  unfolding Told river-line river-shown
+  clear-told river.Missing p = all.none
+  clear-told (river.Shown clearance needed passes exact) p =
+      all.more {x = river-shown CL clearance needed passes exact} (record { clearance = clearance; needed = needed; passes = passes; exact = exact; shown = p; is = refl }) all.none
 
-  verdict-named : (v : Verdict) → IsNamed (verdict-line v)
-  unfolding verdict-line
-  verdict-named v = other-named _ (λ c k (e : VERDICT ≡ check c k). impossible cc)
+  verdict-told : (v : Verdict) → Told (verdict-line v)
+  unfolding Told verdict-line
+  verdict-told v = refl
 
-  unless-named : (v : Verdict) {later : List PrintedLine} → all.All IsNamed later → all.All IsNamed (unless-refused v later)
+  unless-told : (v : Verdict) {later : List PrintedLine} → all.All Told later → all.All Told (unless-refused v later)
   unfolding unless-refused
-  unless-named Accepted p = p
-  unless-named NotAccepted p = p
-  unless-named (Refused n) p = all.none
+  unless-told Accepted p = p
+  unless-told NotAccepted p = p
+  unless-told (Refused n) p = all.none
 
-  given-named : (a : Answer) → LinesGiven fill job a → all.All IsNamed (lines-of a)
+  given-told : (a : Answer) → LinesGiven fill job a → all.All Told (lines-of a)
   unfolding lines-of later-lines
-  given-named a g =
-      all.more (verdict-named (a .verdict))
-      (unless-named (a .verdict)
-      (all.all-append (lines-named (g .unrefused) (g .loads) (g .are) I (a .one) (g .one))
-      (all.all-append (lines-named (g .unrefused) (g .loads) (g .are) II (a .two) (g .two))
-      (all.all-append (lines-named (g .unrefused) (g .loads) (g .are) III (a .three) (g .three))
-      (all.all-append (lines-named (g .unrefused) (g .loads) (g .are) IV (a .four) (g .four)) (all.all-append (river-named SC (λ c k e. impossible cc) (a .depth)) (river-named CL (λ c k e. impossible cc) (a .clear))))))))
+  given-told a g =
+      all.more (verdict-told (a .verdict))
+      (unless-told (a .verdict)
+      (all.all-append (lines-told (g .unrefused) (g .loads) (g .are) I (a .one) (g .one))
+      (all.all-append (lines-told (g .unrefused) (g .loads) (g .are) II (a .two) (g .two))
+      (all.all-append (lines-told (g .unrefused) (g .loads) (g .are) III (a .three) (g .three))
+      (all.all-append (lines-told (g .unrefused) (g .loads) (g .are) IV (a .four) (g .four)) (all.all-append (depth-told (a .depth) (g .depth)) (clear-told (a .clear) (g .clear))))))))
 
-  refusal-named : (n : ℕ) → all.All IsNamed (lines-of (refusal n))
+  refusal-told : (n : ℕ) → all.All Told (lines-of (refusal n))
   unfolding lines-of unless-refused
-  refusal-named n = all.more (verdict-named (Refused n)) all.none
+  refusal-told n = all.more (verdict-told (Refused n)) all.none
 
-  answer-named : {a : Answer} → AnswerIs fill job a → all.All IsNamed (lines-of a)
-  answer-named (refused {n} p e) = subst (λ (x : Answer). all.All IsNamed (lines-of x)) (sym e) (refusal-named n)
-  answer-named {a} (answered g) = given-named a g
+  answer-told : {a : Answer} → AnswerIs fill job a → all.All Told (lines-of a)
+  answer-told (refused {n} p e) = subst (λ (x : Answer). all.All Told (lines-of x)) (sym e) (refusal-told n)
+  answer-told {a} (answered g) = given-told a g
 
-  pub line-named : {a : Answer} {n : ℕ} {l : PrintedLine} {c : Combination} {k : Check} → AnswerIs fill job a → Nth (lines-of a) n l → l .name ≡ check c k → NamesSet fill job c k l
-  unfolding IsNamed
-  line-named {c = c} {k} p r e = all.all-at (answer-named p) r c k e
+  pub line-told : {a : Answer} {n : ℕ} {l : PrintedLine} → AnswerIs fill job a → Nth (lines-of a) n l → LineTold fill job l (l .name)
+  unfolding Told
+  line-told p r = all.all-at (answer-told p) r
 
 -- a line of this check in this combination
 IsOf : Combination → Check → PrintedLine → Type 0
@@ -107,7 +106,7 @@ module _ (fill : ℕ → ℕ → Coefficient) (job : Job) (loads : Loads) (are :
     check-shown : (k : Check) (l : Line) → worst.LineSays c k (base-of (job .base)) loads l → Limit c k (base-of (job .base)) limit → all.Some (IsOf c k) (check-line c k l)
     unfolding IsOf shown-line check-line worst.LineSays
     check-shown k Missing p h = absurd (p limit h set permitted)
-    check-shown k (Shown figure limit s passes) p h = all.here refl
+    check-shown k (Shown figure limit s passes exact) p h = all.here refl
 
     lines-shown : (k : Check) (l : Lines) → LinesAre c (base-of (job .base)) loads l → Limit c k (base-of (job .base)) limit → all.Some (IsOf c k) (combination-lines c l)
     unfolding combination-lines worst.line

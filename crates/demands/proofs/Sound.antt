@@ -44,15 +44,15 @@ module _ (combination : Combination) (base : Base) (loads : Loads) where
   line-holds : (check : Check) (l : Line) → worst.LineSays combination check base loads l → LineYes l → AllPass combination check base loads
   unfolding worst.LineSays AllPass
   line-holds check Missing p y limit h set figure a b = absurd (p limit h set a)
-  line-holds check (Shown v n s passes) p y limit h set figure a b =
-      let d = decided passes y (worst-decides combination check base loads v n s passes p) set figure a b in
+  line-holds check (Shown v n s passes exact) p y limit h set figure a b =
+      let d = decided passes y (worst-decides combination check base loads v n s passes exact p) set figure a b in
       subst (λ (m : ℕ). Passes (side check) m figure) (limit-one combination check base n limit (p .limited) h) d
 
   line-yes : (check : Check) (l : Line) → worst.LineSays combination check base loads l → AllPass combination check base loads → LineYes l
   unfolding worst.LineSays AllPass
   line-yes check Missing p h = tt
-  line-yes check (Shown v n s true) p h = refl
-  line-yes check (Shown v n s false) p h = absurd (p .marked (h n (p .limited) s v (p .named .permitted) (p .named .reaches)))
+  line-yes check (Shown v n s true exact) p h = refl
+  line-yes check (Shown v n s false exact) p h = absurd (p .marked (h n (p .limited) s v (p .named .permitted) (p .named .reaches)))
 
   lines-hold : (l : Lines) → LinesAre combination base loads l → LinesYes l → (check : Check) → AllPass combination check base loads
   unfolding worst.line

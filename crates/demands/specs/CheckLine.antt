@@ -18,7 +18,8 @@ use Rattle.lines.specs.Lines.{PrintedLine, check, shown-line}
 use Rattle.answer.specs.Rules.{load-rows-of, Unrefused}
 use Rattle.answer.specs.Columns.{base-of}
 
--- its job isn't refused; it shows the figure of the permitted set that it names, beside the limit; no permitted set is worse (`CheckShown`)
+-- its job isn't refused; it shows the figure of the permitted set that it names, beside the limit; no permitted set is worse; and a number has E
+-- exactly if the figure of that set is exact, else R (`CheckShown`)
 pub record NamesSet (fill : ℕ → ℕ → Coefficient) (job : Job) (combination : Combination) (of : Check) (line : PrintedLine) : Type 0 where
   pub unrefused : Unrefused fill job
   pub loads : Loads
@@ -27,8 +28,9 @@ pub record NamesSet (fill : ℕ → ℕ → Coefficient) (job : Job) (combinatio
   pub limit : ℕ
   pub set : ℕ
   pub passes : Bool
-  pub shown : CheckShown combination of (base-of (job .base)) loads figure limit set passes
-  pub is : line ≡ shown-line combination of figure limit set passes
+  pub exact : Bool
+  pub shown : CheckShown combination of (base-of (job .base)) loads figure limit set passes exact
+  pub is : line ≡ shown-line combination of figure limit set passes exact
 
 -- the combination has the check, by its limit, and permits a set of the job's loads
 pub record Checked (fill : ℕ → ℕ → Coefficient) (job : Job) (combination : Combination) (of : Check) : Type 0 where

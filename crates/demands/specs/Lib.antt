@@ -1,6 +1,7 @@
 pub mod Bytes
 pub mod Sound
 pub mod CheckLine
+pub mod EachLine
 pub mod Pieces
 pub mod SameValues
 pub mod Demand1

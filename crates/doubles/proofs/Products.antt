@@ -2,7 +2,7 @@
 use mathlib.Core.Path.{_≡_, sym, ap, ap₂, _∙_, subst, subst₂}
 use mathlib.Core.Bool.{Bool, true, false, cond}
 use Prim.Native.Nat.{ℕ, suc, _+_, _*_, _^_, _<_}
-use native.Mathlib.Nat.{mul-one, mul-pos, mul-right-comm, mul-mul-mul-comm, eq-of-mul-eq-mul-right, lt-of-lt-of-le}
+use native.Mathlib.Nat.{mul-one, mul-pos, mul-right-comm, mul-mul-mul-comm, lt-of-lt-of-le}
 use lib.Dec.{lit≤, eqb}
 use lib.Pow.{shl-lt}
 use lib.IntN.{ℤ, natAbs, _*ℤ_}
@@ -11,6 +11,7 @@ use lib.Ieee.Fits.{down-pos}
 use lib.Ieee.Exact.{HasValue, round-exact}
 use Rattle.doubles.specs.Doubles.{Finite, Exactly}
 use Rattle.doubles.proofs.Signs.{size-signed, signed-product}
+use Rattle.doubles.proofs.Wholes.{lowest}
 
 -- a product with an infinity
 endless : {A : Type 0} (b s : Bool) → Finite (cond b nan (inf s)) → A
@@ -26,16 +27,6 @@ mul-finite (inf s) (fin t n d) f = endless (eqb n 0) (unlike s t) f
 mul-finite (fin s m e) nan f = absurd f
 mul-finite (fin s m e) (inf t) f = endless (eqb m 0) (unlike s t) f
 mul-finite (fin s m e) (fin t n d) f = (tt, tt)
-
--- the same size over a denominator of 1
-lowest : (x : Float) (s : Bool) (num den w : ℕ) → 0 < den → num ≡ w * den → HasValue x s num den → HasValue x s w 1
-lowest nan s num den w p h v = v
-lowest (inf t) s num den w p h v = v
-lowest (fin t m e) s num den w p h v = (
-  v .0,
-  eq-of-mul-eq-mul-right den p (m * up e * 1) (w * down e)
-      (ap (λ (k : ℕ). k * den) (mul-one (m * up e)) ∙ v .1 ∙ ap (λ (k : ℕ). k * down e) h ∙ mul-right-comm w den (down e)),
-)
 
 -- a whole number below 2^53 is far below the largest double
 far : (q : ℕ) → q < 2 ^ 53 → q * 2 ^ 1074 < 2 ^ (1074 + suc 1023)

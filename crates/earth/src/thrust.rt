@@ -9,12 +9,12 @@ pub(crate) fn thrust_of(k: u64, height: u64, length: u64) -> u64
     requires { ⌜ (k ≤ 40000) × (height ≤ 15000) × (length ≤ 60000) ⌝ }
     ensures { λ r. ⌜ Thrust k height length r ⌝ }
 {
-    arithmetic::rounding::up(k * (height * height) * length, 2_000_000_000_000)
+    arithmetic::rounding::up(k * (height * height) * length, 2_000_000_000_000).value
 }
 
 // How high the thrust of a fill stands above the base.
 pub(crate) fn arm_of(height: u64) -> u64
     ensures { λ r. ⌜ Arm height r ⌝ }
 {
-    arithmetic::rounding::up(height, 3)
+    arithmetic::rounding::up(height, 3).value
 }

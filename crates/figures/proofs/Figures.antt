@@ -2,23 +2,27 @@
 use mathlib.Core.Path.{refl}
 use native.Mathlib.Nat.{not-le-of-lt}
 use lib.Dec.{lit<, lit≤}
+use lib.Count.{ones}
 use lib.Ieee.{ofBits, mul}
 use Rattle.arithmetic.proofs.Cases.{impossible, unlike}
-use Rattle.arithmetic.proofs.rounding.Compute.{up-test, cube-test, cube-test′}
+use Rattle.arithmetic.proofs.rounding.Compute.{up-test, rounds-up-test, cube-test, cube-test′}
 use Rattle.scour.specs.discharge.Discharge.{to-500, to-5000, to-25000}
 use Rattle.earth.specs.Earth.{has-coefficient}
 use Rattle.current.specs.Current.{pushes}
-use Rattle.arithmetic.specs.signed.Whole.{worth, amount, above, below}
+use Rattle.arithmetic.specs.signed.Whole.{signed, worth, amount, above, below}
 use Rattle.sets.specs.Sets.{bit, row}
-use Rattle.sums.specs.Totals.{counted, sum, arm, v-moment, h-moment, resists, overturns, resisting, overturning}
-use Rattle.checks.specs.ranks.Figures.{Presses}
-use Rattle.kinds.specs.classes.Classes.{class-of, optional}
+use Rattle.sums.specs.Totals.{counted, countedℤ, sum, sumℤ, arm, v-moment, h-moment, moment, resists, overturns, resisting, overturning, N, H, M}
+use Rattle.checks.specs.steps.Rounded.{Presses}
+use Rattle.kinds.specs.classes.Classes.{class-of, source, optional}
 use Rattle.loads.specs.LoadRows.{optionals}
-use Rattle.figures.specs.Figures.{needed, surcharge, optional-rows, position, named, braked-set, pressure, pressure-either, load-row, AllHold, none, more, starred, worked, trained, laden, sent}
+use Rattle.lines.specs.Lines.{figure-exactness, exactness-of}
+use Rattle.figures.specs.Figures.{needed, surcharge, optional-rows, position, named, braked-set, pressure, pressure-either, load-row, line-in-I, AllHold, none, more, starred, worked, trained, laden, sent, told}
 use Rattle.figures.proofs.Loaded.{overturns-test}
 use Rattle.figures.proofs.Laden.{near-test, far-test}
 use Rattle.figures.proofs.Sent.{whole-shown, line-shown, pressure-shown}
 use Rattle.figures.proofs.Recorded.{dead-given, wind-given}
+use Rattle.figures.proofs.Told.{eighth-shown}
+use Rattle.figures.proofs.Printed.{printed-in-I}
 use Rattle.figures.proofs.Trained.{position-0, braking-ranged, position-17, first-named, second-named, itself-named, past-named, braked-permitted, without-train}
 
 pub figures : AllHold starred
@@ -29,11 +33,11 @@ figures =
     (more (to-25000 (lit< tt) (lit≤ tt) (up-test _ _ _ tt))
     (more (lit≤ tt)
     (more (not-le-of-lt (lit< tt))
-    (more (cube-test _ _ _ tt)
-    (more {x = needed _ _ _} (record { greatest = 10326; scour = up-test _ _ _ tt; rounded = up-test _ _ _ tt })
-    (more (cube-test′ _ _ _ tt)
-    (more (cube-test′ _ _ _ tt)
-    (more (up-test _ _ _ tt)
+    (more (cube-test _ _ _ _ tt)
+    (more {x = needed _ _ _ _} (record { greatest = 10326; scour = up-test _ _ _ tt; rounded = rounds-up-test _ _ _ _ tt })
+    (more (cube-test′ _ _ _ _ tt)
+    (more (cube-test′ _ _ _ _ tt)
+    (more (rounds-up-test _ _ _ _ tt)
     (more (has-coefficient refl (up-test _ _ _ tt) (up-test _ _ _ tt))
     (more (overturns-test _ _ _ _ _ _ tt tt)
     (more (overturns-test _ _ _ _ _ _ tt tt)
@@ -117,10 +121,39 @@ reaction-figures =
     (whole-shown tt
     (whole-shown tt
     (whole-shown tt
+    (whole-shown tt
     (line-shown tt
     (line-shown tt
     (line-shown tt
     (pressure-shown tt
     (more {x = load-row _ _ _ _ _ _} dead-given
     (more {x = load-row _ _ _ _ _ _} wind-given
-    none))))))))))))))
+    none)))))))))))))))
+
+pub exactness-figures : AllHold told
+unfolding class-of source signed worth amount bit row sum counted sumℤ countedℤ resists overturns v-moment h-moment moment arm above below N H M resisting overturning figure-exactness exactness-of ones
+exactness-figures =
+    eighth-shown tt tt tt
+    (eighth-shown tt tt tt
+    (eighth-shown tt tt tt
+    (eighth-shown tt tt tt
+    (eighth-shown tt tt tt
+    (more {x = line-in-I _ _ _ _ _ _ _} (printed-in-I _ tt tt tt tt tt _ tt)
+    (eighth-shown tt tt tt
+    (eighth-shown tt tt tt
+    (eighth-shown tt tt tt
+    (eighth-shown tt tt tt
+    (eighth-shown tt tt tt
+    (eighth-shown tt tt tt
+    (eighth-shown tt tt tt
+    (eighth-shown tt tt tt
+    (eighth-shown tt tt tt
+    (eighth-shown tt tt tt
+    (eighth-shown tt tt tt
+    (eighth-shown tt tt tt
+    (more {x = needed _ _ _ _} (record { greatest = 100; scour = up-test _ _ _ tt; rounded = rounds-up-test _ _ _ _ tt })
+    (more {x = needed _ _ _ _} (record { greatest = 5; scour = up-test _ _ _ tt; rounded = rounds-up-test _ _ _ _ tt })
+    (more (cube-test _ _ _ _ tt)
+    (more (rounds-up-test _ _ _ _ tt)
+    (more (rounds-up-test _ _ _ _ tt)
+    none))))))))))))))))))))))

@@ -15,7 +15,7 @@ use Rattle.sets.specs.declared.Loads.{Loads}
 use Rattle.sets.specs.Sets.{no-load}
 use Rattle.sums.specs.Totals.{plus, resisting, overturning}
 use Rattle.checks.specs.declared.Figure.the-variants.{Number}
-use Rattle.checks.specs.ranks.Figures.{Tips}
+use Rattle.checks.specs.steps.Rounded.{Tips}
 use Rattle.checks.specs.set_figures.Figures.{Shows}
 use Rattle.kinds.specs.classes.Classes.{class-of, source}
 use Rattle.loads.specs.forces.Exerts.{Forces, Exerts}

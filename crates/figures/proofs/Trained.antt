@@ -64,12 +64,37 @@ unfolding Every LiveAt NamesLive
 past-named all = all .1 .1 .0
 
 -- ---- the sets of I
+-- of three rows, one by one
+of-three : (P : ℕ → Type 0) → P 0 → P 1 → P 2 → (i : ℕ) → i < 3 → P i
+of-three P a b c zero h = a
+of-three P a b c (suc zero) h = b
+of-three P a b c (suc (suc zero)) h = c
+of-three P a b c (suc (suc (suc i))) h = absurd (omega arith)
+
+-- a dead load in the middle of the base and two free rows of H alone, the last with its train
+module _ (v h₁ y₁ train h₂ y₂ : ℕ) where
+  abbrev pub dead-and-free : Loads
+  dead-and-free = record { count = 3; loads = exerted Permanent 0 v 0 0 0 ∷ exerted Free 0 0 0 h₁ y₁ ∷ exerted Free train 0 0 h₂ y₂ ∷ replicate 13 no-load }
+
+  -- a set with the dead load, in which the last row has its train
+  pub permitted-with : (set : ℕ) → set < 8 → bit set 0 ≡ 1 → (bit set 2 ≡ 1 → HasTrain train set) → Permitted I dead-and-free set
+  unfolding row Acts own-phase Has Mixed HasTrain
+  permitted-with set low dead led =
+      record {
+        some = omega (arith, sym (first-bit set) ∙ dead);
+        within = low;
+        permanent = of-three (λ i. (row dead-and-free i) .class ≡ Permanent → Acts I ((row dead-and-free i) .phase) → bit set i ≡ 1) (λ e a. dead) (λ e a. impossible cc) (λ e a. impossible cc);
+        acting = of-three (λ i. bit set i ≡ 1 → Acts I ((row dead-and-free i) .phase)) (λ b. inl refl) (λ b. inl refl) (λ b. inl refl);
+        mixed = (none-of Wind (λ e. impossible cc) (λ e. impossible cc), none-of Earthquake (λ e. impossible cc) (λ e. impossible cc));
+        trained = of-three (λ i. bit set i ≡ 1 → HasTrain ((row dead-and-free i) .train) set) (λ b. tt) (λ b. tt) led;
+        erection = λ e. impossible cc;
+      }
+    where
+      none-of : (class : Class) → (Permanent ≡ class → ⊥) → (Free ≡ class → ⊥) → Has class dead-and-free set → ⊥
+      none-of class p f w = of-three (λ i. (row dead-and-free i) .class ≡ class → ⊥) p f f (w .0) (w .1) (w .3)
+
 braked-loads : Loads
-braked-loads =
-    record {
-      count = 3;
-      loads = exerted Permanent 0 6000 0 0 0 ∷ exerted Free 0 0 0 0 0 ∷ exerted Free 2 0 0 300 6000 ∷ replicate 13 no-load;
-    }
+braked-loads = dead-and-free 6000 0 0 2 300 6000
 
 braked-are : AreLoads table2-fill (braked 2) braked-loads
 unfolding braked-loads Laid class-of source Forces signed
@@ -86,32 +111,9 @@ braked-are =
       );
     }
 
--- of the three rows, one by one
-of-three : (P : ℕ → Type 0) → P 0 → P 1 → P 2 → (i : ℕ) → i < 3 → P i
-of-three P a b c zero h = a
-of-three P a b c (suc zero) h = b
-of-three P a b c (suc (suc zero)) h = c
-of-three P a b c (suc (suc (suc i))) h = absurd (omega arith)
-
--- a set with DL, in which LF has its train
-permitted-with : (set : ℕ) → set < 8 → bit set 0 ≡ 1 → (bit set 2 ≡ 1 → bit set 1 ≡ 1) → Permitted I braked-loads set
-unfolding braked-loads row Acts own-phase Has Mixed HasTrain
-permitted-with set low dead led =
-    record {
-      some = omega (arith, sym (first-bit set) ∙ dead);
-      within = low;
-      permanent = of-three (λ i. (row braked-loads i) .class ≡ Permanent → Acts I ((row braked-loads i) .phase) → bit set i ≡ 1) (λ e a. dead) (λ e a. impossible cc) (λ e a. impossible cc);
-      acting = of-three (λ i. bit set i ≡ 1 → Acts I ((row braked-loads i) .phase)) (λ b. inl refl) (λ b. inl refl) (λ b. inl refl);
-      mixed = (none-of Wind (λ e. impossible cc) (λ e. impossible cc), none-of Earthquake (λ e. impossible cc) (λ e. impossible cc));
-      trained = of-three (λ i. bit set i ≡ 1 → HasTrain ((row braked-loads i) .train) set) (λ b. tt) (λ b. tt) led;
-      erection = λ e. impossible cc;
-    }
-  where
-    none-of : (class : Class) → (Permanent ≡ class → ⊥) → (Free ≡ class → ⊥) → Has class braked-loads set → ⊥
-    none-of class p f w = of-three (λ i. (row braked-loads i) .class ≡ class → ⊥) p f f (w .0) (w .1) (w .3)
-
 pub braked-permitted : (set : ℕ) → set < 8 → bit set 0 ≡ 1 → (bit set 2 ≡ 1 → bit set 1 ≡ 1) → Permits (braked 2) set true
-braked-permitted set low dead led = record { loads = braked-loads; its-loads = braked-are; decides = permitted-with set low dead led }
+unfolding braked-loads HasTrain
+braked-permitted set low dead led = record { loads = braked-loads; its-loads = braked-are; decides = permitted-with 6000 0 0 2 300 6000 set low dead led }
 
 pub without-train : Permits (braked 2) 5 false
 unfolding row bit HasTrain braked-loads

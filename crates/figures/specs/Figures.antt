@@ -8,10 +8,12 @@ use lib.IntN.{ℤ, pos, negℤ}
 use lib.Ieee.{Float, binary64, ofBits}
 use lib.ListN.{replicate}
 use Rattle.arithmetic.specs.decides.Decides.{Decides}
+use Rattle.arithmetic.specs.rounding.Least.{RoundedUp}
+use Rattle.arithmetic.specs.rounding.Rounding.{Rounding}
 use Rattle.fields.specs.declared.Entry.{Entry}
 use Rattle.fields.specs.Numbers.{positive, absent}
 use Rattle.kinds.specs.declared.Kind.{Kind}
-use Rattle.kinds.specs.declared.Kind.the-variants.{DL, LL, LF, WL}
+use Rattle.kinds.specs.declared.Kind.the-variants.{DL, LL, LF, WC, TM, WL}
 use Rattle.kinds.specs.declared.Kind.the-variants as kind
 use Rattle.kinds.specs.declared.Row.{Row}
 use Rattle.kinds.specs.Table.{letters, blank-numbers}
@@ -27,12 +29,18 @@ use Rattle.sets.specs.declared.Combination.the-variants.{I}
 use Rattle.sets.specs.declared.Loads.{Loads}
 use Rattle.sets.specs.Sets.{Permitted}
 use Rattle.checks.specs.declared.Base.{Base}
-use Rattle.checks.specs.declared.Check.the-variants.{OP}
-use Rattle.checks.specs.declared.Figure.the-variants.{Number}
-use Rattle.checks.specs.ranks.Figures.{PressesWhole, PressesPart, Presses}
-use Rattle.checks.specs.set_figures.Figures.{Shows}
+use Rattle.checks.specs.declared.Check.{Check}
+use Rattle.checks.specs.declared.Check.the-variants.{OP, SL, PR, RK}
+use Rattle.checks.specs.declared.Figure.{Figure}
+use Rattle.checks.specs.declared.Figure.the-variants.{Nothing, Number, Off}
+use Rattle.checks.specs.ranks.Figures.{PressesWhole, PressesPart}
+use Rattle.checks.specs.steps.Rounded.{Presses}
+use Rattle.checks.specs.set_figures.Figures.{Shows, ShowsExactly}
 use Rattle.loads.specs.LoadRows.{AllNamed, optionals, AreLoads}
-use Rattle.doubles.specs.Doubles.{Nearest}
+use Rattle.lines.specs.declared.Line.the-variants.{Shown}
+use Rattle.lines.specs.Lines.{ExactOrRounded, unsaid, E, R, figure-exactness}
+use Rattle.worst.specs.Lines.{LineSays}
+use Rattle.doubles.specs.Doubles.{Exactly, Nearest}
 use Rattle.reactions.specs.declared.xdr.FrameLoad.the-variants.{Line, Pressure}
 use Rattle.reactions.specs.Force.{kilonewtons}
 use Rattle.reactions.specs.Reacts.{GivesRow}
@@ -52,6 +60,18 @@ braking n = written LF 0 0 300 6000 (positive n)
 abbrev pub braked : ℕ → List Row
 braked n = dead-load 6000 0 0 0 ∷ written LL 0 0 0 0 absent ∷ braking n ∷ []
 
+-- a row of H and y alone
+abbrev pub pushing : Kind → (h y : ℕ) → Row
+pushing k h y = written k 0 0 h y absent
+
+-- a DL row in the middle of the base and a current beside it, at this y
+abbrev pub current-at : ℕ → List Row
+current-at y = dead-load 1000 0 0 0 ∷ pushing WC 100 y ∷ []
+
+-- the same with a third row: OP is printed as 200 without it, and with it
+abbrev pub twice-200 : List Row
+twice-200 = dead-load 1000 0 0 0 ∷ pushing WC 100 9999 ∷ pushing TM 1 100 ∷ []
+
 -- a row of a kind, whatever its numbers
 abbrev pub row-of : Kind → Row
 row-of k = record { kind = k; numbers = blank-numbers }
@@ -68,11 +88,30 @@ pub record Permits (rows : List Row) (set : ℕ) (permitted : Bool) : Type 0 whe
   pub its-loads : AreLoads table2-fill rows loads
   pub decides : Decides permitted (Permitted I loads set)
 
+-- 02, P7: the eighth field of a check's line that names this set, where the loads are those of these rows and of no other
+pub record Eighth (rows : List Row) (of : Check) (base : Base) (set : ℕ) (figure : Figure) (field : ExactOrRounded) : Type 0 where
+  pub loads : Loads
+  pub its-loads : AreLoads table2-fill rows loads
+  pub shows : Shows of base loads set figure
+  pub exact : Bool
+  pub told : Decides exact (ShowsExactly of base loads set figure)
+  pub is : field ≡ figure-exactness figure exact
+
+-- the line of a check in I, among all the sets that it permits: value, limit, set, Y or N, E or R
+pub record LineInI (rows : List Row) (of : Check) (base : Base) (figure : Figure) (limit set : ℕ) (passes exact : Bool) : Type 0 where
+  pub loads : Loads
+  pub its-loads : AreLoads table2-fill rows loads
+  pub says : LineSays I of base loads (Shown figure limit set passes exact)
+
+-- the base of these: width 4,000, length 8,000, allowable pressure 300, friction 600, soil
+abbrev pub four-by-eight : Base
+four-by-eight = record { width = 4000; length = 8000; allowable = 300; friction = 600; rock = false }
+
 -- PR by either rule
 pub record PressesEither (B L N M figure : ℕ) : Type 0 where
   pub presses : Presses B L N M (Number figure)
-  pub whole : PressesWhole B L N M figure
-  pub part : PressesPart B L N M figure
+  pub whole : PressesWhole RoundedUp B L N M figure
+  pub part : PressesPart RoundedUp B L N M figure
 
 -- the double that these 64 bits are
 abbrev pub double : ℕ → Float
@@ -82,10 +121,10 @@ double bits = ofBits binary64 bits
 pub data WorkedFigure : Type 0 where
   flood : (Q Z Qf : ℕ) → WorkedFigure
   width : (Q W : ℕ) (met : Bool) → WorkedFigure
-  depth : (Qf f D : ℕ) → WorkedFigure
-  needed : (D reach d : ℕ) → WorkedFigure
-  constricted : (q f D : ℕ) → WorkedFigure
-  afflux : (v A a h : ℕ) → WorkedFigure
+  depth : (Qf f D : ℕ) (exact : Bool) → WorkedFigure
+  needed : (D reach d : ℕ) (exact : Bool) → WorkedFigure
+  constricted : (q f D : ℕ) (exact : Bool) → WorkedFigure
+  afflux : (v A a h : ℕ) (exact : Bool) → WorkedFigure
   earth : (soil slope height length H y : ℕ) → WorkedFigure
   current : (shape area velocity upper lower H y : ℕ) → WorkedFigure
   surcharge : (standard dead soil h L H₁ y₁ H₂ y₂ : ℕ) → WorkedFigure
@@ -96,18 +135,20 @@ pub data WorkedFigure : Type 0 where
   overturning : (B v x h y figure : ℕ) → WorkedFigure
   pressure : (B L N M figure : ℕ) → WorkedFigure
   pressure-either : (B L N M figure : ℕ) → WorkedFigure
-  nearest-whole : (bits : ℕ) (whole : ℤ) → WorkedFigure
+  nearest-whole : (bits : ℕ) (whole : ℤ) (exact : Bool) → WorkedFigure
   line-load : (load length : ℕ) (whole : ℤ) → WorkedFigure
   pressure-load : (load side other : ℕ) (whole : ℤ) → WorkedFigure
   load-row : (member job kind : List ℕ) (phase : ℕ) (sent row : List ℕ) → WorkedFigure
+  eighth : (rows : List Row) (of : Check) (set : ℕ) (figure : Figure) (field : ExactOrRounded) → WorkedFigure
+  line-in-I : (rows : List Row) (of : Check) (figure : Figure) (limit set : ℕ) (passes exact : Bool) → WorkedFigure
 
 abbrev pub Holds : WorkedFigure → Type 0
 Holds (flood Q Z Qf) = FoundationDischarge Q Z Qf
 Holds (width Q W met) = Decides met (RegimeMet Q W)
-Holds (depth Qf f D) = RegimeDepth Qf f D
-Holds (needed D reach d) = DepthNeeded D reach d
-Holds (constricted q f D) = ConstrictedDepth q f D
-Holds (afflux v A a h) = Afflux v A a h
+Holds (depth Qf f D exact) = RegimeDepth Qf f D exact
+Holds (needed D reach d exact) = DepthNeeded D reach d exact
+Holds (constricted q f D exact) = ConstrictedDepth q f D exact
+Holds (afflux v A a h exact) = Afflux v A a h exact
 Holds (earth soil slope height length H y) = Pushed table2-fill (record { soil = soil; slope = slope; height = height; length = length }) (push H y)
 Holds (current shape area velocity upper lower H y) =
     water.CurrentRule (record { shape = shape; area = area; velocity = velocity; upper = upper; lower = lower }) (water.push H y)
@@ -121,10 +162,12 @@ Holds (braked-set set permitted) = Permits (braked 2) set permitted
 Holds (overturning B v x h y figure) = Overturns B (dead-load v x h y) figure
 Holds (pressure B L N M figure) = Presses B L N M (Number figure)
 Holds (pressure-either B L N M figure) = PressesEither B L N M figure
-Holds (nearest-whole bits whole) = Nearest (double bits) whole
+Holds (nearest-whole bits whole exact) = Rounding (Nearest (double bits)) (Exactly (double bits)) whole exact
 Holds (line-load load length whole) = Nearest (kilonewtons (Line (double load) (double length))) whole
 Holds (pressure-load load side other whole) = Nearest (kilonewtons (Pressure (double load) (double side) (double other))) whole
 Holds (load-row member job kind phase sent row) = GivesRow member job kind phase sent row
+Holds (eighth rows of set figure field) = Eighth rows of four-by-eight set figure field
+Holds (line-in-I rows of figure limit set passes exact) = LineInI rows of four-by-eight figure limit set passes exact
 
 -- all of a list hold
 pub data AllHold : List WorkedFigure → Type 0 where
@@ -136,6 +179,7 @@ pub data AllHold : List WorkedFigure → Type 0 where
 -- *Qf = 1,300,000, f = 1,000: D = 5,163; reach 4 needs 13,734.
 -- *q = 8,000, f = 1,000: D = 5,352. *8,001: 5,353.
 -- *v = 3,000, A = 1,200, a = 1,000: 229.
+-- 02, P7: of these depths and this afflux one is exact, the D of q = 8,000, which is 4 times 1,338.
 -- *Soil a, level, 6,000 by 8,000: 664 at y 2,000.
 -- *B 4,000, one row of V 1,000 at x 0, H 100: y 10,000 gives OP 200, *10,001 gives 199.
 -- *B 4,000, L 8,000, N 1,000, M = 2,000,000: PR 84.
@@ -147,11 +191,11 @@ starred =
     ∷ flood 1000000 25000 1100000
     ∷ width 1000000 152908 true
     ∷ width 1000000 152907 false
-    ∷ depth 1300000 1000 5163
-    ∷ needed 5163 4 13734
-    ∷ constricted 8000 1000 5352
-    ∷ constricted 8001 1000 5353
-    ∷ afflux 3000 1200 1000 229
+    ∷ depth 1300000 1000 5163 false
+    ∷ needed 5163 4 13734 false
+    ∷ constricted 8000 1000 5352 true
+    ∷ constricted 8001 1000 5353 false
+    ∷ afflux 3000 1200 1000 229 false
     ∷ earth 1 1 6000 8000 664 2000
     ∷ overturning 4000 1000 0 100 10000 200
     ∷ overturning 4000 1000 0 100 10001 199
@@ -255,25 +299,58 @@ abbrev pub wind-row : List ℕ
 wind-row = 0x4B ∷ 0x37 ∷ 0x2C ∷ 0x50 ∷ 0x2D ∷ 0x31 ∷ 0x32 ∷ 0x2C ∷ 0x57 ∷ 0x4C ∷ 0x2C ∷ 0x33 ∷ 0x32 ∷ 0x2C ∷ 0x2D ∷ 0x32 ∷ 0x35 ∷ 0x31 ∷ 0x2C ∷ 0x34 ∷ 0x30 ∷ 0x2C ∷ 0x34 ∷ 0x35 ∷ 0x30 ∷ 0x30 ∷ 0x2C ∷ 0x32 ∷ 0x2C ∷ 0x2C ∷ 0x0D ∷ 0x0A ∷ []
 
 -- P6, reactions: each double by its bits. It "goes to the nearest whole kN or mm, halves away from zero": 0.49999999999999994, the double before 0.5, and 0.5; -0.5; 2.5 and
--- -2.5; -0.4, whose 0 has no sign; 49,999.5; -0.0; and the smallest double above 0.
+-- -2.5; -0.4, whose 0 has no sign; 49,999.5; -0.0; the smallest double above 0; and 2. -0.0 and 2 alone are exact (P7): each is the whole number that it goes to.
 -- "Products are taken in doubles, left to right, each rounded once": 12.5 kN/m over 3.2 m; 1.4 over 7.5, where the exact product of the two doubles is less than 10.5 and
 -- the nearest double is 10.5; 250 over 24; and 1.4 kN/m² by 7.5 m by 3 m, 31.5, where 1.4 by the product of the sides is 31.499999999999996, and 1.4 by 3 by 7.5 less still.
 -- "A record holds a vertical load, x, a horizontal load and y", and "the output is a load row": the two records.
 abbrev pub sent : List WorkedFigure
 sent =
-    nearest-whole 0x3FDFFFFFFFFFFFFF (pos 0)
-    ∷ nearest-whole 0x3FE0000000000000 (pos 1)
-    ∷ nearest-whole 0xBFE0000000000000 (negℤ (pos 1))
-    ∷ nearest-whole 0x4004000000000000 (pos 3)
-    ∷ nearest-whole 0xC004000000000000 (negℤ (pos 3))
-    ∷ nearest-whole 0xBFD999999999999A (pos 0)
-    ∷ nearest-whole 0x40E869F000000000 (pos 50000)
-    ∷ nearest-whole 0x8000000000000000 (pos 0)
-    ∷ nearest-whole 1 (pos 0)
+    nearest-whole 0x3FDFFFFFFFFFFFFF (pos 0) false
+    ∷ nearest-whole 0x3FE0000000000000 (pos 1) false
+    ∷ nearest-whole 0xBFE0000000000000 (negℤ (pos 1)) false
+    ∷ nearest-whole 0x4004000000000000 (pos 3) false
+    ∷ nearest-whole 0xC004000000000000 (negℤ (pos 3)) false
+    ∷ nearest-whole 0xBFD999999999999A (pos 0) false
+    ∷ nearest-whole 0x40E869F000000000 (pos 50000) false
+    ∷ nearest-whole 0x8000000000000000 (pos 0) true
+    ∷ nearest-whole 1 (pos 0) false
+    ∷ nearest-whole 0x4000000000000000 (pos 2) true
     ∷ line-load 0x4029000000000000 0x400999999999999A (pos 40)
     ∷ line-load 0x3FF6666666666666 0x401E000000000000 (pos 11)
     ∷ line-load 0x406F400000000000 0x4038000000000000 (pos 6000)
     ∷ pressure-load 0x3FF6666666666666 0x401E000000000000 0x4008000000000000 (pos 32)
     ∷ load-row K7 P-12 (letters DL) 0 dead-sent dead-row
     ∷ load-row K7 P-12 (letters WL) 2 wind-sent wind-row
+    ∷ []
+
+-- P7, was it exactly 200? "A printed 200 may be 200 or 200.9": with the current at y 10,000 OP is 200, and at 9,960 200.8. "Words .. have it empty": the DL row alone, which
+-- nothing overturns, and PR without weight. "By the named set": of two sets that print OP 200 the line in I names 3, which has fewer rows, and that one's is 200.02, where 7 has exactly 200.
+-- "A value that takes no rounding, such as SL 0 without weight, is E"; SL 0.6 is printed as 0 too, and is R. PR 40 and 39.97 by the rule for the whole base, 100 and 99.9 by that
+-- for a part; 37.5 and 106.7, where the other rule's would be exact. RK 0, 125 and 124.5. "SC reports the rounding of the 1.33": it is 133 of a greatest scour of 99.75, rounded to 100, and
+-- 6.65 of one of exactly 5. D of 1,300 l/s with a silt factor of 1,300 is 473. "CL that of the afflux": 176 and 175.8.
+abbrev pub told : List WorkedFigure
+told =
+    eighth (current-at 10000) OP 3 (Number 200) E
+    ∷ eighth (current-at 9960) OP 3 (Number 200) R
+    ∷ eighth twice-200 OP 1 Nothing unsaid
+    ∷ eighth twice-200 OP 3 (Number 200) R
+    ∷ eighth twice-200 OP 7 (Number 200) E
+    ∷ line-in-I twice-200 OP (Number 200) 200 3 true false
+    ∷ eighth (dead-load 0 0 100 1000 ∷ []) SL 1 (Number 0) E
+    ∷ eighth (dead-load 0 0 100 1000 ∷ []) PR 1 Off unsaid
+    ∷ eighth (dead-load 1 0 100 1000 ∷ []) SL 1 (Number 0) R
+    ∷ eighth (dead-load 1280 0 0 0 ∷ []) PR 1 (Number 40) E
+    ∷ eighth (dead-load 1279 0 0 0 ∷ []) PR 1 (Number 40) R
+    ∷ eighth (dead-load 1200 1000 0 0 ∷ []) PR 1 (Number 100) E
+    ∷ eighth (dead-load 1200 999 0 0 ∷ []) PR 1 (Number 100) R
+    ∷ eighth (dead-load 1200 0 0 0 ∷ []) PR 1 (Number 38) R
+    ∷ eighth (dead-load 1280 1000 0 0 ∷ []) PR 1 (Number 107) R
+    ∷ eighth (dead-load 1000 0 0 0 ∷ []) RK 1 (Number 0) E
+    ∷ eighth (dead-load 1000 500 0 0 ∷ []) RK 1 (Number 125) E
+    ∷ eighth (dead-load 1000 498 0 0 ∷ []) RK 1 (Number 125) R
+    ∷ needed 57 3 133 true
+    ∷ needed 4 1 7 false
+    ∷ depth 1300 1300 473 true
+    ∷ afflux 1788 2900 2100 176 true
+    ∷ afflux 1787 2900 2100 176 false
     ∷ []

@@ -60,23 +60,23 @@ fn wide(agree: u64, waterway: u64, says: u64) -> u64
 }
 
 fn regime(agree: u64) -> u64 {
-    let depth = scour::lacey::regime_depth(1_300_000, 1000);
+    let depth = scour::lacey::regime_depth(1_300_000, 1000).value;
     let next = asked::figure(agree, b"D of Qf 1300000, f ", 1000, depth, 5163);
-    let needed = scour::lacey::depth_needed(depth, 4);
+    let needed = scour::lacey::depth_needed(depth, 4).value;
     asked::figure(next, b"depth needed of that D, reach ", 4, needed, 13_734)
 }
 
 fn constricted(agree: u64, q: u64, says: u64) -> u64
     requires { ⌜ q ≤ 50000 ⌝ }
 {
-    let came = scour::lacey::constricted_depth(q, 1000);
+    let came = scour::lacey::constricted_depth(q, 1000).value;
     asked::figure(agree, b"D of f 1000, q ", q, came, says)
 }
 
 fn raised(agree: u64, obstructed: u64, says: u64) -> u64
     requires { ⌜ (1 ≤ obstructed) × (obstructed ≤ 1200) ⌝ }
 {
-    let came = clearance::afflux::afflux(3000, 1200, obstructed);
+    let came = clearance::afflux::afflux(3000, 1200, obstructed).value;
     asked::figure(
         agree,
         b"afflux of v 3000, A 1200, a ",

@@ -45,17 +45,34 @@ pub data YesOrNo : Type 0 where
   Y : YesOrNo
   N : YesOrNo
 
--- "Seven fields: member, job, line, value, limit, set, Y or N": the five behind the key
+-- 02, P7, "E or R": empty where the value is no number
+pub data ExactOrRounded : Type 0 where
+  unsaid : ExactOrRounded
+  E : ExactOrRounded
+  R : ExactOrRounded
+
+-- "Seven fields: member, job, line, value, limit, set, Y or N", and 02, P7: "an eighth field, E or R": the six behind the key
 pub record PrintedLine : Type 0 where
   pub name : LineName
   pub value : Value
   pub limit : NumberField
   pub set : NumberField
   pub mark : YesOrNo
+  pub exactness : ExactOrRounded
 
 unfoldable pub mark-of : Bool → YesOrNo
 mark-of true = Y
 mark-of false = N
+
+unfoldable pub exactness-of : Bool → ExactOrRounded
+exactness-of true = E
+exactness-of false = R
+
+-- 02, P7: "each line with a numeric value gains an eighth field"; "Words .. have it empty."
+unfoldable pub figure-exactness : Figure → Bool → ExactOrRounded
+figure-exactness Nothing exact = unsaid
+figure-exactness (Number n) exact = exactness-of exact
+figure-exactness Off exact = unsaid
 
 unfoldable pub value-of : Figure → Value
 value-of Nothing = none
@@ -71,19 +88,19 @@ verdict-value Accepted = accepted
 verdict-value NotAccepted = not-accepted
 verdict-value (Refused n) = number n
 
--- "VERDICT comes first, with A, N or the refusal and the rest empty."
+-- "VERDICT comes first, with A, N or the refusal and the rest empty.", the eighth field too (02, P7)
 unfoldable pub verdict-line : Verdict → PrintedLine
-verdict-line verdict = record { name = VERDICT; value = verdict-value verdict; limit = empty; set = empty; mark = unmarked }
+verdict-line verdict = record { name = VERDICT; value = verdict-value verdict; limit = empty; set = empty; mark = unmarked; exactness = unsaid }
 
--- value, limit, set, Y or N of a check in a combination
-unfoldable pub shown-line : Combination → Check → Figure → (limit set : ℕ) → Bool → PrintedLine
-shown-line combination of figure limit set passes =
-    record { name = check combination of; value = value-of figure; limit = holds limit; set = holds set; mark = mark-of passes }
+-- value, limit, set, Y or N, E or R of a check in a combination
+unfoldable pub shown-line : Combination → Check → Figure → (limit set : ℕ) → (passes exact : Bool) → PrintedLine
+shown-line combination of figure limit set passes exact =
+    record { name = check combination of; value = value-of figure; limit = holds limit; set = holds set; mark = mark-of passes; exactness = figure-exactness figure exact }
 
 -- the line of a check in a combination, where it applies
 unfoldable pub check-line : Combination → Check → Line → List PrintedLine
 check-line combination of line.Missing = []
-check-line combination of (line.Shown figure limit set passes) = shown-line combination of figure limit set passes ∷ []
+check-line combination of (line.Shown figure limit set passes exact) = shown-line combination of figure limit set passes exact ∷ []
 
 -- "for each checked combination .. OP, OM, SL, PR, RK as they apply"
 unfoldable pub combination-lines : Combination → Lines → List PrintedLine
@@ -95,10 +112,13 @@ combination-lines combination lines =
     ++ check-line combination RK (lines .rk))))
 
 -- "SC (.. value needed, limit found)", "CL (.. value underside - flood - afflux)", limit the clearance needed. "SC and CL have no set."
+unfoldable pub river-shown : LineName → Amount → (limit : ℕ) → (passes exact : Bool) → PrintedLine
+river-shown name value limit passes exact =
+    record { name = name; value = signed-value value; limit = holds limit; set = empty; mark = mark-of passes; exactness = exactness-of exact }
+
 unfoldable pub river-line : LineName → RiverLine → List PrintedLine
 river-line name river.Missing = []
-river-line name (river.Shown value limit passes) =
-    record { name = name; value = signed-value value; limit = holds limit; set = empty; mark = mark-of passes } ∷ []
+river-line name (river.Shown value limit passes exact) = river-shown name value limit passes exact ∷ []
 
 -- "Then for each checked combination, I to IV, .. SC .., CL"
 unfoldable pub later-lines : Answer → List PrintedLine

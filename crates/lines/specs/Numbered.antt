@@ -8,7 +8,7 @@ use Rattle.lines.specs.declared.Answer.{Answer}
 -- A set number of 16 load rows is below 65,536.
 unfoldable pub SetFits : Line → Type 0
 SetFits line.Missing = Unit {0}
-SetFits (line.Shown figure limit set passes) = set < 65536
+SetFits (line.Shown figure limit set passes exact) = set < 65536
 
 pub record SetsFit (lines : Lines) : Type 0 where
   pub op : SetFits (lines .op)

@@ -10,7 +10,7 @@ ghost use mathlib.Core.Path.{_≡_};
 ghost use Rattle.lines.specs.Lines.{no-lines};
 ghost use Rattle.lines.specs.Alone.{Alone};
 
-// The line of a check: value, limit, set, and whether it says Y.
+// The line of a check: value, limit, set, whether it says Y, and whether its value is exact, with nothing rounded away (02, P7).
 pub enum Line {
     Missing,
     Shown {
@@ -18,6 +18,7 @@ pub enum Line {
         limit: u64,
         set: u64,
         passes: bool,
+        exact: bool,
     },
 }
 
@@ -37,14 +38,15 @@ pub enum Verdict {
     Refused(u8),
 }
 
-// SC or CL: the value and the limit, in mm, and whether it says Y. Of SC the value is the depth needed, and the limit the foundation
-// depth found; of CL underside - flood - afflux, and the clearance needed.
+// SC or CL: the value and the limit, in mm, whether it says Y, and whether the value is exact. Of SC the value is the depth needed, and the
+// limit the foundation depth found; of CL underside - flood - afflux, and the clearance needed.
 pub enum RiverLine {
     Missing,
     Shown {
         value: Amount,
         limit: u64,
         passes: bool,
+        exact: bool,
     },
 }
 

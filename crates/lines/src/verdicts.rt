@@ -22,6 +22,7 @@ fn line_yes(line: Line) -> bool
             limit: _,
             set: _,
             passes,
+            exact: _,
         } => passes,
     }
 }
@@ -36,6 +37,7 @@ fn river_yes(line: RiverLine) -> bool
             value: _,
             limit: _,
             passes,
+            exact: _,
         } => passes,
     }
 }

@@ -14,9 +14,9 @@ use Rattle.sets.specs.declared.Combination.{Combination}
 use Rattle.sets.specs.declared.Combination.the-variants.{I, II, III, IV}
 use Rattle.checks.specs.declared.Check.{Check}
 use Rattle.checks.specs.declared.Check.the-variants.{OP, OM, SL, PR, RK}
-use Rattle.lines.specs.Lines.{LineName, VERDICT, check, SC, CL, Value, accepted, not-accepted, none, off, number, minus, NumberField, empty, holds, YesOrNo, unmarked, Y, N}
+use Rattle.lines.specs.Lines.{LineName, VERDICT, check, SC, CL, Value, accepted, not-accepted, none, off, number, minus, NumberField, empty, holds, YesOrNo, unmarked, Y, N, ExactOrRounded, unsaid, E, R}
 use Rattle.block.specs.Decimal.{decimal}
-use Rattle.printing.specs.line_fields.Text.{HYPHEN, combination-text, check-text, name-text, value-text, number-text, mark-text}
+use Rattle.printing.specs.line_fields.Text.{HYPHEN, combination-text, check-text, name-text, value-text, number-text, mark-text, exactness-text}
 use Rattle.block.proofs.Numbers.{decimal-numeral, decimal-plain, decimal-some}
 
 -- ---- where a field ends
@@ -110,12 +110,18 @@ unfolding number-text Without
 cell-without empty = tt
 cell-without (holds n) = decimal-without COMMA n (omega arith)
 
--- the last field ends at CR
-pub mark-without : (m : YesOrNo) → Without CR (mark-text m)
+pub mark-without : (m : YesOrNo) → Without COMMA (mark-text m)
 unfolding mark-text apart
-mark-without unmarked = without-test CR (mark-text unmarked) tt
-mark-without Y = without-test CR (mark-text Y) tt
-mark-without N = without-test CR (mark-text N) tt
+mark-without unmarked = without-test COMMA (mark-text unmarked) tt
+mark-without Y = without-test COMMA (mark-text Y) tt
+mark-without N = without-test COMMA (mark-text N) tt
+
+-- the last field ends at CR
+pub exactness-without : (x : ExactOrRounded) → Without CR (exactness-text x)
+unfolding exactness-text apart
+exactness-without unsaid = without-test CR (exactness-text unsaid) tt
+exactness-without E = without-test CR (exactness-text E) tt
+exactness-without R = without-test CR (exactness-text R) tt
 
 -- ---- what a field says, read back
 
@@ -220,3 +226,13 @@ unfolding read-mark mark-text
 mark-read unmarked = refl
 mark-read Y = refl
 mark-read N = refl
+
+pub read-exactness : List ℕ → ExactOrRounded
+unfolding first-byte
+read-exactness t = cond (eqb (length t) 0) unsaid (cond (eqb (first-byte t) 0x45) E R)
+
+pub exactness-read : (x : ExactOrRounded) → read-exactness (exactness-text x) ≡ x
+unfolding read-exactness exactness-text
+exactness-read unsaid = refl
+exactness-read E = refl
+exactness-read R = refl

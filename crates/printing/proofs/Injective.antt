@@ -10,16 +10,17 @@ use Rattle.fields.specs.names.Names.{name, NameOf}
 use Rattle.rows.specs.declared.keys.Key.{Key}
 use Rattle.lines.specs.Lines.{PrintedLine}
 use Rattle.printing.specs.line_key.Text.{name-bytes, key-text}
-use Rattle.printing.specs.line_fields.Text.{name-text, value-text, number-text, mark-text}
+use Rattle.printing.specs.line_fields.Text.{name-text, value-text, number-text, mark-text, exactness-text}
 use Rattle.printing.specs.Keys.{IsKey}
 use Rattle.printing.specs.Text.{line-text, texts}
-use Rattle.printing.proofs.Fields.{Without, until-first, name-without, line-name-without, value-without, cell-without, mark-without, read-back, read-name, name-read, read-value, value-read, read-cell, cell-read, read-mark, mark-read}
+use Rattle.printing.proofs.Fields.{Without, until-first, name-without, line-name-without, value-without, cell-without, mark-without, exactness-without, read-back, read-name, name-read, read-value, value-read, read-cell, cell-read, read-mark, mark-read, read-exactness, exactness-read}
 
 -- ---- a line, and what follows it
 
 line-laid : (key : Key) (l : PrintedLine) (later : List ℕ) → line-text key l ++ later
     ≡ name-bytes (key .member) ++ (COMMA ∷ (name-bytes (key .job) ++ (COMMA ∷ (name-text (l .name) ++ (COMMA ∷ (value-text (l .value)
-    ++ (COMMA ∷ (number-text (l .limit) ++ (COMMA ∷ (number-text (l .set) ++ (COMMA ∷ (mark-text (l .mark) ++ (CR ∷ (LF ∷ later))))))))))))))
+    ++ (COMMA ∷ (number-text (l .limit) ++ (COMMA ∷ (number-text (l .set) ++ (COMMA ∷ (mark-text (l .mark)
+    ++ (COMMA ∷ (exactness-text (l .exactness) ++ (CR ∷ (LF ∷ later))))))))))))))))
 unfolding line-text key-text
 line-laid key l later = simp append-assoc
 
@@ -41,17 +42,19 @@ module _ (k k′ : Key) (l l′ : PrintedLine) (later later′ : List ℕ)
       let d = until-first COMMA _ _ _ _ (value-without (l .value)) (value-without (l′ .value)) (c .1) in
       let f = until-first COMMA _ _ _ _ (cell-without (l .limit)) (cell-without (l′ .limit)) (d .1) in
       let g = until-first COMMA _ _ _ _ (cell-without (l .set)) (cell-without (l′ .set)) (f .1) in
-      let h = until-first CR _ _ _ _ (mark-without (l .mark)) (mark-without (l′ .mark)) (g .1) in
+      let h = until-first COMMA _ _ _ _ (mark-without (l .mark)) (mark-without (l′ .mark)) (g .1) in
+      let x = until-first CR _ _ _ _ (exactness-without (l .exactness)) (exactness-without (l′ .exactness)) (h .1) in
       let names = read-back name-text read-name name-read _ _ (c .0) in
       let values = read-back value-text read-value value-read _ _ (d .0) in
       let limits = read-back number-text read-cell cell-read _ _ (f .0) in
       let sets = read-back number-text read-cell cell-read _ _ (g .0) in
       let marks = read-back mark-text read-mark mark-read _ _ (h .0) in
+      let exactness = read-back exactness-text read-exactness exactness-read _ _ (x .0) in
       record {
         members = a .0;
         jobs = b .0;
-        lines = λ i. record { name = names i; value = values i; limit = limits i; set = sets i; mark = marks i };
-        rest = cc (h .1);
+        lines = λ i. record { name = names i; value = values i; limit = limits i; set = sets i; mark = marks i; exactness = exactness i };
+        rest = cc (x .1);
       }
 
 -- ---- lines

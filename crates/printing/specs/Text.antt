@@ -5,9 +5,9 @@ use Rattle.rows.specs.declared.keys.Key.{Key}
 use Rattle.lines.specs.Lines.{PrintedLine}
 use Rattle.block.specs.Fields.{field, line-end}
 use Rattle.printing.specs.line_key.Text.{key-text}
-use Rattle.printing.specs.line_fields.Text.{name-text, value-text, number-text, mark-text}
+use Rattle.printing.specs.line_fields.Text.{name-text, value-text, number-text, mark-text, exactness-text}
 
--- "Seven fields: member, job, line, value, limit, set, Y or N."
+-- "Seven fields: member, job, line, value, limit, set, Y or N.", and 02, P7: "an eighth field, E or R"
 unfoldable pub line-text : Key → PrintedLine → List ℕ
 line-text key line =
     key-text key
@@ -16,7 +16,8 @@ line-text key line =
     ++ (field (number-text (line .limit))
     ++ (field (number-text (line .set))
     ++ (field (mark-text (line .mark))
-    ++ line-end)))))
+    ++ (field (exactness-text (line .exactness))
+    ++ line-end))))))
 
 -- one line behind the other
 unfoldable pub texts : Key → List PrintedLine → List ℕ

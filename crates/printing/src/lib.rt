@@ -1,4 +1,5 @@
-// The bytes of a job's lines, exactly those of document 01, The printed answer: VERDICT, the lines of the checks, SC and CL.
+// The bytes of a job's lines, exactly those of document 01, The printed answer, with the eighth field of 02, P7: VERDICT, the lines of the
+// checks, SC and CL.
 //
 // Each function puts a field, a line or lines behind the text that a page of 2,048 bytes holds, or nothing where a line is missing. What is
 // hard is that nothing is cut: each says how many bytes it puts at most, and the sum is below 2,048 where the set numbers are those of
@@ -21,11 +22,11 @@ ghost use Prim.Native.Nat.{_≤_};
 ghost use lib.ListN.{length};
 ghost use Rattle.sets.specs.declared.Combination.{Combination};
 ghost use Rattle.checks.specs.declared.Check.{Check};
-ghost use Rattle.lines.specs.Lines.{LineName, combination-lines, later-lines, value-of, verdict-line, check-line, river-line};
+ghost use Rattle.lines.specs.Lines.{LineName, combination-lines, later-lines, value-of, mark-of, exactness-of, figure-exactness, verdict-line, check-line, river-line};
 ghost use Rattle.lines.specs.Numbered.{Numbered};
 ghost use Rattle.block.specs.Block.{Adds, block-of};
 ghost use Rattle.block.specs.Fields.{field};
-ghost use Rattle.printing.specs.line_fields.Text.{HYPHEN, combination-text, check-text, name-text, value-text};
+ghost use Rattle.printing.specs.line_fields.Text.{HYPHEN, combination-text, check-text, name-text, value-text, mark-text};
 ghost use Rattle.printing.specs.steps.Ending.{ending};
 ghost use Rattle.printing.specs.Text.{texts, line-text};
 ghost use Rattle.printing.specs.AnswerText.{text};
@@ -42,22 +43,40 @@ fn put_figure(out: &mut [u8; 2048], at: usize, figure: Figure) -> usize
     }
 }
 
-// Y or N, and the end of the line.
-fn put_ending(out: &mut [u8; 2048], at: usize, passes: bool) -> usize
-    ensures { λ r. ⌜ Adds (now (out .entry)) at (ending passes) 4 (now (out .exit)) r ⌝ }
+// Y or N.
+fn put_mark(out: &mut [u8; 2048], at: usize, passes: bool) -> usize
+    ensures { λ r. ⌜ Adds (now (out .entry)) at (field (mark-text (mark-of passes))) 2 (now (out .exit)) r ⌝ }
 {
     let letter = if passes { b'Y' } else { b'N' };
+    block::put(out, at, &[b',', letter])
+}
+
+// E or R of a number (02, P7), and the end of the line.
+fn put_exactness(out: &mut [u8; 2048], at: usize, exact: bool) -> usize
+    ensures { λ r. ⌜ Adds (now (out .entry)) at (ending (exactness-of exact)) 4 (now (out .exit)) r ⌝ }
+{
+    let letter = if exact { b'E' } else { b'R' };
     block::put(out, at, &[b',', letter, b'\r', b'\n'])
+}
+
+// The eighth field of a check's line, which words have empty (02, P7), and the end of the line.
+fn put_ending(out: &mut [u8; 2048], at: usize, figure: Figure, exact: bool) -> usize
+    ensures { λ r. ⌜ Adds (now (out .entry)) at (ending (figure-exactness figure exact)) 4 (now (out .exit)) r ⌝ }
+{
+    match figure {
+        Figure::Nothing | Figure::Off => block::put(out, at, b",\r\n"),
+        Figure::Number(_) => put_exactness(out, at, exact),
+    }
 }
 
 // VERDICT, which every job has.
 fn put_verdict(out: &mut [u8; 2048], at: usize, key: Key, verdict: Verdict) -> usize
-    ensures { λ r. ⌜ Adds (now (out .entry)) at (line-text key (verdict-line verdict)) 42 (now (out .exit)) r ⌝ }
+    ensures { λ r. ⌜ Adds (now (out .entry)) at (line-text key (verdict-line verdict)) 43 (now (out .exit)) r ⌝ }
 {
     let end = line_key::put_key(out, at, key);
     let end = block::put(out, end, b"VERDICT");
     let end = line_fields::put_verdict_value(out, end, verdict);
-    block::put(out, end, b",,,\r\n")
+    block::put(out, end, b",,,,\r\n")
 }
 
 // The line of a check in a combination, if there is one: each is given by its letters, as I and -OP.
@@ -79,6 +98,7 @@ fn put_line(
             limit,
             set,
             passes,
+            exact,
         } => {
             let end = line_key::put_key(out, at, key);
             let end = block::put(out, end, combination);
@@ -86,7 +106,8 @@ fn put_line(
             let end = put_figure(out, end, figure);
             let end = block::put_number(out, end, limit);
             let end = block::put_number(out, end, set);
-            put_ending(out, end, passes)
+            let end = put_mark(out, end, passes);
+            put_ending(out, end, figure, exact)
         }
     }
 }
@@ -101,7 +122,7 @@ fn put_river_line(
     line: RiverLine,
 ) -> usize
     ensures { λ r. ⌜ ((name : LineName) → first ∷ second ∷ [] ≡ name-text name
-        → Adds (now (out .entry)) at (texts key (river-line name line)) 76 (now (out .exit)) r) ⌝ }
+        → Adds (now (out .entry)) at (texts key (river-line name line)) 78 (now (out .exit)) r) ⌝ }
 {
     match line {
         RiverLine::Missing => at,
@@ -109,13 +130,15 @@ fn put_river_line(
             value,
             limit,
             passes,
+            exact,
         } => {
             let end = line_key::put_key(out, at, key);
             let end = block::put(out, end, &[first, second]);
             let end = line_fields::put_signed(out, end, value);
             let end = block::put_number(out, end, limit);
             let end = block::push(out, end, b',');
-            put_ending(out, end, passes)
+            let end = put_mark(out, end, passes);
+            put_exactness(out, end, exact)
         }
     }
 }

@@ -1,4 +1,5 @@
-// The one line of a refused book (document 01, The printed answer: "A refused book prints `,,BOOK,number,row,,`").
+// The one line of a refused book (document 01, The printed answer: "A refused book prints `,,BOOK,number,row,,`"). 02, P7 adds an eighth
+// field, which BOOK has empty: `,,BOOK,number,row,,,`.
 //
 // It is put into a page of 2,048 bytes part by part, and nothing is cut, whatever the row.
 use block::Block;
@@ -17,6 +18,6 @@ pub fn book_line(number: u8, row: usize) -> Block
     let end = block::put(&mut bytes, 0, b",,BOOK");
     let end = block::put_number(&mut bytes, end, number as u64);
     let end = block::put_number(&mut bytes, end, row as u64);
-    let len = block::put(&mut bytes, end, b",,\r\n");
+    let len = block::put(&mut bytes, end, b",,,\r\n");
     Block { bytes, len }
 }

@@ -92,7 +92,7 @@ fn entry_of(x: f64) -> Entry
     ensures { λ r. ⌜ EntryIs x r ⌝ }
 {
     match doubles::nearest(x) {
-        Whole::Is(amount) => Entry {
+        Whole::Is { amount, exact: _ } => Entry {
             filled: true,
             minus: amount.minus,
             size: amount.size as u32,

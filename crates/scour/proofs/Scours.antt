@@ -19,10 +19,12 @@ module _ {row : Waterway} where
   intensity-one {q = q} u v = least-one (u .intensity) (subst (λ (Qf : ℕ). Intensity Qf (row .width) q) (discharge-one (v .flood) (u .flood)) (v .intensity))
 
   lacey-one : {D E : ℕ} → LaceyDepth row D → LaceyDepth row E → D ≡ E
-  lacey-one {E = E} (regime a h u) (regime b k v) = least-one u (subst (λ (Qf : ℕ). RegimeDepth Qf (row .silt) E) (discharge-one b a) v)
+  lacey-one {E = E} (regime a h u) (regime {exact = e} b k v) =
+      least-one (u .rounded) (subst (λ (Qf : ℕ). RegimeDepth Qf (row .silt) E e) (discharge-one b a) v .rounded)
   lacey-one (regime a h u) (constricted b k v) = absurd (b .narrow h)
   lacey-one (constricted a h u) (regime b k v) = absurd (a .narrow k)
-  lacey-one {E = E} (constricted a h u) (constricted b k v) = least-one u (subst (λ (q : ℕ). ConstrictedDepth q (row .silt) E) (intensity-one b a) v)
+  lacey-one {E = E} (constricted a h u) (constricted {exact = e} b k v) =
+      least-one (u .rounded) (subst (λ (q : ℕ). ConstrictedDepth q (row .silt) E e) (intensity-one b a) v .rounded)
 
   -- a catchment above 25,000 has no depth, and neither has a q above 50,000
   large : {D : ℕ} → 25000 < row .catchment → LaceyDepth row D → ⊥
@@ -42,11 +44,15 @@ module _ {row : Waterway} where
   scour-rule-one (too-intense a h) (needed l n) = absurd (intense a h l)
   scour-rule-one (needed l m) (large-catchment k) = absurd (large k l)
   scour-rule-one (needed l m) (too-intense a k) = absurd (intense a k l)
-  scour-rule-one (needed l m) (needed {depth = d} k n) = ap needs (depth-needed-one m (subst (λ (D : ℕ). DepthNeeded D (row .reach) d) (lacey-one k l) n))
+  scour-rule-one (needed l m) (needed {depth = d} {exact = e} k n) =
+      let one = depth-needed-one m (subst (λ (D : ℕ). DepthNeeded D (row .reach) d e) (lacey-one k l) n) in
+      let value = one .0 in
+      let exact = one .1 in
+      cc
 
 back : ScourTold → ScourAnswer
 back (refused n) = cond (eqb n 11) OutOfRange (cond (eqb n 12) LargeCatchment TooIntense)
-back (needs depth) = Needed depth
+back (needs depth exact) = Needed (record { value = depth; exact = exact })
 
 back-told : (r : ScourAnswer) → back (scour-told r) ≡ r
 unfolding back

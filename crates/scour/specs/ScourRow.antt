@@ -16,4 +16,4 @@ abbrev pub scour-told : ScourAnswer → ScourTold
 scour-told OutOfRange = refused 11
 scour-told LargeCatchment = refused 12
 scour-told TooIntense = refused 13
-scour-told (Needed depth) = needs depth
+scour-told (Needed depth) = needs (depth .value) (depth .exact)

@@ -12,10 +12,10 @@ pub fn foundation_discharge(q: u64, z: u64) -> u64
     ensures { λ r. ⌜ FoundationDischarge q z r ⌝ }
 {
     if z <= 500 {
-        return arithmetic::rounding::up(13 * q, 10);
+        return arithmetic::rounding::up(13 * q, 10).value;
     }
     if z <= 5000 {
-        return arithmetic::rounding::up(q * (59000 - z), 45000);
+        return arithmetic::rounding::up(q * (59000 - z), 45000).value;
     }
-    arithmetic::rounding::up(q * (245000 - z), 200000)
+    arithmetic::rounding::up(q * (245000 - z), 200000).value
 }

@@ -2,6 +2,7 @@
 // wide and in a constricted waterway, and the depth needed below flood.
 //
 // The regime test takes all 64 bits of a word, and fits by nothing but the ranges in the table of kinds.
+use arithmetic::rounding::Rounded;
 ghost use Prim.Native.Nat.{_≤_};
 ghost use Rattle.arithmetic.specs.decides.Decides.{Decides};
 ghost use Rattle.scour.specs.lacey.Lacey.{RegimeMet, RegimeDepth, ConstrictedDepth, DepthNeeded};
@@ -26,27 +27,28 @@ pub fn meets_regime(q: u64, w: u64) -> bool
 }
 
 // 4.6.3: Lacey's depth where the regime width is met.
-pub fn regime_depth(qf: u64, f: u64) -> u64
+pub fn regime_depth(qf: u64, f: u64) -> Rounded
     requires { ⌜ (qf ≤ 65000000) × (100 ≤ f) ⌝ }
-    ensures { λ r. ⌜ RegimeDepth qf f r × (r ≤ 41000) ⌝ }
+    ensures { λ r. ⌜ RegimeDepth qf f (r .value) (r .exact) × (r .value ≤ 41000) ⌝ }
 {
     crate::cubes::depth_for(LACEY * qf, f)
 }
 
 // 4.6.4: Lacey's depth in a constricted waterway.
-pub fn constricted_depth(q: u64, f: u64) -> u64
+pub fn constricted_depth(q: u64, f: u64) -> Rounded
     requires { ⌜ (q ≤ 50000) × (100 ≤ f) × (f ≤ 3000) ⌝ }
-    ensures { λ r. ⌜ ConstrictedDepth q f r × (r ≤ 41000) ⌝ }
+    ensures { λ r. ⌜ ConstrictedDepth q f (r .value) (r .exact) × (r .value ≤ 41000) ⌝ }
 {
     crate::cubes::depth_for(CONSTRICTED * (q * q), 1000 * f)
 }
 
-// 4.6.6 and 6.9.1: the depth needed below flood for a Lacey depth and a reach from 1 to 5.
-pub fn depth_needed(depth: u64, reach: u64) -> u64
+// 4.6.6 and 6.9.1: the depth needed below flood for a Lacey depth and a reach from 1 to 5. It is exact where the 1.33 is (document 02, P7),
+// whatever was rounded before it.
+pub fn depth_needed(depth: u64, reach: u64) -> Rounded
     requires { ⌜ (depth ≤ 41000) × (1 ≤ reach) × (reach ≤ 5) ⌝ }
-    ensures { λ r. ⌜ DepthNeeded depth reach r ⌝ }
+    ensures { λ r. ⌜ DepthNeeded depth reach (r .value) (r .exact) ⌝ }
 {
     let at = (reach - 1) as usize;
     let greatest = arithmetic::rounding::up(REACHES[at] * depth, 100);
-    arithmetic::rounding::up(NEEDED * greatest, 100)
+    arithmetic::rounding::up(NEEDED * greatest.value, 100)
 }

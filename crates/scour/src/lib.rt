@@ -6,6 +6,7 @@ mod cubes;
 pub mod discharge;
 pub mod lacey;
 
+use arithmetic::rounding::Rounded;
 use kinds::Kind;
 use kinds::Numbers;
 ghost use mathlib.Core.Path.{_≡_};
@@ -24,12 +25,12 @@ pub struct Waterway {
     pub depth: u64,
 }
 
-// What an S row is told: the depth needed in mm, or a refusal.
+// What an S row is told: the depth needed in mm, and whether it is exact, or a refusal.
 pub enum ScourAnswer {
     OutOfRange,
     LargeCatchment,
     TooIntense,
-    Needed(u64),
+    Needed(Rounded),
 }
 
 // An S row by its columns. The rules take them in words of 64 bits.
@@ -56,13 +57,13 @@ fn scour_of(row: Waterway) -> ScourAnswer
     }
     let qf = discharge::foundation_discharge(row.discharge, row.catchment);
     let depth = if lacey::meets_regime(row.discharge, row.width) {
-        lacey::regime_depth(qf, row.silt)
+        lacey::regime_depth(qf, row.silt).value
     } else {
-        let intensity = arithmetic::rounding::up(1000 * qf, row.width);
+        let intensity = arithmetic::rounding::up(1000 * qf, row.width).value;
         if 50000 < intensity {
             return ScourAnswer::TooIntense;
         }
-        lacey::constricted_depth(intensity, row.silt)
+        lacey::constricted_depth(intensity, row.silt).value
     };
     ScourAnswer::Needed(lacey::depth_needed(depth, row.reach))
 }

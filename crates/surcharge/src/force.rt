@@ -13,8 +13,8 @@ fn force_of(over: u64, under: u64, length: u64) -> u64
     requires { ⌜ (0 < under) × (over ≤ 302500 * under) × (length ≤ 60000) ⌝ }
     ensures { λ r. ⌜ Force length (quotient over under) r ⌝ }
 {
-    let p = arithmetic::rounding::up(over, under);
-    arithmetic::rounding::up(p * length * 980_665, 100_000_000_000)
+    let p = arithmetic::rounding::up(over, under).value;
+    arithmetic::rounding::up(p * length * 980_665, 100_000_000_000).value
 }
 
 // Both parts, by the surcharge in kg/m, the coefficient in hundredths, and the width, the depth, how far down the load spreads, and the length in mm.
@@ -33,11 +33,11 @@ pub(crate) fn parts_of(
     let reach = width + spread;
     let first = Part {
         force: force_of(total * depth * k, 100 * reach, length),
-        arm: arithmetic::rounding::up(depth, 2),
+        arm: arithmetic::rounding::up(depth, 2).value,
     };
     let second = Part {
         force: force_of(total * (spread * spread) * k, 200 * width * reach, length),
-        arm: arithmetic::rounding::up(3 * depth - spread, 3),
+        arm: arithmetic::rounding::up(3 * depth - spread, 3).value,
     };
     Parts { first, second }
 }

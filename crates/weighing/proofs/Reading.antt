@@ -12,7 +12,7 @@ use Rattle.checks.specs.declared.Base.{Base}
 use Rattle.checks.specs.declared.Check.{Check}
 use Rattle.checks.specs.declared.Check.the-variants.{OP, OM, SL, PR, RK}
 use Rattle.checks.specs.declared.Figure.{Figure}
-use Rattle.checks.specs.ranks.Figures.{Tips, Slides, Presses, Leans}
+use Rattle.checks.specs.steps.Rounded.{Tips, Slides, Presses, Leans}
 use Rattle.checks.specs.steps.BySums.{apart, ShowsBySums}
 use Rattle.checks.proofs.set_figures.Showing.{small-sums}
 use Rattle.weighing.specs.steps.Ranked.{tie-order}
@@ -93,7 +93,7 @@ module _ (sums : Sums) (room : Room 16 sums) where
 
   -- ---- the figures
   shows-same : (check : Check) (base : Base) (v : Figure) → ShowsCarried check base (shift-of sums no-sums) v ≡ ShowsBySums check base sums v
-  unfolding carried ShowsCarried ShowsBySums
+  unfolding carried ShowsCarried ShowsBySums Tips Slides Presses Leans
   shows-same OP base v = λ i. Tips (resisting-plus-read i) (overturning-plus-read i) v
   shows-same OM base v = λ i. Tips (resisting-minus-read i) (overturning-minus-read i) v
   shows-same SL base v = λ i. Slides (base .friction) (n-read i) (h-read i) v

@@ -1,5 +1,5 @@
 -- A line is one, and the worst figure passes its limit exactly if the figure of every permitted set does.
-use mathlib.Core.Path.{_≡_, refl, subst}
+use mathlib.Core.Path.{_≡_, refl, subst, subst₂}
 use mathlib.Core.Bool.{Bool}
 use Prim.Native.Nat.{ℕ}
 use Rattle.arithmetic.specs.decides.Decides.{Decides}
@@ -11,7 +11,7 @@ use Rattle.checks.specs.declared.Base.{Base}
 use Rattle.checks.specs.declared.Check.{Check}
 use Rattle.checks.specs.declared.Check.the-variants.{OP, OM, SL, PR, RK}
 use Rattle.checks.specs.declared.Figure.{Figure}
-use Rattle.checks.specs.set_figures.Figures.{Shows}
+use Rattle.checks.specs.set_figures.Figures.{Shows, ShowsExactly}
 use Rattle.checks.specs.Order.{side}
 use Rattle.lines.specs.declared.Line.{Line}
 use Rattle.lines.specs.declared.Line.the-variants.{Missing, Shown}
@@ -27,11 +27,17 @@ module _ (combination : Combination) (check : Check) (base : Base) (loads : Load
   pub line-says-one : (a b : Line) → LineSays combination check base loads a → LineSays combination check base loads b → a ≡ b
   unfolding LineSays
   line-says-one Missing Missing p q = refl
-  line-says-one Missing (Shown v l s y) p q = absurd (p l (q .limited) s (q .named .permitted))
-  line-says-one (Shown v l s y) Missing p q = absurd (q l (p .limited) s (p .named .permitted))
-  line-says-one (Shown v l s y) (Shown w m t z) p q =
-      λ i. Shown (named-figure (p .named) (q .named) i) (limit-one combination check base l m (p .limited) (q .limited) i) (named-set (p .named) (q .named) i) (passing i)
+  line-says-one Missing (Shown v l s y x) p q = absurd (p l (q .limited) s (q .named .permitted))
+  line-says-one (Shown v l s y x) Missing p q = absurd (q l (p .limited) s (p .named .permitted))
+  line-says-one (Shown v l s y x) (Shown w m t z u) p q =
+      λ i. Shown (named-figure (p .named) (q .named) i) (limit-one combination check base l m (p .limited) (q .limited) i) (named-set (p .named) (q .named) i) (passing i) (exactness i)
     where
+      exactness : x ≡ u
+      exactness =
+          decides-one (ShowsExactly check base loads t w) x u
+          (subst₂ (λ (k : ℕ) (f : Figure). Decides x (ShowsExactly check base loads k f)) (named-set (p .named) (q .named)) (named-figure (p .named) (q .named)) (p .told))
+          (q .told)
+
       passing : y ≡ z
       passing =
           decides-one (Passes (side check) m w) y z
@@ -40,10 +46,10 @@ module _ (combination : Combination) (check : Check) (base : Base) (loads : Load
           (q .marked)
 
   -- The worst figure passes its limit exactly if every permitted set's figure does: what makes the verdict mean demand 2.
-  pub worst-decides : (v : Figure) (limit s : ℕ) (passes : Bool) → LineSays combination check base loads (Shown v limit s passes)
+  pub worst-decides : (v : Figure) (limit s : ℕ) (passes exact : Bool) → LineSays combination check base loads (Shown v limit s passes exact)
       → Decides passes ((t : ℕ) (w : Figure) → Permitted combination loads t → Shows check base loads t w → Passes (side check) limit w)
   unfolding LineSays
-  worst-decides v limit s passes p =
+  worst-decides v limit s passes exact p =
       decides-same passes (λ y t w h k. passes-better (side check) limit v w (p .named .no-worse t w h k) y) (λ f. f s v (p .named .permitted) (p .named .reaches)) (p .marked)
 
 -- No second answer meets the promise of `worst_lines`.

@@ -17,7 +17,7 @@ module _ (combination : Combination) (base : Base) (loads : Loads) (few : loads 
   set-fits : (check : Check) (l : Line) → LineSays combination check base loads l → SetFits l
   unfolding LineSays SetFits
   set-fits check Missing says = tt
-  set-fits check (Shown figure limit set passes) says =
+  set-fits check (Shown figure limit set passes exact) says =
       lt-of-lt-of-le (says .named .permitted .within) (pow-le-pow-right (lit< tt) few)
 
   pub sets-fit : (lines : Lines) → ((check : Check) → LineSays combination check base loads (line check lines)) → SetsFit lines

@@ -22,7 +22,6 @@ use weighing::bounds::Bounds;
 use weighing::ranked::RankedSet;
 ghost use mathlib.Core.Path.{_≡_};
 ghost use Prim.Native.Nat.{_≤_};
-ghost use Rattle.sets.specs.declared.Loads.{Loads};
 ghost use Rattle.sets.specs.Bounded.{Bounded};
 ghost use Rattle.sets.specs.Led.{Led};
 ghost use Rattle.sets.specs.steps.Deciding.{Arises};
@@ -128,12 +127,19 @@ fn walk(combination: Combination, base: Base, loads: Loads) -> Worst
     worst
 }
 
-// The line of a check from the ranked set that the walk found.
-fn line_at(combination: Combination, check: Check, base: Base, found: RankedSet) -> Line
-    requires { ⌜ base .allowable ≤ 10000 ⌝ }
+// The line of a check from the ranked set that the walk found. Whether its figure is exact is asked here, of the set that is named (02, P7).
+fn line_at(
+    combination: Combination,
+    check: Check,
+    base: Base,
+    loads: Loads,
+    found: RankedSet,
+) -> Line
+    requires { ⌜ Sized base ⌝ }
+    requires { ⌜ Bounded loads ⌝ }
     requires { ⌜ ((found .set ≡ 0 → ⊥) → HasCheck combination check base) ⌝ }
-    ensures { λ r. ⌜ ((loads : Loads) → (HasCheck combination check base → FoundWorst combination check base loads found)
-        → LineSays combination check base loads r) ⌝ }
+    requires { ⌜ (HasCheck combination check base → FoundWorst combination check base loads found) ⌝ }
+    ensures { λ r. ⌜ LineSays combination check base loads r ⌝ }
 {
     let set = found.set;
     if set == 0 {
@@ -142,11 +148,13 @@ fn line_at(combination: Combination, check: Check, base: Base, found: RankedSet)
     let figure = checks::figure_at(check, found.rank);
     let limit = checks::limits::limit_of(combination, check, base);
     let passes = checks::passing::passes(check, limit, figure);
+    let exact = checks::set_figures::exact_of(check, base, loads, set);
     Line::Shown {
         figure,
         limit,
         set,
         passes,
+        exact,
     }
 }
 
@@ -162,10 +170,10 @@ pub fn worst_lines(combination: Combination, base: Base, loads: Loads) -> Lines
     }
     let worst = walk(combination, base, loads);
     Lines {
-        op: line_at(combination, Check::OP, base, worst.op),
-        om: line_at(combination, Check::OM, base, worst.om),
-        sl: line_at(combination, Check::SL, base, worst.sl),
-        pr: line_at(combination, Check::PR, base, worst.pr),
-        rk: line_at(combination, Check::RK, base, worst.rk),
+        op: line_at(combination, Check::OP, base, loads, worst.op),
+        om: line_at(combination, Check::OM, base, loads, worst.om),
+        sl: line_at(combination, Check::SL, base, loads, worst.sl),
+        pr: line_at(combination, Check::PR, base, loads, worst.pr),
+        rk: line_at(combination, Check::RK, base, loads, worst.rk),
     }
 }

@@ -57,7 +57,7 @@ module _ (job : Job) where
 
   -- the S row
   module _ (has : HasScour (job .stage)) (rock : Bool) (strata : Decides rock (OnRock job)) where
-    module _ {needed : ℕ} (rule : scour.ScourRule (scour.waterway-of (job .scour)) (scour.needs needed)) where
+    module _ {needed : ℕ} {exact : Bool} (rule : scour.ScourRule (scour.waterway-of (job .scour)) (scour.needs needed exact)) where
       -- what gives a depth gives neither 12 nor 13
       allowed : ScourAllowed job
       allowed = record {
@@ -65,13 +65,13 @@ module _ (job : Job) where
         intensity = λ x. let e = scour-rule-one (x .rule) rule in impossible cc;
       }
 
-      depth-line : (l : RiverLine) → DepthLineIs rock needed (scour.waterway-of (job .scour) .depth) l → DepthIs job l
+      depth-line : (l : RiverLine) → DepthLineIs rock needed exact (scour.waterway-of (job .scour) .depth) l → DepthIs job l
       depth-line lines.Missing w = λ f. f .soil (decided rock w strata)
-      depth-line (lines.Shown depth f passes) w =
+      depth-line (lines.Shown depth f passes e) w =
           record {
             soil = refuted rock (w .0) strata;
             needed = needed;
-            gives = record { has = has; rule = rule };
+            gives = record { has = has; rule = subst⁻¹ (λ (x : Bool). scour.ScourRule (scour.waterway-of (job .scour)) (scour.needs needed x)) (w .4) rule };
             value = w .1;
             limit = w .2;
             mark = subst⁻¹ (λ (x : ℕ). Decides passes (needed ≤ x)) (w .2) (w .3);
@@ -82,41 +82,41 @@ module _ (job : Job) where
 
     pub depth-gives : {t : scour.ScourTold} → scour-row.ScourSays (job .scour) t → (r : RowGives) → DepthGiven rock (scour.waterway-of (job .scour) .depth) t r → DepthGives job r
     depth-gives (scour-row.out-of-range h) (Refused n) e = depth-number e (out-of-range (λ r. h (r has)))
-    depth-gives (scour-row.out-of-range h) (Line l) w = let e = w .1 in impossible cc
+    depth-gives (scour-row.out-of-range h) (Line l) w = let e = w .2 in impossible cc
     depth-gives (scour-row.in-range k (scour.large-catchment h)) (Refused n) e = depth-number e (large (λ _. k) (record { has = has; rule = scour.large-catchment h }))
-    depth-gives (scour-row.in-range k (scour.large-catchment h)) (Line l) w = let e = w .1 in impossible cc
+    depth-gives (scour-row.in-range k (scour.large-catchment h)) (Line l) w = let e = w .2 in impossible cc
     depth-gives (scour-row.in-range k (scour.too-intense c h)) (Refused n) e = depth-number e (intense (λ _. k) (record { has = has; rule = scour.too-intense c h }))
-    depth-gives (scour-row.in-range k (scour.too-intense c h)) (Line l) w = let e = w .1 in impossible cc
+    depth-gives (scour-row.in-range k (scour.too-intense c h)) (Line l) w = let e = w .2 in impossible cc
     depth-gives (scour-row.in-range k (scour.needed d n)) (Refused m) e = impossible cc
     depth-gives (scour-row.in-range k (scour.needed d n)) (Line l) w =
-        let rule = subst (scour.ScourRule (scour.waterway-of (job .scour))) (w .1) (scour.needed d n) in
-        line {l = l} (λ _. k) (allowed rule) (depth-line rule l (w .2))
+        let rule = subst (scour.ScourRule (scour.waterway-of (job .scour))) (w .2) (scour.needed d n) in
+        line {l = l} (λ _. k) (allowed rule) (depth-line rule l (w .3))
 
   -- the C row
   module _ (has : HasClearance (job .stage)) where
     abbrev Says : clearing.ClearanceTold → Type 0
     Says t = told.ClearanceSays (job .clearance) (scour.waterway-of (job .scour) .discharge) t
 
-    abbrev Cleared : Amount → ℕ → Type 0
-    Cleared there needed = clearing.Cleared (clearing.opening-of (job .clearance)) (scour.waterway-of (job .scour) .discharge) (clearing.given there needed)
+    abbrev Cleared : Amount → ℕ → Bool → Type 0
+    Cleared there needed exact = clearing.Cleared (clearing.opening-of (job .clearance)) (scour.waterway-of (job .scour) .discharge) (clearing.given there needed exact)
 
-    module _ (there : Amount) (needed : ℕ) where
+    module _ (there : Amount) (needed : ℕ) (exact : Bool) where
       -- what gives a clearance does not give 14
-      not-obstructed : Cleared there needed → OverObstructed job → ⊥
+      not-obstructed : Cleared there needed exact → OverObstructed job → ⊥
       not-obstructed v o = let e = clearances.cleared-one (o .rule) v in impossible cc
 
-      clear-line : (l : RiverLine) → Ranged C (job .clearance) → Cleared there needed → ClearLineIs there needed l → ClearGives job (Line l)
+      clear-line : (l : RiverLine) → Ranged C (job .clearance) → Cleared there needed exact → ClearLineIs there needed exact l → ClearGives job (Line l)
       clear-line lines.Missing k v w = absurd w
-      clear-line (lines.Shown c n passes) k v w =
-          let here : ClearIs job (lines.Shown there needed passes) = record { gives = record { has = has; rule = v }; mark = w .2 } in
-          let same : lines.Shown c n passes ≡ lines.Shown there needed passes = let p = w .0 in let q = w .1 in cc in
-          subst⁻¹ (λ (l : RiverLine). ClearGives job (Line l)) same (clear {l = lines.Shown there needed passes} (λ _. k) (not-obstructed v) here)
+      clear-line (lines.Shown c n passes e) k v w =
+          let here : ClearIs job (lines.Shown there needed passes exact) = record { gives = record { has = has; rule = v }; mark = w .2 } in
+          let same : lines.Shown c n passes e ≡ lines.Shown there needed passes exact = let p = w .0 in let q = w .1 in let r = w .3 in cc in
+          subst⁻¹ (λ (l : RiverLine). ClearGives job (Line l)) same (clear {l = lines.Shown there needed passes exact} (λ _. k) (not-obstructed v) here)
 
     pub clear-gives : (a : ClearanceAnswer) → Says (told.clearance-told a) → (r : RowGives) → ClearGiven a r → ClearGives job r
     clear-gives clearance.OutOfRange (told.out-of-range h) r e = subst⁻¹ (ClearGives job) e (unranged (λ r. h (r has)))
     clear-gives clearance.OverObstructed (told.in-range k v) r e = subst⁻¹ (ClearGives job) e (obstructed (λ _. k) (record { has = has; rule = v }))
-    clear-gives (clearance.Given there needed) s (Refused n) w = absurd w
-    clear-gives (clearance.Given there needed) (told.in-range k v) (Line l) w = clear-line there needed l k v w
+    clear-gives (clearance.Given there needed exact) s (Refused n) w = absurd w
+    clear-gives (clearance.Given there needed exact) (told.in-range k v) (Line l) w = clear-line there needed exact l k v w
 
   -- ---- both rows: 11 before 12 and 13, and those before 14
   pub both-give : {d c : RowGives} → DepthGives job d → ClearGives job c → RiverSays job (both d c)

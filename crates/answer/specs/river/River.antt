@@ -34,11 +34,11 @@ pub record Founded (job : Job) : Type 0 where
   pub soil : OnRock job → ⊥
   pub has : HasScour (job .stage)
 
--- SC: value needed, limit found; it needs value <= limit
-pub record DepthShown (job : Job) (depth : Amount) (found : ℕ) (passes : Bool) : Type 0 where
+-- SC: value needed, limit found; it needs value <= limit. 02, P7: "SC reports the rounding of the 1.33"
+pub record DepthShown (job : Job) (depth : Amount) (found : ℕ) (passes exact : Bool) : Type 0 where
   pub soil : OnRock job → ⊥
   pub needed : ℕ
-  pub gives : ScourGives job (needs needed)
+  pub gives : ScourGives job (needs needed exact)
   pub value : depth ≡ amount (pos needed)
   pub limit : found ≡ waterway-of (job .scour) .depth
   pub mark : Decides passes (needed ≤ found)
@@ -46,14 +46,14 @@ pub record DepthShown (job : Job) (depth : Amount) (found : ℕ) (passes : Bool)
 -- the line SC of a job: "soil, with S", and missing on rock or without S
 abbrev pub DepthIs : Job → RiverLine → Type 0
 DepthIs job line.Missing = Founded job → ⊥
-DepthIs job (line.Shown depth found passes) = DepthShown job depth found passes
+DepthIs job (line.Shown depth found passes exact) = DepthShown job depth found passes exact
 
--- CL: with C; value underside - flood - afflux, limit the clearance needed; it needs value >= limit
-pub record ClearShown (job : Job) (clearance : Amount) (needed : ℕ) (passes : Bool) : Type 0 where
-  pub gives : ClearanceGives job (given clearance needed)
+-- CL: with C; value underside - flood - afflux, limit the clearance needed; it needs value >= limit. 02, P7: "CL that of the afflux"
+pub record ClearShown (job : Job) (clearance : Amount) (needed : ℕ) (passes exact : Bool) : Type 0 where
+  pub gives : ClearanceGives job (given clearance needed exact)
   pub mark : Decides passes (AtLeast clearance needed)
 
 -- the line CL of a job: "with C", and missing without
 abbrev pub ClearIs : Job → RiverLine → Type 0
 ClearIs job line.Missing = HasClearance (job .stage) → ⊥
-ClearIs job (line.Shown clearance needed passes) = ClearShown job clearance needed passes
+ClearIs job (line.Shown clearance needed passes exact) = ClearShown job clearance needed passes exact

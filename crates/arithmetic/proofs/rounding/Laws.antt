@@ -43,7 +43,7 @@ least-by f rises a (suc n) t u = least-suc f rises a n (leb→le a (f (suc n)) t
 
 -- division rounds down, and up where it leaves nothing
 module _ (a b : ℕ) (pos : 0 < b) where
-  next : a < (a / b + 1) * b
+  pub next : a < (a / b + 1) * b
   next = rw (add-mul, one-mul) (lt-div-mul-add pos)
 
   pub down-div : RoundedDown a b (a / b)

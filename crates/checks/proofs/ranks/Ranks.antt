@@ -1,19 +1,23 @@
 -- Each figure is one; then its rank, by the tests that lead to it, and where it is plainly no worse than another.
 use mathlib.Core.Path.{_≡_, refl, sym, _∙_, ap}
+use mathlib.Core.Bool.{Bool, true}
 use mathlib.Core.Logic.{inl, inr, ⊎-elim}
-use Prim.Native.Nat.{ℕ, _+_, _*_, _-_, _/_, _%_, _^_, _≤_, _<_}
+use Prim.Native.Nat.{ℕ, _+_, _*_, _-_, _/_, _^_, _≤_, _<_}
 use native.Mathlib.Omega.{arith}
 use native.Mathlib.Decide.{ℕ-discrete}
 use native.Mathlib.Nat.{mul-le-mul, mul-comm, pos-of-ne-zero}
 use lib.Dec.{lit<}
 use Rattle.arithmetic.proofs.Cases.{by-cases}
+use Rattle.arithmetic.proofs.Deciding.{decides-same}
 use Rattle.arithmetic.specs.rounding.Least.{RoundedUp, RoundedDown}
+use Rattle.arithmetic.specs.rounding.Rounding.{Rounding, Exactly, RoundsUp}
 use Rattle.arithmetic.proofs.rounding.Laws.{least-one, greatest-one, down-div, down-le, up-le}
 use Rattle.checks.specs.declared.Figure.{Figure}
 use Rattle.checks.specs.declared.Figure.the-variants.{Nothing, Number, Off}
 use Rattle.checks.specs.Order.{lowest, highest}
-use Rattle.checks.specs.steps.Ranks.{HasRank, rank, Ranks}
-use Rattle.checks.specs.ranks.Figures.{Tips, Slides, Leans}
+use Rattle.checks.specs.steps.Ranks.{HasRank, rank, Ranks, RanksTold}
+use Rattle.checks.specs.ranks.Figures.{TipsBy, SlidesBy, LeansBy}
+use Rattle.checks.specs.steps.Rounded.{Tips, Slides, Leans}
 
 -- ---- a figure is one
 pub tips-one : (r o : ℕ) (v w : Figure) → Tips r o v → Tips r o w → v ≡ w
@@ -78,6 +82,43 @@ lean-off b n m e = record { figure = Off; holds = e; has-rank = tt; ranked = ref
 pub lean-some : (b n m : ℕ) {c : ℕ} → m ≤ 2 ^ 40 → 0 < 2 * (n * b) → (n ≡ 0 → ⊥) → RoundedUp (1000 * m) (2 * (n * b)) c → Ranks highest (Leans b n m) (2 ^ 64 - 1 - c)
 unfolding Leans HasRank rank
 lean-some b n m {c} k z e r = record { figure = Number c; holds = (omega arith, r); has-rank = omega (arith, up-le z r); ranked = refl }
+
+-- ---- the same, and whether the figure is exact: a word and SL 0 without weight take no rounding
+pub tip-none-told : (r o : ℕ) → o ≡ 0 → RanksTold lowest (Tips r o) (TipsBy Exactly r o) (2 ^ 64 - 1) true
+unfolding tip-none
+tip-none-told r o e = record { ranks = tip-none r o e; told = e }
+
+pub tip-told : (r o : ℕ) {c : ℕ} {x : Bool} → r ≤ 2 ^ 40 → (o ≡ 0 → ⊥) → Rounding (RoundedDown (100 * r) o) (Exactly (100 * r) o) c x → RanksTold lowest (Tips r o) (TipsBy Exactly r o) c x
+unfolding tip-some
+tip-told r o {c} {x} h n d =
+    record { ranks = tip-some r o h n (d .rounded); told = decides-same x (λ e. (pos-of-ne-zero n, e)) (λ p. p .1) (d .told) }
+
+pub slide-zero-told : (f n h : ℕ) → n ≡ 0 → RanksTold lowest (Slides f n h) (SlidesBy Exactly f n h) 0 true
+unfolding slide-zero
+slide-zero-told f n h e = record { ranks = slide-zero f n h e; told = inl (e, refl) }
+
+pub slide-none-told : (f n h : ℕ) → (n ≡ 0 → ⊥) → h ≡ 0 → RanksTold lowest (Slides f n h) (SlidesBy Exactly f n h) (2 ^ 64 - 1) true
+unfolding slide-none
+slide-none-told f n h k e = record { ranks = slide-none f n h k e; told = (pos-of-ne-zero k, e) }
+
+pub slide-told : (f n h : ℕ) {c : ℕ} {x : Bool} → f ≤ 1000 → n ≤ 2 ^ 20 → (n ≡ 0 → ⊥) → (h ≡ 0 → ⊥) → Rounding (RoundedDown (f * n) (10 * h)) (Exactly (f * n) (10 * h)) c x
+    → RanksTold lowest (Slides f n h) (SlidesBy Exactly f n h) c x
+unfolding slide-some
+slide-told f n h {c} {x} p q k l d =
+    record {
+      ranks = slide-some f n h p q k l (d .rounded);
+      told = decides-same x (λ e. inr (pos-of-ne-zero k, pos-of-ne-zero l, e)) (λ w. ⊎-elim (λ y. absurd (k (y .0))) (λ y. y .2) w) (d .told);
+    }
+
+pub lean-off-told : (b n m : ℕ) → n ≡ 0 → RanksTold highest (Leans b n m) (LeansBy Exactly b n m) 0 true
+unfolding lean-off
+lean-off-told b n m e = record { ranks = lean-off b n m e; told = e }
+
+pub lean-told : (b n m : ℕ) {c : ℕ} {x : Bool} → m ≤ 2 ^ 40 → 0 < 2 * (n * b) → (n ≡ 0 → ⊥) → RoundsUp (1000 * m) (2 * (n * b)) c x
+    → RanksTold highest (Leans b n m) (LeansBy Exactly b n m) (2 ^ 64 - 1 - c) x
+unfolding lean-some
+lean-told b n m {c} {x} k z e r =
+    record { ranks = lean-some b n m k z e (r .rounded); told = decides-same x (λ y. (pos-of-ne-zero e, y)) (λ p. p .1) (r .told) }
 
 -- ---- a figure that is plainly no worse than one so far, with no division
 lt-of-suc : {m n : ℕ} → m + 1 ≤ n → m < n

@@ -15,7 +15,7 @@ use Rattle.sums.specs.Totals.{counted, sum, minus, arm, v-moment, h-moment, res
 use Rattle.checks.specs.declared.Base.{Base}
 use Rattle.checks.specs.declared.Check.the-variants.{OP, OM}
 use Rattle.checks.specs.declared.Figure.the-variants.{Nothing, Number}
-use Rattle.checks.specs.ranks.Figures.{Tips}
+use Rattle.checks.specs.steps.Rounded.{Tips}
 use Rattle.checks.specs.set_figures.Figures.{Shows}
 
 pub plain : ℕ → Amount

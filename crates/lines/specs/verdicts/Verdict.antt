@@ -13,7 +13,7 @@ use Rattle.lines.specs.declared.Answer.{Answer}
 -- a line says Y; where there is no line, nothing says N
 abbrev pub LineYes : Line → Type 0
 LineYes line.Missing = Unit {0}
-LineYes (line.Shown figure limit set passes) = passes ≡ true
+LineYes (line.Shown figure limit set passes exact) = passes ≡ true
 
 pub record LinesYes (lines : Lines) : Type 0 where
   pub op : LineYes (lines .op)
@@ -24,7 +24,7 @@ pub record LinesYes (lines : Lines) : Type 0 where
 
 abbrev pub RiverYes : RiverLine → Type 0
 RiverYes river.Missing = Unit {0}
-RiverYes (river.Shown value limit passes) = passes ≡ true
+RiverYes (river.Shown value limit passes exact) = passes ≡ true
 
 -- every line after VERDICT says Y
 pub record AllYes (a : Answer) : Type 0 where

@@ -20,7 +20,7 @@ use borrow.Author.Needs.{needs}
 use Rattle.printing.proofs.answer_text.Statement.{statement}
 use Rattle.printing.proofs.answer_text.Tie as tie
 
-whole : (key : Key) (answer : Answer) (r : Block) → Put blank (text key answer) (42 + answer-room answer) r
+whole : (key : Key) (answer : Answer) (r : Block) → Put blank (text key answer) (43 + answer-room answer) r
     → (r ≡ block-of (text key answer)) × (Numbered answer → length (text key answer) ≤ 2048)
 whole key answer r put = (put .is ∙ puts-blank _, λ numbered. omega (arith, put .short, room-fits _ numbered))
 

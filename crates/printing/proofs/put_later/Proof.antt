@@ -50,7 +50,7 @@ returns c =
     then-lines _ _ _ _ _ _ _ _ (first .put-lines .ensures I refl)
     (then-lines _ _ _ _ _ _ _ _ (second .put-lines2 .ensures II refl)
     (then-lines _ _ _ _ _ _ _ _ (third .put-lines3 .ensures III refl)
-    (then-lines _ _ _ _ _ _ _ _ (fourth .put-lines4 .ensures IV refl) (then-lines _ _ _ _ _ _ 76 76 (depth .put-river-line .ensures SC refl) (c .put-river-line2 .ensures CL refl)))))
+    (then-lines _ _ _ _ _ _ _ _ (fourth .put-lines4 .ensures IV refl) (then-lines _ _ _ _ _ _ 78 78 (depth .put-river-line .ensures SC refl) (c .put-river-line2 .ensures CL refl)))))
 
 pub put-later-spec : {M : Type 1} → statement M
 put-later-spec =

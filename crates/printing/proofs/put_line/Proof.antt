@@ -30,6 +30,9 @@ put-number-requires c κs = search needs
 put-number-requires-2 : tie.Need-put-number-requires-2
 put-number-requires-2 c κs = search needs
 
+put-mark-requires : tie.Need-put-mark-requires
+put-mark-requires c κs = search needs
+
 put-ending-requires : tie.Need-put-ending-requires
 put-ending-requires c κs = search needs
 
@@ -39,15 +42,16 @@ returns c of by e f = no-line _ _ _ _ (ap (check-line _ _) (c .enum-told .given 
 
 returns-2 : tie.Need-returns-2
 returns-2 c of by e f =
-    let set = c .before .before in
+    let mark = c .before .before in
+    let set = mark .before .before in
     let limit = set .before .before in
     let figure = limit .before .before in
     let check = figure .before .before in
     let combination = check .before .before in
     let key = combination .before .before in
-    check-printed _ _ _ _ _ _ _ _ _ of by _ _ _ _ _ (key .before .before .before .line .given .1)
+    check-printed _ _ _ _ _ _ _ _ _ _ of by _ _ _ _ _ _ (key .before .before .before .line .given .1)
     (key .put-key .ensures) (combination-put _ _ of _ e (combination .put .ensures)) (check-put _ _ by _ f (check .put2 .ensures)) (figure .put-figure .ensures)
-    (limit .put-number .ensures) (set .put-number2 .ensures) (c .put-ending .ensures)
+    (limit .put-number .ensures) (set .put-number2 .ensures) (mark .put-mark .ensures) (c .put-ending .ensures)
 
 pub put-line-spec : {M : Type 1} → statement M
 put-line-spec =
@@ -61,6 +65,7 @@ put-line-spec =
     put-figure-requires
     put-number-requires
     put-number-requires-2
+    put-mark-requires
     put-ending-requires
     returns
     returns-2)

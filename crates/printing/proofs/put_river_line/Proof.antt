@@ -31,8 +31,11 @@ put-number-requires c κs = search needs
 push-requires : tie.Need-push-requires
 push-requires c κs = search needs
 
-put-ending-requires : tie.Need-put-ending-requires
-put-ending-requires c κs = search needs
+put-mark-requires : tie.Need-put-mark-requires
+put-mark-requires c κs = search needs
+
+put-exactness-requires : tie.Need-put-exactness-requires
+put-exactness-requires c κs = search needs
 
 returns : tie.Need-returns
 unfolding river-line
@@ -40,13 +43,14 @@ returns c name e = no-line _ _ _ _ (ap (river-line _) (c .enum-told .given .1))
 
 returns-2 : tie.Need-returns-2
 returns-2 c name e =
-    let comma = c .before .before in
+    let mark = c .before .before in
+    let comma = mark .before .before in
     let limit = comma .before .before in
     let value = limit .before .before in
     let letters = value .before .before in
     let key = letters .before .before .before in
-    river-printed _ _ _ _ _ _ _ _ name _ _ _ _ (key .before .before .before .line .given .1) (key .put-key .ensures) (spelled _ _ _ _ 2 (sym e) (letters .put .ensures) tt)
-    (value .put-signed .ensures) (limit .put-number .ensures) (comma .push .ensures) (c .put-ending .ensures)
+    river-printed _ _ _ _ _ _ _ _ _ name _ _ _ _ _ (key .before .before .before .line .given .1) (key .put-key .ensures) (spelled _ _ _ _ 2 (sym e) (letters .put .ensures) tt)
+    (value .put-signed .ensures) (limit .put-number .ensures) (comma .push .ensures) (mark .put-mark .ensures) (c .put-exactness .ensures)
 
 pub put-river-line-spec : {M : Type 1} → statement M
 put-river-line-spec =
@@ -60,6 +64,7 @@ put-river-line-spec =
     put-signed-requires
     put-number-requires
     push-requires
-    put-ending-requires
+    put-mark-requires
+    put-exactness-requires
     returns
     returns-2)

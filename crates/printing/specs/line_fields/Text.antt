@@ -5,7 +5,7 @@ use Rattle.sets.specs.declared.Combination.{Combination}
 use Rattle.sets.specs.declared.Combination.the-variants.{I, II, III, IV}
 use Rattle.checks.specs.declared.Check.{Check}
 use Rattle.checks.specs.declared.Check.the-variants.{OP, OM, SL, PR, RK}
-use Rattle.lines.specs.Lines.{LineName, VERDICT, check, SC, CL, Value, accepted, not-accepted, none, off, number, minus, NumberField, empty, holds, YesOrNo, unmarked, Y, N}
+use Rattle.lines.specs.Lines.{LineName, VERDICT, check, SC, CL, Value, accepted, not-accepted, none, off, number, minus, NumberField, empty, holds, YesOrNo, unmarked, Y, N, ExactOrRounded, unsaid, E, R}
 use Rattle.block.specs.Decimal.{decimal}
 
 abbrev pub HYPHEN : ℕ
@@ -51,3 +51,9 @@ unfoldable pub mark-text : YesOrNo → List ℕ
 mark-text unmarked = []
 mark-text Y = 0x59 ∷ []
 mark-text N = 0x4E ∷ []
+
+-- 02, P7: "an eighth field, E or R"; "Words, VERDICT and BOOK have it empty."
+unfoldable pub exactness-text : ExactOrRounded → List ℕ
+exactness-text unsaid = []
+exactness-text E = 0x45 ∷ []
+exactness-text R = 0x52 ∷ []

@@ -1,11 +1,10 @@
--- What `put_ending` puts.
+-- What `put_exactness` and `put_ending` put.
 use Prim.Native.Nat.{ℕ}
-use mathlib.Core.Bool.{Bool}
 use mathlib.Core.List.{List, _++_}
-use Rattle.lines.specs.Lines.{mark-of}
+use Rattle.lines.specs.Lines.{ExactOrRounded}
 use Rattle.block.specs.Fields.{field, line-end}
-use Rattle.printing.specs.line_fields.Text.{mark-text}
+use Rattle.printing.specs.line_fields.Text.{exactness-text}
 
--- the mark of a line, and its end
-abbrev pub ending : Bool → List ℕ
-ending passes = field (mark-text (mark-of passes)) ++ line-end
+-- the eighth field of a line (02, P7), and its end
+abbrev pub ending : ExactOrRounded → List ℕ
+ending exactness = field (exactness-text exactness) ++ line-end

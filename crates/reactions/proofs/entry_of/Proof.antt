@@ -29,7 +29,7 @@ amount-size (pos n) = refl
 amount-size (negsuc n) = refl
 
 -- the nearest whole number, where it has room
-told : (c : tie.After-amount) → NearestIs (c .before .before .before .args .x) (Is (c .amount .given .0 .0))
+told : (c : tie.After-amount) → NearestIs (c .before .before .before .args .x) (Is (c .amount .given .0 .0) (c .amount .given .0 .1 .0))
 told c = subst (NearestIs _) (c .amount .given .1) (c .before .before .nearest .ensures)
 
 fits : (c : tie.After-amount) → c .amount .given .0 .0 .size < 2 ^ 32
@@ -51,7 +51,7 @@ blank-entry-requires : tie.Need-blank-entry-requires
 blank-entry-requires c κs = search needs
 
 returns : tie.Need-returns
-returns c = let t = told (c .before .before) in inl (t .0, t .1, ap held (t .2) ∙ held-entry (t .0))
+returns c = let t = told (c .before .before) in inl (t .0, t .1 .rounded, ap held (t .2) ∙ held-entry (t .0))
 
 returns-2 : tie.Need-returns-2
 returns-2 c = inr (c .blank-entry .ensures, subst (NearestIs _) (c .before .enum-told .given .1) (c .before .before .before .nearest .ensures))

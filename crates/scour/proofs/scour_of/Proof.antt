@@ -15,12 +15,12 @@ most : (c : tie.After-foundation-discharge) → c .foundation-discharge .result 
 most c = discharge-most (c .before .before .before .pre .0) (c .foundation-discharge .ensures)
 
 -- where the regime width is not met, the constricted rule applies
-narrow : (c : tie.After-up) → Constricted (c .before .before .before .before .before .before .args .row) (c .up .result)
+narrow : (c : tie.After-up) → Constricted (c .before .before .before .before .before .before .args .row) (c .up .result .value)
 narrow c = record {
   Qf = c .before .before .before .foundation-discharge .result;
   flood = c .before .before .before .foundation-discharge .ensures;
   narrow = refuted (c .before .before .meets-regime .result) (c .before .if2 .left) (c .before .before .meets-regime .ensures);
-  intensity = c .up .ensures;
+  intensity = c .up .ensures .rounded;
 }
 
 -- Lacey's depth, by the rule that applies, is at most 41,000

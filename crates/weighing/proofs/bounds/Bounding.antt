@@ -21,7 +21,7 @@ use Rattle.checks.specs.declared.Check.the-variants.{OP, OM, SL, PR, RK}
 use Rattle.checks.specs.declared.Figure.{Figure}
 use Rattle.checks.specs.Order.{Side, lowest, highest, side}
 use Rattle.checks.specs.Sized.{Sized}
-use Rattle.checks.specs.ranks.Figures.{Tips, Slides, Presses, Leans}
+use Rattle.checks.specs.steps.Rounded.{Tips, Slides, Presses, Leans}
 use Rattle.checks.specs.steps.Ranks.{Ranks}
 use Rattle.checks.proofs.Ranking.{rank-low}
 use Rattle.checks.proofs.ranks.Pressing.{press-full, press-part}

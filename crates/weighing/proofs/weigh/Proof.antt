@@ -10,7 +10,7 @@ use Rattle.sums.specs.steps.Carried.{over-zero, from-zero, set-in}
 use Rattle.checks.specs.declared.Base.{Base}
 use Rattle.checks.specs.declared.Check.{Check}
 use Rattle.checks.specs.declared.Check.the-variants.{OP, OM, SL, PR, RK}
-use Rattle.checks.specs.ranks.Figures.{Presses, Slides, Leans}
+use Rattle.checks.specs.steps.Rounded.{Presses, Slides, Leans}
 use Rattle.checks.specs.declared.Figure.{Figure}
 use Rattle.checks.specs.Order.{Side, side, lowest, highest}
 use Rattle.checks.specs.steps.Ranks.{Ranks}

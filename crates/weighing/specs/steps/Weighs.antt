@@ -11,7 +11,7 @@ use Rattle.checks.specs.declared.Base.{Base}
 use Rattle.checks.specs.declared.Check.{Check}
 use Rattle.checks.specs.declared.Check.the-variants.{OP, OM, SL, PR, RK}
 use Rattle.checks.specs.declared.Figure.{Figure}
-use Rattle.checks.specs.ranks.Figures.{Tips, Slides, Presses, Leans}
+use Rattle.checks.specs.steps.Rounded.{Tips, Slides, Presses, Leans}
 use Rattle.checks.specs.Order.{side}
 use Rattle.weighing.specs.declared.ranked.RankedSet.{RankedSet}
 use Rattle.weighing.specs.declared.Worst.{Worst}

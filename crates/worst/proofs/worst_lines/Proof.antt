@@ -57,32 +57,45 @@ walk-requires c κs =
 
 line-at-requires : tie.Need-line-at-requires
 unfolding ranked-of
-line-at-requires c κs = (c .before .before .before .pre .0 .allowable, c .walk .ensures .has OP)
+line-at-requires c κs =
+    let walked = c .walk .ensures in
+    let asked = c .before .before .before .pre in
+    (asked .0, (asked .1 .0, (walked .has OP, walked .found OP)))
 
 line-at-requires-2 : tie.Need-line-at-requires-2
 unfolding ranked-of
-line-at-requires-2 c κs = (c .before .before .before .before .pre .0 .allowable, c .before .walk .ensures .has OM)
+line-at-requires-2 c κs =
+    let walked = c .before .walk .ensures in
+    let asked = c .before .before .before .before .pre in
+    (asked .0, (asked .1 .0, (walked .has OM, walked .found OM)))
 
 line-at-requires-3 : tie.Need-line-at-requires-3
 unfolding ranked-of
-line-at-requires-3 c κs = (c .before .before .before .before .before .pre .0 .allowable, c .before .before .walk .ensures .has SL)
+line-at-requires-3 c κs =
+    let walked = c .before .before .walk .ensures in
+    let asked = c .before .before .before .before .before .pre in
+    (asked .0, (asked .1 .0, (walked .has SL, walked .found SL)))
 
 line-at-requires-4 : tie.Need-line-at-requires-4
 unfolding ranked-of
-line-at-requires-4 c κs = (c .before .before .before .before .before .before .pre .0 .allowable, c .before .before .before .walk .ensures .has PR)
+line-at-requires-4 c κs =
+    let walked = c .before .before .before .walk .ensures in
+    let asked = c .before .before .before .before .before .before .pre in
+    (asked .0, (asked .1 .0, (walked .has PR, walked .found PR)))
 
 line-at-requires-5 : tie.Need-line-at-requires-5
 unfolding ranked-of
-line-at-requires-5 c κs = (c .before .before .before .before .before .before .before .pre .0 .allowable, c .before .before .before .before .walk .ensures .has RK)
+line-at-requires-5 c κs =
+    let walked = c .before .before .before .before .walk .ensures in
+    let asked = c .before .before .before .before .before .before .before .pre in
+    (asked .0, (asked .1 .0, (walked .has RK, walked .found RK)))
 
 returns-2 : tie.Need-returns-2
-unfolding line ranked-of
+unfolding line
 returns-2 c =
-    let found = c .before .before .before .before .before in
-    let a = found .before .before .before .args in
-    let walked = found .walk .ensures in
-    each (a .combination) (a .base) (a .loads) _ (c .before .before .before .before .line-at .ensures (a .loads) (walked .found OP)) (c .before .before .before .line-at2 .ensures (a .loads) (walked .found OM))
-    (c .before .before .line-at3 .ensures (a .loads) (walked .found SL)) (c .before .line-at4 .ensures (a .loads) (walked .found PR)) (c .line-at5 .ensures (a .loads) (walked .found RK))
+    let a = c .before .before .before .before .before .before .before .before .args in
+    each (a .combination) (a .base) (a .loads) _ (c .before .before .before .before .line-at .ensures) (c .before .before .before .line-at2 .ensures) (c .before .before .line-at3 .ensures) (c .before .line-at4 .ensures)
+    (c .line-at5 .ensures)
 
 pub worst-lines-spec : {M : Type 1} → statement M
 worst-lines-spec =

@@ -20,7 +20,7 @@ enum-known-answer : tie.Need-enum-known-answer
 enum-known-answer c = search needs
 
 returns : tie.Need-returns
-returns c = (_, ap scour-told (c .before .before .answer .given .1), c .if1 .taken)
+returns c = (_, _, ap scour-told (c .before .before .answer .given .1), c .if1 .taken)
 
 returns-2 : tie.Need-returns-2
 returns-2 c = search needs
@@ -34,8 +34,10 @@ returns-4 c = search needs
 returns-5 : tie.Need-returns-5
 unfolding amount
 returns-5 c =
-    let needed = c .before .before .answer .given .0 .0 in
-    (needed, ap scour-told (c .before .before .answer .given .1), (c .if1 .left, refl, refl, decides-at-most needed (c .before .before .before .before .args .found)))
+    let told = c .before .before .before .answer .given in
+    let needed = told .0 .0 in
+    let found = c .before .before .before .before .before .args .found in
+    (needed .value, needed .exact, ap scour-told (told .1), (c .before .if1 .left, refl, refl, decides-at-most (needed .value) found, refl))
 
 pub depth-of-spec : {M : Type 1} → statement M
 depth-of-spec =

@@ -19,24 +19,25 @@ use Rattle.answer.specs.declared.river.RowGives.{RowGives}
 use Rattle.answer.specs.declared.river.RowGives.the-variants.{Refused, Line}
 
 -- SC: on rock none; else the depth needed beside the depth found
-abbrev pub DepthLineIs : Bool → ℕ → ℕ → RiverLine → Type 0
-DepthLineIs rock needed found line.Missing = rock ≡ true
-DepthLineIs rock needed found (line.Shown depth f passes) = (rock ≡ false) × (depth ≡ amount (pos needed)) × (f ≡ found) × Decides passes (needed ≤ found)
+abbrev pub DepthLineIs : Bool → (needed : ℕ) → (exact : Bool) → (found : ℕ) → RiverLine → Type 0
+DepthLineIs rock needed exact found line.Missing = rock ≡ true
+DepthLineIs rock needed exact found (line.Shown depth f passes e) =
+    (rock ≡ false) × (depth ≡ amount (pos needed)) × (f ≡ found) × Decides passes (needed ≤ found) × (e ≡ exact)
 
 abbrev pub DepthGiven : Bool → ℕ → ScourTold → RowGives → Type 0
 DepthGiven rock found told (Refused n) = told ≡ refused n
-DepthGiven rock found told (Line l) = (needed : ℕ) × (told ≡ needs needed) × DepthLineIs rock needed found l
+DepthGiven rock found told (Line l) = (needed : ℕ) × (exact : Bool) × (told ≡ needs needed exact) × DepthLineIs rock needed exact found l
 
 -- CL: the clearance there is beside the clearance needed
-abbrev pub ClearLineIs : Amount → ℕ → RiverLine → Type 0
-ClearLineIs clearance needed line.Missing = ⊥
-ClearLineIs clearance needed (line.Shown c n passes) = (c ≡ clearance) × (n ≡ needed) × Decides passes (AtLeast clearance needed)
+abbrev pub ClearLineIs : Amount → (needed : ℕ) → (exact : Bool) → RiverLine → Type 0
+ClearLineIs clearance needed exact line.Missing = ⊥
+ClearLineIs clearance needed exact (line.Shown c n passes e) = (c ≡ clearance) × (n ≡ needed) × Decides passes (AtLeast clearance needed) × (e ≡ exact)
 
 abbrev pub ClearGiven : ClearanceAnswer → RowGives → Type 0
 ClearGiven clearance.OutOfRange r = r ≡ Refused 11
 ClearGiven clearance.OverObstructed r = r ≡ Refused 14
-ClearGiven (clearance.Given there needed) (Refused n) = ⊥
-ClearGiven (clearance.Given there needed) (Line l) = ClearLineIs there needed l
+ClearGiven (clearance.Given there needed exact) (Refused n) = ⊥
+ClearGiven (clearance.Given there needed exact) (Line l) = ClearLineIs there needed exact l
 
 -- "Order as numbered": the lower of two refusals
 abbrev pub lower : ℕ → ℕ → ℕ

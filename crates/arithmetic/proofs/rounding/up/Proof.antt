@@ -1,27 +1,25 @@
--- `arithmetic::rounding::up` meets its contract: where the division leaves something, the next number is the least.
+-- `arithmetic::rounding::up` meets its contract: where the division leaves something, the next number is the least, and it is not exact.
 use native.Mathlib.Omega.{arith}
 use borrow.Author.Needs.{needs}
-use Rattle.arithmetic.proofs.rounding.Laws.{up-exact, up-more, up-fits}
+use Rattle.arithmetic.proofs.rounding.Laws.{up-fits}
+use Rattle.arithmetic.proofs.rounding.Exactness.{up-whole, up-rest}
 use Rattle.arithmetic.proofs.rounding.up.Statement.{statement}
 use Rattle.arithmetic.proofs.rounding.up.Tie as tie
+
+div-whole : tie.Need-div-whole
+div-whole c = search needs
 
 rem-if1 : tie.Need-rem-if1
 rem-if1 c = search needs
 
-div-result : tie.Need-div-result
-div-result c = search needs
-
-div-result-2 : tie.Need-div-result-2
-div-result-2 c = search needs
-
-add-result : tie.Need-add-result
-add-result c = omega (arith, up-fits (c .before .args .a) (c .before .args .b) (c .before .pre) (c .if1 .left))
-
 returns : tie.Need-returns
-returns c = up-exact (c .before .args .a) (c .before .args .b) (c .before .pre) (c .if1 .taken)
+returns c = up-whole (c .before .args .a) (c .before .args .b) (c .before .pre) (c .if1 .taken)
+
+add-next : tie.Need-add-next
+add-next c = omega (arith, up-fits (c .before .args .a) (c .before .args .b) (c .before .pre) (c .if1 .left))
 
 returns-2 : tie.Need-returns-2
-returns-2 c = up-more (c .before .args .a) (c .before .args .b) (c .before .pre) (c .if1 .left)
+returns-2 c = up-rest (c .before .args .a) (c .before .args .b) (c .before .pre) (c .if1 .left)
 
 pub up-spec : {M : Type 1} → statement M
-up-spec = tie.close (tie.spec rem-if1 div-result div-result-2 add-result returns returns-2)
+up-spec = tie.close (tie.spec div-whole rem-if1 returns add-next returns-2)

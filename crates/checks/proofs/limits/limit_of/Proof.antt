@@ -108,11 +108,11 @@ returns-8 : tie.Need-returns-8
 unfolding Limit PressureLimit
 returns-8 c =
     let a = c .before .before .before .before .before .args in
-    rw (c .before .before .before .enum-told6 .given .1) (of-second-third (λ j. Limit j PR (a .base) (c .down .result)) (c .down .ensures) (c .down .ensures) (a .combination) (c .before .before .match4 .keys2))
+    rw (c .before .before .before .enum-told6 .given .1) (of-second-third (λ j. Limit j PR (a .base) (c .down .result .value)) (c .down .ensures .rounded) (c .down .ensures .rounded) (a .combination) (c .before .before .match4 .keys2))
 
 returns-9 : tie.Need-returns-9
 unfolding Limit PressureLimit
-returns-9 c = rw (c .before .before .enum-told8 .given .1, c .before .before .before .before .enum-told6 .given .1) (c .down2 .ensures)
+returns-9 c = rw (c .before .before .enum-told8 .given .1, c .before .before .before .before .enum-told6 .given .1) (c .down2 .ensures .rounded)
 
 returns-10 : tie.Need-returns-10
 unfolding Limit HasCheck

@@ -1,20 +1,12 @@
--- OP and OM by their two cases: "none" where nothing overturns, and else rounded down.
-use borrow.Author.Needs.{needs}
-use Rattle.checks.proofs.ranks.Ranks.{tip-none, tip-some}
+-- The rank alone.
 use Rattle.checks.proofs.ranks.tip_rank.Statement.{statement}
 use Rattle.checks.proofs.ranks.tip_rank.Tie as tie
 
+tip-requires : tie.Need-tip-requires
+tip-requires c κs = c .pre
+
 returns : tie.Need-returns
-returns c = tip-none _ _ (c .if1 .taken)
-
-mul-down : tie.Need-mul-down
-mul-down c = search needs
-
-down-requires : tie.Need-down-requires
-down-requires c κs = search needs
-
-returns-2 : tie.Need-returns-2
-returns-2 c = tip-some _ _ (c .before .before .pre) (c .before .if1 .left) (c .down .ensures)
+returns c = c .tip .ensures .ranks
 
 pub tip-rank-spec : {M : Type 1} → statement M
-tip-rank-spec = tie.close (tie.spec returns mul-down down-requires returns-2)
+tip-rank-spec = tie.close (tie.spec tip-requires returns)

@@ -15,8 +15,8 @@ use Rattle.checks.proofs.set_figures.figure_of.Tie as tie
 sums-of-requires : tie.Need-sums-of-requires
 sums-of-requires c κs = search needs
 
-rank-of-requires : tie.Need-rank-of-requires
-rank-of-requires c κs =
+ranked-of-requires : tie.Need-ranked-of-requires
+ranked-of-requires c κs =
     let e = c .before in
     (e .pre .0, subst⁻¹ (Room 16) (c .sums-of .ensures) (room-all _ _ _ (e .pre .0 .width) (e .pre .1)))
 
@@ -26,10 +26,10 @@ figure-at-requires c κs = search needs
 returns : tie.Need-returns
 returns c =
     let e = c .before .before .before .args in
-    let ranked = c .before .rank-of .ensures in
+    let ranked = c .before .ranked-of .ensures .ranks in
     let same = rank-one (side (e .check)) _ _ (ranked .has-rank) (c .figure-at .ensures .0) (ranked .ranked ∙ sym (c .figure-at .ensures .1)) in
     by-sums-shows (e .base) (e .loads) (e .set) (e .check) _
     (subst₂ (λ (s : Sums) (v : Figure). ShowsBySums (e .check) (e .base) s v) (c .before .before .sums-of .ensures) same (ranked .holds))
 
 pub figure-of-spec : {M : Type 1} → statement M
-figure-of-spec = tie.close (tie.spec sums-of-requires rank-of-requires figure-at-requires returns)
+figure-of-spec = tie.close (tie.spec sums-of-requires ranked-of-requires figure-at-requires returns)

@@ -19,10 +19,12 @@ up-requires : tie.Need-up-requires
 up-requires c κs = search needs
 
 add-result : tie.Need-add-result
-add-result c = omega (arith, c .up .ensures .least 600 (omega arith))
+add-result c = omega (arith, c .before .up .ensures .rounded .least 600 (omega arith))
 
 returns-2 : tie.Need-returns-2
-returns-2 c = to-300000 (c .before .before .if1 .left) (c .before .if2 .taken) (c .up .ensures) refl
+returns-2 c =
+    let more = c .before in
+    to-300000 (more .before .before .if1 .left) (more .before .if2 .taken) (more .up .ensures .rounded) refl
 
 returns-3 : tie.Need-returns-3
 returns-3 c = to-3000000 (c .before .if2 .left) (c .if3 .taken)

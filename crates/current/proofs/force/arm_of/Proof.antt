@@ -14,7 +14,7 @@ up-requires : tie.Need-up-requires
 up-requires c κs = search needs
 
 returns : tie.Need-returns
-returns c = rw (thirds (c .before .args .upper) (c .before .args .lower) (c .before .pre .1)) (c .up .ensures)
+returns c = rw (thirds (c .before .args .upper) (c .before .args .lower) (c .before .pre .1)) ((c .up .ensures) .rounded)
 
 pub arm-of-spec : {M : Type 1} → statement M
 arm-of-spec = tie.close (tie.spec mul-up add-up up-requires returns)

@@ -34,7 +34,7 @@ up-requires c κs = search needs
 returns : tie.Need-returns
 returns c =
     let a = c .before .args in
-    rw (square (a .velocity)) (five-times (a .k * a .area * (a .velocity * a .velocity)) (c .up .result) (c .up .ensures))
+    rw (square (a .velocity)) (five-times (a .k * a .area * (a .velocity * a .velocity)) (c .up .result .value) ((c .up .ensures) .rounded))
 
 pub force-of-spec : {M : Type 1} → statement M
 force-of-spec = tie.close (tie.spec mul-up mul-up-2 mul-up-3 mul-up-4 up-requires returns)

@@ -26,7 +26,7 @@ up-requires : tie.Need-up-requires
 up-requires c κs = search needs
 
 returns : tie.Need-returns
-returns c = simp square (c .up .ensures)
+returns c = simp square ((c .up .ensures) .rounded)
 
 pub thrust-of-spec : {M : Type 1} → statement M
 thrust-of-spec = tie.close (tie.spec mul-up mul-up-2 mul-up-3 up-requires returns)

@@ -35,7 +35,7 @@ returns c =
     let put =
     then-put _ _ _ _ _ 6 _ (spelled _ _ _ _ _ refl (name .put .ensures) tt)
     (then-put _ _ _ _ _ _ _ (refusal .put-number .ensures .0)
-    (then-put _ _ _ _ _ _ 4 (row .put-number2 .ensures .0) (spelled _ _ _ _ _ refl (c .put2 .ensures) tt))) in
+    (then-put _ _ _ _ _ _ 5 (row .put-number2 .ensures .0) (spelled _ _ _ _ _ refl (c .put2 .ensures) tt))) in
     (put .is ∙ puts-blank _, omega (arith, put .short, refusal .put-number .ensures .1, row .put-number2 .ensures .1))
 
 pub book-line-spec : {M : Type 1} → statement M

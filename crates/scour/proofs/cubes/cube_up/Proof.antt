@@ -51,6 +51,12 @@ loop-less-2 c = omega arith
 loop-again-2 : tie.Need-loop-again-2 Inv-loop μ-loop
 loop-again-2 c = bracket-lowered (middle (c .before)) (c .before .before .loop .inv) (omega arith) (omega arith) (c .if1 .left)
 
+mul-reached : tie.Need-mul-reached Inv-loop μ-loop
+mul-reached c = record { fits = lt-of-le-of-lt (square-small (c .before .loop .inv .top)) (lit< tt) }
+
+mul-reached-2 : tie.Need-mul-reached-2 Inv-loop μ-loop
+mul-reached-2 c = record { fits = lt-of-le-of-lt (cube-small (c .before .loop .inv .top)) (lit< tt) }
+
 returns : tie.Need-returns Inv-loop μ-loop
 returns c = bracket-closed (c .before .loop .inv) (c .loop-test .left)
 
@@ -70,4 +76,6 @@ cube-up-spec =
     loop-again
     loop-less-2
     loop-again-2
+    mul-reached
+    mul-reached-2
     returns)

@@ -13,7 +13,7 @@ up-requires : tie.Need-up-requires
 up-requires c κs = search needs
 
 returns : tie.Need-returns
-returns c = to-500 (c .before .if1 .taken) (c .up .ensures)
+returns c = to-500 (c .before .if1 .taken) (c .up .ensures .rounded)
 
 sub-up : tie.Need-sub-up
 sub-up c = search needs
@@ -25,7 +25,7 @@ up-requires-2 : tie.Need-up-requires-2
 up-requires-2 c κs = search needs
 
 returns-2 : tie.Need-returns-2
-returns-2 c = to-5000 (c .before .before .if1 .left) (c .before .if2 .taken) (c .up2 .ensures)
+returns-2 c = to-5000 (c .before .before .if1 .left) (c .before .if2 .taken) (c .up2 .ensures .rounded)
 
 sub-up-2 : tie.Need-sub-up-2
 sub-up-2 c = search needs
@@ -37,7 +37,7 @@ up-requires-3 : tie.Need-up-requires-3
 up-requires-3 c κs = search needs
 
 returns-3 : tie.Need-returns-3
-returns-3 c = to-25000 (c .before .if2 .left) (c .before .before .before .pre .1) (c .up3 .ensures)
+returns-3 c = to-25000 (c .before .if2 .left) (c .before .before .before .pre .1) (c .up3 .ensures .rounded)
 
 pub foundation-discharge-spec : {M : Type 1} → statement M
 foundation-discharge-spec =

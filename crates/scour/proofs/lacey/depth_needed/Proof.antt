@@ -28,13 +28,13 @@ up-requires : tie.Need-up-requires
 up-requires c κs = search needs
 
 mul-up-3 : tie.Need-mul-up-3
-mul-up-3 c = omega (arith, c .up .ensures .least 112750 (most (c .before)))
+mul-up-3 c = omega (arith, c .before .up .ensures .rounded .least 112750 (most (c .before .before)))
 
 up-requires-2 : tie.Need-up-requires-2
 up-requires-2 c κs = search needs
 
 returns : tie.Need-returns
-returns c = search needs
+returns c = let up = c .before .before .up in record { greatest = up .result .value; scour = up .ensures .rounded; rounded = c .up2 .ensures }
 
 pub depth-needed-spec : {M : Type 1} → statement M
 depth-needed-spec =

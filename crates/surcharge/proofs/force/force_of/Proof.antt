@@ -6,8 +6,8 @@ use borrow.Author.Needs.{needs}
 use Rattle.surcharge.proofs.force.force_of.Statement.{statement}
 use Rattle.surcharge.proofs.force.force_of.Tie as tie
 
-kilograms : (c : tie.After-up) → c .up .result * c .before .args .length ≤ 302500 * 60000
-kilograms c = mul-le-mul (c .up .ensures .least 302500 (c .before .pre .1)) (c .before .pre .2)
+kilograms : (c : tie.After-up) → c .up .result .value * c .before .args .length ≤ 302500 * 60000
+kilograms c = mul-le-mul ((c .up .ensures) .rounded .least 302500 (c .before .pre .1)) (c .before .pre .2)
 
 up-requires : tie.Need-up-requires
 up-requires c κs = search needs
@@ -22,7 +22,7 @@ up-requires-2 : tie.Need-up-requires-2
 up-requires-2 c κs = search needs
 
 returns : tie.Need-returns
-returns c = record { p = c .before .up .result; kilograms = c .before .up .ensures; over-length = c .up2 .ensures }
+returns c = record { p = c .before .up .result .value; kilograms = (c .before .up .ensures) .rounded; over-length = (c .up2 .ensures) .rounded }
 
 pub force-of-spec : {M : Type 1} → statement M
 force-of-spec = tie.close (tie.spec up-requires mul-up mul-up-2 up-requires-2 returns)

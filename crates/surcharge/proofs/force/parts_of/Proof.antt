@@ -90,8 +90,8 @@ returns : tie.Need-returns
 returns c =
     let first = c .before .before in
     record {
-      p1 = record { force = first .before .force-of .ensures; arm = first .up .ensures };
-      p2 = record { force = rw (square (first .before .before .args .spread)) (c .before .force-of2 .ensures); arm = c .up2 .ensures };
+      p1 = record { force = first .before .force-of .ensures; arm = (first .up .ensures) .rounded };
+      p2 = record { force = rw (square (first .before .before .args .spread)) (c .before .force-of2 .ensures); arm = (c .up2 .ensures) .rounded };
     }
 
 pub parts-of-spec : {M : Type 1} → statement M
