@@ -8,9 +8,9 @@ use lib.ListN.{length}
 use native.Mathlib.Decide.{dec_lt}
 use lib.Seq.{append_snoc}
 use Rattle.arithmetic.proofs.Cases.{impossible, by_cases}
-use Rattle.csv.specs.rfc4180.Rfc4180.{Cell, File, Readable}
-use Rattle.csv.proofs.rfc4180.Unique.{file_unique}
-use Rattle.csv.proofs.Lists.{level}
+use Rattle.csv_text.specs.rfc4180.Rfc4180.{Cell, File, Readable}
+use Rattle.csv_text.proofs.rfc4180.Unique.{file_unique}
+use Rattle.csv_text.proofs.Lists.{level}
 use Rattle.rows.specs.Form.{BookRow, Form}
 use Rattle.rows.proofs.Forms.{form_one}
 use Rattle.jobs.specs.declared.Job.{Job}

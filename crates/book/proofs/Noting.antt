@@ -4,10 +4,10 @@ use native.Mathlib.Omega.{arith}
 use mathlib.Core.Path.{refl, sym, ap, subst, ◌∙◌, ◌≡◌}
 use mathlib.Core.List.{List, [], ◌∷◌, ◌++◌}
 use lib.ListN.{length}
-use Rattle.csv.specs.rfc4180.Rfc4180.{Cell}
-use Rattle.csv.specs.notes.Notes.{NoteIn, cell, no_cell, NoteAt}
-use Rattle.csv.specs.Nth.{Nth}
-use Rattle.csv.proofs.notes.Answers.{nth_one}
+use Rattle.csv_text.specs.rfc4180.Rfc4180.{Cell}
+use Rattle.csv_text.specs.notes.Notes.{NoteIn, cell, no_cell, NoteAt}
+use Rattle.csv_text.specs.Nth.{Nth}
+use Rattle.csv_text.proofs.notes.Answers.{nth_one}
 use Rattle.rows.specs.Form.{BookRow, Form}
 use Rattle.rows.proofs.Forms.{note_is}
 use Rattle.book.specs.JobBook.{Jobs, Forms, form, JobBook}

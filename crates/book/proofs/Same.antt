@@ -9,7 +9,7 @@ use Rattle.kinds.specs.declared.Role.TheVariants.{Load}
 use Rattle.rows.specs.Form.{BookRow}
 use Rattle.rows.specs.keys.Keyed.{no_row}
 use Rattle.rows.specs.declared.keys.Keyed.{Keyed}
-use Rattle.csv.proofs.Lists.{heads, tails}
+use Rattle.csv_text.proofs.Lists.{heads, tails}
 use Rattle.book.specs.JobBook.{IsA, River, WrittenJob, LoadRows, no_load_row, load, Rivers, is_dry, is_scoured, is_crossed, GoodJob, good, river_rows}
 use Rattle.book.specs.Values.{stage_of, scour_of, clearance_of, load_rows, job_value}
 use Rattle.book.specs.SameJob.{keyed_rows, SameJob}

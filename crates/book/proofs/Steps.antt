@@ -9,7 +9,7 @@ use Rattle.rows.specs.Form.{BookRow}
 use Rattle.kinds.specs.declared.Role.TheVariants.{Base, Scour, Clearance, Load}
 use Rattle.book.specs.JobBook.{IsA, SameKey, River, dry, scoured, crossed, job, river_rows, LoadRows, no_load_row, load, is_dry, is_scoured, is_crossed, good, Jobs, none, ◌and◌, count, rows_of, Whole, no_whole, one_whole, Different, new_key}
 use Rattle.book.specs.Beginning.{Shaped, no_job, one_more, Loaded, Placed}
-use Rattle.csv.proofs.Lists.{not_empty, lasts}
+use Rattle.csv_text.proofs.Lists.{not_empty, lasts}
 use Rattle.book.proofs.Ends.{EmptyOrLast, empty, ended, ends}
 
 -- whole jobs are those that rows may be placed in with no load row missing

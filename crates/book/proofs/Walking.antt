@@ -6,10 +6,10 @@ use mathlib.Core.Bool.{Bool, true, false}
 use mathlib.Core.List.{List, [], ◌∷◌, ◌++◌}
 use lib.ListN.{length, set}
 use Rattle.arithmetic.proofs.Cases.{impossible}
-use Rattle.csv.specs.rfc4180.Rfc4180.{Cell, File, Readable}
-use Rattle.csv.proofs.notes.Reached.{RowReached, reached_start, reached_more, reached_last, reached_many}
+use Rattle.csv_text.specs.rfc4180.Rfc4180.{Cell, File, Readable}
+use Rattle.csv_text.proofs.notes.Reached.{RowReached, reached_start, reached_more, reached_last, reached_many}
 use Rattle.rows.specs.Form.{BookRow, Form}
-use Rattle.csv.specs.cells.Standing.{raw}
+use Rattle.csv_text.specs.cells.Standing.{raw}
 use Rattle.rows.specs.Answer.{RowGiven, RowSeen, SeenAt}
 use Rattle.rows.specs.declared.keys.Key.{Key}
 use Rattle.rows.specs.declared.RowRead.{RowRead}

@@ -1,7 +1,7 @@
 -- Document 01, refusals of a book: "the first bad row" is the first with which no job book begins. The rows that one may begin with are
 -- those of whole jobs and of one job more, which may lack load rows.
 use Rattle.std.specs.Prelude.{◌≤◌, ◌≡◌, List, length}
-use Rattle.csv.specs.rfc4180.Rfc4180.{Cell}
+use Rattle.csv_text.specs.rfc4180.Rfc4180.{Cell}
 use Rattle.rows.specs.Form.{BookRow}
 use Rattle.book.specs.JobBook.{WrittenJob, loads, GoodJob, Jobs, none, ◌and◌, count, rows_of, Whole, Different, Forms}
 

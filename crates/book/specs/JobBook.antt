@@ -1,7 +1,7 @@
 -- Document 01, the job book: "A job is a B row, at most one S, at most one C (only after S), then 1 to 16 load rows .., all with one key.
 -- The next B starts the next job. At most 64 jobs, all keys different." What a job is, and what a book of jobs is.
 use Rattle.std.specs.Prelude.{ℕ, suc, ◌≤◌, ◌≡◌, List, [], ◌∷◌, ◌++◌, length}
-use Rattle.csv.specs.rfc4180.Rfc4180.{Cell, File}
+use Rattle.csv_text.specs.rfc4180.Rfc4180.{Cell, File}
 use Rattle.kinds.specs.Table.{role}
 use Rattle.kinds.specs.declared.Role.{Role}
 use Rattle.kinds.specs.declared.Role.TheVariants.{Base, Scour, Clearance, Load}

@@ -1,7 +1,7 @@
 -- Document 01, the job book: the note "is handed on as the stretch of the book from its comma to its row's end, quotes included,
 -- that comma and the row's CRLF not".
 use Rattle.std.specs.Prelude.{ℕ, ◌≡◌, List, []}
-use Rattle.csv.specs.Nth.{Nth}
+use Rattle.csv_text.specs.Nth.{Nth}
 use Rattle.rows.specs.Form.{BookRow}
 use Rattle.book.specs.JobBook.{Jobs, JobBook}
 

@@ -4,7 +4,7 @@
 // What is told is stated of the book alone, and the number and row of it are those of the book's reading. The walk over the rows is the
 // reader's own, so that both stop at one row; what lies there is asked only then.
 ghost use Rattle.std.specs.Prelude.{◌≡◌, ◌≤◌, length, drop};
-ghost use Rattle.csv.specs.rfc4180.Rfc4180.{Readable};
+ghost use Rattle.csv_text.specs.rfc4180.Rfc4180.{Readable};
 ghost use Rattle.book.specs.faults.Rules.{UsedAt};
 ghost use Rattle.book.specs.faults.Faults.{BookLies};
 ghost use Rattle.book.specs.faults.FormAlone.{FormLies};
@@ -13,7 +13,7 @@ ghost use Rattle.book.specs.steps.Faulted.{RuleAt, rows_in_river, UsedAmong};
 
 use crate::walk;
 use crate::walk::{Ending, Stop};
-use csv::strays::TextFault;
+use csv_text::strays::TextFault;
 use jobs::Job;
 use jobs::misplaced::{Misplaced, Placing};
 use jobs::stages::Stage;
@@ -118,8 +118,8 @@ pub fn book_fault(book: &[u8]) -> BookFault
     if 65536 < book.len() {
         return BookFault::TooLong;
     }
-    if !csv::is_csv(book) {
-        return BookFault::Text(csv::strays::text_fault(book));
+    if !csv_text::is_csv(book) {
+        return BookFault::Text(csv_text::strays::text_fault(book));
     }
     stop_fault(book, walk::walk_rows(book))
 }
@@ -129,13 +129,13 @@ pub fn book_fault(book: &[u8]) -> BookFault
 pub fn form_fault(book: &[u8], row: usize) -> RowFault
     ensures { FormLies book.now row result }
 {
-    if !csv::is_csv(book) {
+    if !csv_text::is_csv(book) {
         return RowFault::Sound;
     }
     if row == 1 {
         return rows::faults::fault_at(book, 0);
     }
-    let start = csv::places::start_of(book, row);
+    let start = csv_text::places::start_of(book, row);
     if book.len() <= start {
         return RowFault::Sound;
     }

@@ -21,7 +21,7 @@ pub fn read_book(book: &[u8]) -> Book
     if 65536 < book.len() {
         return counted::refused(Refusal::TooLong, 0);
     }
-    if !csv::is_csv(book) {
+    if !csv_text::is_csv(book) {
         return counted::refused(Refusal::NotCsv, 0);
     }
     walk::read_rows(book)
@@ -42,7 +42,7 @@ pub fn note_of(book: &[u8], row: usize) -> &[u8]
     ensures { NoteIs book.now row result.now }
 {
     match count_jobs(book) {
-        Count::Given(_) => csv::notes::note_at(book, row),
+        Count::Given(_) => csv_text::notes::note_at(book, row),
         Count::Refused(_, _) => &book[0..0],
     }
 }

@@ -3,7 +3,7 @@
 //
 // A row without a form is refused with 3 wherever it stands, so its place is not looked at.
 ghost use Rattle.std.specs.Prelude.{◌≤◌, length, drop};
-ghost use Rattle.csv.specs.rfc4180.Rfc4180.{Readable};
+ghost use Rattle.csv_text.specs.rfc4180.Rfc4180.{Readable};
 ghost use Rattle.book.specs.steps.Step.{StepIs};
 
 use jobs::{Job, Took};

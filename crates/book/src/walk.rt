@@ -6,7 +6,7 @@
 // their jobs. What is hard is that the first bad row is the first with which no job book begins, wherever one might cut the jobs. The walk
 // hands back where it stopped, so that a refusal can be told with what lies there.
 ghost use Rattle.std.specs.Prelude.{◌≡◌, ◌≤◌, length};
-ghost use Rattle.csv.specs.rfc4180.Rfc4180.{Readable};
+ghost use Rattle.csv_text.specs.rfc4180.Rfc4180.{Readable};
 ghost use Rattle.book.specs.Reading.{BookIs};
 ghost use Rattle.book.specs.steps.Stop.{refused_stop, StopIs};
 

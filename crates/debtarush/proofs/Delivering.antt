@@ -14,7 +14,7 @@ use Rattle.debtarush.specs.CallTold.{CallTold, written, refused}
 use Rattle.debtarush.specs.steps.LinesIn.{LinesIn}
 use Rattle.book.specs.JobBook.{Jobs, JobBook}
 use Rattle.book.specs.Values.{values}
-use Rattle.csv.specs.Nth.{Nth}
+use Rattle.csv_text.specs.Nth.{Nth}
 use Rattle.debtarush.specs.Called.{Called, too_short, lines}
 
 -- what is told of writing to the buffer, with the same length, or the same number and row

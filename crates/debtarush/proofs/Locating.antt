@@ -13,8 +13,8 @@ use Rattle.book.specs.counted.Places.{places}
 use Rattle.book.specs.Values.{values}
 use Rattle.book.specs.Says as book
 use Rattle.book.specs.Reading as reading
-use Rattle.csv.specs.Nth.{Nth}
-use Rattle.csv.proofs.notes.Answers.{nth_one}
+use Rattle.csv_text.specs.Nth.{Nth}
+use Rattle.csv_text.proofs.notes.Answers.{nth_one}
 use Rattle.rows.specs.refusals.Numbers.{refusal_number}
 use Rattle.rows.specs.declared.refusals.Refusal.{Refusal}
 use Rattle.book.specs.declared.counted.Book.{Book}

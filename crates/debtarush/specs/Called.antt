@@ -7,7 +7,7 @@ use Rattle.book.specs.Values.{values}
 use Rattle.book.specs.Says as book
 use Rattle.fills.specs.Says.{Accepted}
 use Rattle.debtarush.specs.Lines.{JobText}
-use Rattle.csv.specs.Nth.{Nth}
+use Rattle.csv_text.specs.Nth.{Nth}
 use Rattle.debtarush.specs.CallTold.{CallTold, written, refused}
 
 -- a call for the lines of the job at a place of a book, with a buffer that held `before` and holds `after` then.

@@ -10,7 +10,7 @@ use Rattle.jobs.specs.declared.Job.{Job}
 use Rattle.book.specs.JobBook.{Jobs, JobBook}
 use Rattle.book.specs.Values.{values}
 use Rattle.earth.specs.declared.coefficients.Coefficient.{Coefficient}
-use Rattle.csv.specs.Nth.{Nth}
+use Rattle.csv_text.specs.Nth.{Nth}
 use Rattle.lines.specs.declared.Verdict.TheVariants.{Refused}
 use Rattle.lines.specs.Lines.{verdict_line, unless_refused, lines_of}
 use Rattle.answer.specs.Rules.{Refuses}

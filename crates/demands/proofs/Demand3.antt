@@ -12,7 +12,7 @@ use Rattle.rows.specs.declared.keys.Key.{Key}
 use Rattle.book.specs.JobBook.{WrittenJob, job, base, Jobs, JobBook}
 use Rattle.book.specs.Values.{job_value}
 use Rattle.book.specs.SameJob.{SameJob, listed}
-use Rattle.csv.specs.Nth.{Nth}
+use Rattle.csv_text.specs.Nth.{Nth}
 use Rattle.book.proofs.Answers as read
 use Rattle.book.proofs.Same.{same_value}
 use Rattle.earth.specs.declared.coefficients.Coefficient.{Coefficient}

@@ -3,13 +3,13 @@ use Prim.Native.Nat.{ℕ, ◌+◌}
 use mathlib.Core.Path.{◌≡◌, refl, sym, ap, subst, ◌∙◌}
 use mathlib.Core.List.{List, [], ◌∷◌, ◌++◌, map, map-append}
 use lib.ListN.{length-map}
-use Rattle.csv.specs.rfc4180.Rfc4180.{Cell}
+use Rattle.csv_text.specs.rfc4180.Rfc4180.{Cell}
 use Rattle.rows.specs.Form.{BookRow, Form}
 use Rattle.jobs.specs.declared.Job.{Job}
 use Rattle.book.specs.JobBook.{WrittenJob, job, Jobs, none, ◌and◌, job_rows, rows_of, GoodJob, Forms, no_form, form, Whole, no_whole, one_whole, JobBook}
 use Rattle.book.specs.Values.{job_value, values}
 use Rattle.printing.specs.Keys.{IsKey}
-use Rattle.csv.specs.Nth.{Nth}
+use Rattle.csv_text.specs.Nth.{Nth}
 use Rattle.book.specs.SameJob.{listed}
 use Rattle.demands.proofs.All as all
 

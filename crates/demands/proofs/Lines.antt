@@ -29,7 +29,7 @@ use Rattle.lines.specs.verdicts.Verdict.{VerdictIs}
 use Rattle.answer.specs.Columns.{base_of}
 use Rattle.answer.specs.river.River.{DepthIs, ClearIs}
 use Rattle.answer.specs.Answer.{LinesAre, LinesGiven, refusal, AnswerIs, refused, answered}
-use Rattle.csv.specs.Nth.{Nth}
+use Rattle.csv_text.specs.Nth.{Nth}
 use Rattle.demands.specs.EachLine.{LineTold}
 use Rattle.demands.proofs.All as all
 

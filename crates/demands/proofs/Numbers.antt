@@ -4,7 +4,7 @@ use native.Mathlib.Omega.{arith}
 use mathlib.Core.Path.{◌≡◌}
 use mathlib.Core.List.{List}
 use Rattle.arithmetic.proofs.Cases.{impossible}
-use Rattle.csv.specs.rfc4180.Rfc4180.{Cell}
+use Rattle.csv_text.specs.rfc4180.Rfc4180.{Cell}
 use Rattle.rows.specs.Form.{BookRow}
 use Rattle.book.specs.Says.{formless, misplaced, surplus, reused, Bad, BookSays, too_long, not_csv, bad_row, unfinished, book, refused}
 

@@ -8,7 +8,7 @@ use Rattle.arithmetic.proofs.Cases.{impossible}
 use Rattle.jobs.specs.declared.Job.{Job}
 use Rattle.book.specs.JobBook.{Jobs, JobBook}
 use Rattle.book.specs.Values.{values}
-use Rattle.csv.specs.Nth.{Nth}
+use Rattle.csv_text.specs.Nth.{Nth}
 use Rattle.book.proofs.Answers.{refused_none}
 use Rattle.earth.specs.declared.coefficients.Coefficient.{Coefficient}
 use Rattle.fills.specs.Says.{FillFor}

@@ -7,7 +7,7 @@ use Rattle.book.specs.JobBook.{Jobs, count, JobBook}
 use Rattle.book.specs.Values.{values}
 use Rattle.book.specs.Says as book
 use Rattle.earth.specs.declared.coefficients.Coefficient.{Coefficient}
-use Rattle.csv.specs.Nth.{Nth}
+use Rattle.csv_text.specs.Nth.{Nth}
 use Rattle.lines.specs.declared.Verdict.TheVariants.{Refused}
 use Rattle.lines.specs.Lines.{verdict_line}
 use Rattle.answer.specs.Rules.{Refuses}

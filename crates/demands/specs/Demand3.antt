@@ -9,7 +9,7 @@ use Rattle.fills.specs.declared.fill_rows.Fill.{Fill}
 use Rattle.fills.specs.declared.fill_rows.Whose.{Whose}
 use Rattle.fills.specs.FillBook.{FillBook}
 use Rattle.fills.specs.Says.{Accepted}
-use Rattle.csv.specs.Nth.{Nth}
+use Rattle.csv_text.specs.Nth.{Nth}
 use Rattle.debtarush.specs.CallTold.{CallTold, written, refused}
 use Rattle.debtarush.specs.Called.{Called}
 use Rattle.demands.specs.SameValues.{SameValues, SameFills}

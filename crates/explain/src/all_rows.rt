@@ -48,15 +48,15 @@ fn take_row(text: &mut [u8], numbers: &mut [usize], len: usize, n: usize) -> usi
     if 65536 < n {
         return 0;
     }
-    let from = csv::places::start_of(&text[0..len], n);
-    let to = csv::places::start_of(&text[0..len], n + 1);
+    let from = csv_text::places::start_of(&text[0..len], n);
+    let to = csv_text::places::start_of(&text[0..len], n + 1);
     take_number(numbers, n);
     take_bytes(text, from, to, len)
 }
 
 // Whether the row n of a text is a B row, by its kind.
 fn is_base(text: &[u8], n: usize) -> bool {
-    match kinds::letters::kind_at(csv::places::cell_of(text, n, 3)) {
+    match kinds::letters::kind_at(csv_text::places::cell_of(text, n, 3)) {
         KindRead::Known(kind) => {
             if let Kind::B = kind {
                 return true;
@@ -116,7 +116,7 @@ fn take_lost(book: &[u8], text: &mut [u8], numbers: &mut [usize], len: usize, n:
         if text.len() < left {
             return 0;
         }
-        if left <= csv::places::start_of(&text[0..left], n) {
+        if left <= csv_text::places::start_of(&text[0..left], n) {
             return left;
         }
         if is_base(&text[0..left], n) {
@@ -144,7 +144,7 @@ fn tell_next(book: &[u8], text: &mut [u8], numbers: &mut [usize], len: usize) ->
         return 0;
     }
     book_words::tell(book, renumbered(numbers, fault));
-    if len <= csv::places::start_of(&text[0..len], n) {
+    if len <= csv_text::places::start_of(&text[0..len], n) {
         return 0;
     }
     let base = is_base(&text[0..len], n);

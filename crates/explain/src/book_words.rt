@@ -21,7 +21,7 @@ fn is_empty(kind: Kind, column: usize) -> bool {
 
 // A number's column that has not its form.
 fn tell_number(book: &[u8], n: usize, kind: Kind, column: usize) {
-    let raw = csv::places::cell_of(book, n, column);
+    let raw = csv_text::places::cell_of(book, n, column);
     columns::column(kind, column);
     say(b": ");
     words::field(raw);
@@ -42,7 +42,7 @@ fn tell_number(book: &[u8], n: usize, kind: Kind, column: usize) {
 fn tell_name(book: &[u8], n: usize, column: usize, name: &[u8]) {
     say(name);
     say(b": ");
-    words::field(csv::places::cell_of(book, n, column));
+    words::field(csv_text::places::cell_of(book, n, column));
     say(b"\n  is no ");
     say(name);
 }
@@ -68,7 +68,7 @@ fn tell_column(book: &[u8], n: usize, column: usize) {
             );
         }
         _ => {
-            if let KindRead::Known(kind) = kinds::letters::kind_at(csv::places::cell_of(
+            if let KindRead::Known(kind) = kinds::letters::kind_at(csv_text::places::cell_of(
                 book, n, 3,
             )) {
                 tell_number(book, n, kind, column);
@@ -121,7 +121,7 @@ fn tell_rule(why: Misplaced) {
 
 // A row out of place, or the end, where the last job has no load row.
 fn tell_misplaced(book: &[u8], n: usize, why: Misplaced) {
-    if book.len() <= csv::places::start_of(book, n) {
+    if book.len() <= csv_text::places::start_of(book, n) {
         say(b"the end of the book, where row ");
         words::number(n as u64);
         say(b" would stand\n  The last job has no load row: each job has 1 to 16.");

@@ -48,7 +48,7 @@ fn tell_fault(s: &[u8], whose: Whose, fault: FillFault) {
             words::number(column as u64);
             say(b", ");
             column_name(column);
-            words::field(csv::places::cell_of(s, n, column));
+            words::field(csv_text::places::cell_of(s, n, column));
             say(b"\n");
             tell_column(whose, column);
         }

@@ -23,7 +23,7 @@ pub(crate) fn tell_number(book: &[u8], n: usize, kind: Kind, column: usize) {
     say(b", ");
     columns::column(kind, column);
     say(b": ");
-    words::field(csv::places::cell_of(book, n, column));
+    words::field(csv_text::places::cell_of(book, n, column));
     say(b"\n");
 }
 
@@ -143,7 +143,7 @@ fn tell_named(named: usize, job: Job) {
 
 // 18: an LF or CF row that names no LL row.
 fn tell_train(book: &[u8], n: usize, named: u32, job: Job) {
-    if let KindRead::Known(kind) = kinds::letters::kind_at(csv::places::cell_of(book, n, 3)) {
+    if let KindRead::Known(kind) = kinds::letters::kind_at(csv_text::places::cell_of(book, n, 3)) {
         tell_number(book, n, kind, 9);
     }
     say(b"  names load row ");

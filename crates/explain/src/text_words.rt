@@ -1,7 +1,7 @@
 // Where a text stops being RFC 4180 (document 01, refusal 2; of a fill book 02, P4, refusal 8), in words.
 use crate::words;
 use crate::words::say;
-use csv::strays::{Spot, TextFault};
+use csv_text::strays::{Spot, TextFault};
 
 // The place in its line of the byte behind one that has this place.
 fn place_behind(place: usize, byte: u8) -> usize {
@@ -31,7 +31,7 @@ fn byte_in_line(s: &[u8], at: usize) -> usize {
 // A byte by its line, as an editor counts it, and its place there.
 fn place(s: &[u8], at: usize) {
     say(b"line ");
-    words::number(csv::places::line_of(s, at) as u64);
+    words::number(csv_text::places::line_of(s, at) as u64);
     say(b" of the text, byte ");
     words::number(byte_in_line(s, at) as u64);
     say(b" of it: ");

@@ -101,26 +101,26 @@ fn content(raw: &[u8]) {
 
 // A row as a sheet counts it, and the line on which it begins as an editor counts it.
 pub(crate) fn row(book: &[u8], n: usize) {
-    let start = csv::places::start_of(book, n);
+    let start = csv_text::places::start_of(book, n);
     say(b"row ");
     number(n as u64);
     say(b" (line ");
-    number(csv::places::line_of(book, start) as u64);
+    number(csv_text::places::line_of(book, start) as u64);
     say(b" of the text)");
 }
 
 // Member and job of a row of good form.
 pub(crate) fn key(book: &[u8], n: usize) {
-    content(csv::places::cell_of(book, n, 1));
+    content(csv_text::places::cell_of(book, n, 1));
     say(b",");
-    content(csv::places::cell_of(book, n, 2));
+    content(csv_text::places::cell_of(book, n, 2));
 }
 
 // A row with its kind and key.
 pub(crate) fn keyed_row(book: &[u8], n: usize) {
     row(book, n);
     say(b", ");
-    content(csv::places::cell_of(book, n, 3));
+    content(csv_text::places::cell_of(book, n, 3));
     say(b" of ");
     key(book, n);
     say(b"\n");

@@ -1,6 +1,6 @@
 -- Where a refusal lies: "The number and row are those that `job_lines` tells: a theorem." And there is one such place.
 use Rattle.std.specs.Prelude.{ℕ, ◌+◌, ◌≡◌, List, ◌++◌, length, drop}
-use Rattle.csv.specs.Nth.{Nth}
+use Rattle.csv_text.specs.Nth.{Nth}
 use Rattle.jobs.specs.declared.Job.{Job}
 use Rattle.kinds.specs.declared.Row.{Row}
 use Rattle.earth.specs.declared.coefficients.Coefficient.{Coefficient}

@@ -1,6 +1,6 @@
 -- Where a refusal lies: a job of a book by the row on which it begins, and a row of a job in its book.
 use Rattle.std.specs.Prelude.{ℕ, ◌+◌, ◌≡◌, List, length}
-use Rattle.csv.specs.Nth.{Nth}
+use Rattle.csv_text.specs.Nth.{Nth}
 use Rattle.kinds.specs.declared.Row.{Row}
 use Rattle.rows.specs.Form.{BookRow}
 use Rattle.book.specs.JobBook.{WrittenJob, Jobs, ◌and◌, rows_of}

@@ -2,7 +2,7 @@
 use Prim.Native.Nat.{ℕ}
 use mathlib.Core.Path.{◌≡◌, refl, sym, ap, subst, ◌∙◌}
 use mathlib.Core.List.{List}
-use Rattle.csv.proofs.rfc4180.Unique.{content_unique}
+use Rattle.csv_text.proofs.rfc4180.Unique.{content_unique}
 use Rattle.fields.specs.Numbers.{IsNumber, IsEmpty}
 use Rattle.fields.specs.Entries.{EntryIn, EntryAt}
 use Rattle.fields.specs.declared.Entry.{Entry}

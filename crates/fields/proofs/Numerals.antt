@@ -11,8 +11,8 @@ use lib.Seq.{take_all}
 use mir.Val.{bool_byte}
 use borrow.Author.Tests.{ltb-true, eqb-true, eqb-false}
 use Rattle.arithmetic.proofs.Cases.{impossible}
-use Rattle.csv.proofs.Lists.{tails}
-use Rattle.csv.specs.rfc4180.Rfc4180.{high, Plain, none, text}
+use Rattle.csv_text.proofs.Lists.{tails}
+use Rattle.csv_text.specs.rfc4180.Rfc4180.{high, Plain, none, text}
 use Rattle.fields.specs.digits.Numerals.{Digited}
 use Rattle.fields.proofs.digits.Numerals.{Digit, numeral_some, numeral_digit, numeral_unique}
 use Rattle.fields.specs.content.Content.{Bare}

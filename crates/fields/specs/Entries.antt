@@ -1,6 +1,6 @@
 -- What `number_at` and `empty_at` answer for a stretch of the book (document 01, the job book).
 use Rattle.std.specs.Prelude.{ℕ, List}
-use Rattle.csv.specs.rfc4180.Rfc4180.{Field}
+use Rattle.csv_text.specs.rfc4180.Rfc4180.{Field}
 use Rattle.fields.specs.declared.Entry.{Entry}
 use Rattle.fields.specs.declared.Entered.{Entered}
 use Rattle.fields.specs.declared.Entered.TheVariants.{Is, Wrong}

@@ -8,7 +8,7 @@ use mathlib.Core.List.{List, [], ◌∷◌}
 use lib.ListN.{length, get_or, set, length-set, get_or-eq_default}
 use lib.Seq.{ext_get_or, get_or-set_same, get_or-set_other}
 use Rattle.arithmetic.proofs.Cases.{impossible, by_cases}
-use Rattle.csv.specs.rfc4180.Rfc4180.{Cell}
+use Rattle.csv_text.specs.rfc4180.Rfc4180.{Cell}
 use Rattle.fields.specs.declared.names.Name.{Name}
 use Rattle.earth.specs.declared.coefficients.Coefficient.{Coefficient}
 use Rattle.earth.specs.declared.coefficients.Coefficient.TheVariants.{Blank, Value}

@@ -6,8 +6,8 @@ use mathlib.Core.Path.{◌≡◌, refl, sym, ap, subst, ◌∙◌}
 use mathlib.Core.List.{List}
 use lib.ListN.{length, get_or}
 use Rattle.arithmetic.proofs.Cases.{by_cases}
-use Rattle.csv.specs.rfc4180.Rfc4180.{Cell}
-use Rattle.csv.proofs.rfc4180.Unique.{file_unique}
+use Rattle.csv_text.specs.rfc4180.Rfc4180.{Cell}
+use Rattle.csv_text.proofs.rfc4180.Unique.{file_unique}
 use Rattle.fields.specs.declared.Entry.{Entry}
 use Rattle.fields.specs.declared.names.Name.{Name}
 use Rattle.fields.proofs.Numerals.{number_unique}

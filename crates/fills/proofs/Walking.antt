@@ -8,14 +8,14 @@ use mathlib.Core.List.{List, [], ◌∷◌, ◌++◌}
 use lib.ListN.{length, get_or, set, length-set, length-append, get_or-append}
 use lib.Seq.{get_or_at}
 use Rattle.arithmetic.proofs.Cases.{by_cases, impossible}
-use Rattle.csv.specs.rfc4180.Rfc4180.{DQUOTE, Cell, Field, plain, quoted, File, Readable}
-use Rattle.csv.specs.Nth.{Nth}
-use Rattle.csv.specs.cells.Cells.{offset}
-use Rattle.csv.specs.strays.Strays.{TextSays}
-use Rattle.csv.specs.declared.strays.TextFault.{TextFault}
-use Rattle.csv.proofs.strays.Answers.{sound_readable}
-use Rattle.csv.proofs.cells.Fields.{row_fields}
-use Rattle.csv.proofs.notes.Reached.{RowReached, reached_start, reached_more, reached_last}
+use Rattle.csv_text.specs.rfc4180.Rfc4180.{DQUOTE, Cell, Field, plain, quoted, File, Readable}
+use Rattle.csv_text.specs.Nth.{Nth}
+use Rattle.csv_text.specs.cells.Cells.{offset}
+use Rattle.csv_text.specs.strays.Strays.{TextSays}
+use Rattle.csv_text.specs.declared.strays.TextFault.{TextFault}
+use Rattle.csv_text.proofs.strays.Answers.{sound_readable}
+use Rattle.csv_text.proofs.cells.Fields.{row_fields}
+use Rattle.csv_text.proofs.notes.Reached.{RowReached, reached_start, reached_more, reached_last}
 use Rattle.fields.specs.Numbers.{IsNumber, is_positive, is_negative}
 use Rattle.fields.proofs.digits.Numerals.{numeral_some}
 use Rattle.fields.specs.declared.Entry.{Entry}

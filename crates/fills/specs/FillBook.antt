@@ -1,7 +1,7 @@
 -- Document 02, P4: what a fill book is. "A second RFC 4180 book of rows, at most 65,536 bytes .. one of no bytes has no rows"; no row "without
 -- five fields or with one outside its form or range", and none that "lists a soil and slope twice for one member".
 use Rattle.std.specs.Prelude.{ℕ, ◌≤◌, ◌<◌, ◌≡◌, List, [], ◌∷◌, length, get_or}
-use Rattle.csv.specs.rfc4180.Rfc4180.{Cell, File}
+use Rattle.csv_text.specs.rfc4180.Rfc4180.{Cell, File}
 use Rattle.fields.specs.names.Names.{no_name}
 use Rattle.fields.specs.declared.names.Name.{Name}
 use Rattle.fills.specs.declared.fill_rows.Fill.{Fill}

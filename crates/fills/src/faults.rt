@@ -4,14 +4,14 @@
 // The walk that reads the fills stops at that row, so that it is walked once, whoever asks. What is hard is that there is one such row: the rows
 // before it begin a fill book, and with it they begin none.
 ghost use Rattle.std.specs.Prelude.{◌≤◌, length, drop};
-ghost use Rattle.csv.specs.rfc4180.Rfc4180.{Readable};
+ghost use Rattle.csv_text.specs.rfc4180.Rfc4180.{Readable};
 ghost use Rattle.fills.specs.faults.Faults.{FillLies};
 ghost use Rattle.fills.specs.faults.steps.RowFault.{NoFillAt, FaultAt};
 
 use crate::fill_rows::Whose;
 use crate::reading::Rows;
 use crate::{fill_rows, reading};
-use csv::strays::TextFault;
+use csv_text::strays::TextFault;
 
 // Where the refusal of a fill book lies, its rows and columns counted from 1.
 #[derive(Drop)]
@@ -34,19 +34,19 @@ pub(crate) fn row_fault(s: &[u8], at: usize, whose: Whose, row: usize) -> FillFa
     requires no_fill_at { NoFillAt whose s.now at }
     ensures { FaultAt whose s.now at row result }
 {
-    let cells = csv::cells::cells_at(s, at);
+    let cells = csv_text::cells::cells_at(s, at);
     if cells.count != 5 {
         return FillFault::Count(row, cells.count);
     }
-    let named = fill_rows::member_at(csv::cells::cell(s, cells, 0), whose);
+    let named = fill_rows::member_at(csv_text::cells::cell(s, cells, 0), whose);
     if !named.good {
         return FillFault::Column(row, 1);
     }
-    let soil = fill_rows::number_to(csv::cells::cell(s, cells, 1), 5);
+    let soil = fill_rows::number_to(csv_text::cells::cell(s, cells, 1), 5);
     if soil == 0 {
         return FillFault::Column(row, 2);
     }
-    let slope = fill_rows::number_to(csv::cells::cell(s, cells, 2), 5);
+    let slope = fill_rows::number_to(csv_text::cells::cell(s, cells, 2), 5);
     if slope == 0 {
         return FillFault::Column(row, 3);
     }

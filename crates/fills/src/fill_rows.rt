@@ -2,7 +2,7 @@
 //
 // The text is known to be RFC 4180, and the row has one reading. What is promised of the row speaks of every reading of the text.
 ghost use Rattle.std.specs.Prelude.{◌≡◌, false, ◌≤◌, length, drop};
-ghost use Rattle.csv.specs.rfc4180.Rfc4180.{Readable};
+ghost use Rattle.csv_text.specs.rfc4180.Rfc4180.{Readable};
 ghost use Rattle.fills.specs.fill_rows.steps.Reading.{NumberTo, MemberAt, SeenAt};
 
 use fields::Entered;
@@ -85,14 +85,14 @@ pub(crate) fn fill_at(s: &[u8], start: usize, whose: Whose) -> FillRead
     requires readable { Readable (drop start s.now) }
     ensures { SeenAt whose s.now start result }
 {
-    let cells = csv::cells::cells_at(s, start);
+    let cells = csv_text::cells::cells_at(s, start);
     if cells.count != 5 {
         return unread(cells.next);
     }
-    let named = member_at(csv::cells::cell(s, cells, 0), whose);
-    let soil = number_to(csv::cells::cell(s, cells, 1), 5);
-    let slope = number_to(csv::cells::cell(s, cells, 2), 5);
-    let value = number_to(csv::cells::cell(s, cells, 3), 40000);
+    let named = member_at(csv_text::cells::cell(s, cells, 0), whose);
+    let soil = number_to(csv_text::cells::cell(s, cells, 1), 5);
+    let slope = number_to(csv_text::cells::cell(s, cells, 2), 5);
+    let value = number_to(csv_text::cells::cell(s, cells, 3), 40000);
     if named.good & (0 < soil) & (0 < slope) & (0 < value) {
         let member = named.name;
         let fill = Fill {

@@ -42,7 +42,7 @@ fn row_part(s: &[u8], n: usize) -> Lies
     let mut k: usize = 0;
     let mut at: usize = 0;
     loop {
-        let cells = csv::cells::cells_at(s, at);
+        let cells = csv_text::cells::cells_at(s, at);
         if k == n {
             let to = cells.to[4];
             return Lies { from: at, to };

@@ -2,7 +2,7 @@
 //
 // The loop's invariant is in the words of `specs/FillBook.antt`: the rows passed mean the fills that are held, and none of these is listed twice.
 ghost use Rattle.std.specs.Prelude.{◌≤◌, ◌<◌, length};
-ghost use Rattle.csv.specs.rfc4180.Rfc4180.{Readable};
+ghost use Rattle.csv_text.specs.rfc4180.Rfc4180.{Readable};
 ghost use Rattle.fills.specs.reading.Rows.{Places, RowsAre};
 
 use crate::faults::FillFault;
@@ -76,8 +76,8 @@ pub(crate) fn read_rows(
     if s.len() == 0 {
         return Rows::Given(0);
     }
-    if !csv::is_csv(s) {
-        let fault = csv::strays::text_fault(s);
+    if !csv_text::is_csv(s) {
+        let fault = csv_text::strays::text_fault(s);
         return Rows::Refused(FillFault::Text(fault));
     }
     walk(s, whose, high, low, value)

@@ -1,7 +1,7 @@
 // Runs the lookups that standard input lists (02, P4). It is a comma-separated text, a lookup a row: the own book and the common one, byte by
 // byte in hex, member, soil and slope. Each gives a line: the book that holds the row, where the row starts in it, and the row in hex.
 // The list has these three behind its five, as implementations written apart agree on them; they are not read here, and are what must be printed.
-use csv::cells::Cells;
+use csv_text::cells::Cells;
 use fields::Entered;
 use fills::lookup::Place;
 use libc::{STDERR_FILENO, STDIN_FILENO, STDOUT_FILENO};
@@ -28,7 +28,7 @@ fn put_place(book: &[u8], from: usize) {
 // The row in hex. A book that is read has at most 65,536 bytes, and so has a row.
 fn put_row(row: &[u8]) {
     let mut digits = [0u8; 131072];
-    let len = hex::encode(row, &mut digits);
+    let len = hex_text::encode(row, &mut digits);
     io::write_all(STDOUT_FILENO, &digits[..len]);
 }
 
@@ -48,17 +48,17 @@ fn look_up<'a>(own: &'a [u8], common: &'a [u8], member: &[u8], soil: u32, slope:
 fn look_up_row(s: &[u8], cells: Cells) {
     let mut own = [0u8; 65537];
     let mut common = [0u8; 65537];
-    let owns = hex::decode(csv::cells::cell(s, cells, 0), &mut own);
-    let commons = hex::decode(csv::cells::cell(s, cells, 1), &mut common);
-    let soil = number_of(csv::cells::cell(s, cells, 3));
-    let slope = number_of(csv::cells::cell(s, cells, 4));
-    let member = csv::cells::cell(s, cells, 2);
+    let owns = hex_text::decode(csv_text::cells::cell(s, cells, 0), &mut own);
+    let commons = hex_text::decode(csv_text::cells::cell(s, cells, 1), &mut common);
+    let soil = number_of(csv_text::cells::cell(s, cells, 3));
+    let slope = number_of(csv_text::cells::cell(s, cells, 4));
+    let member = csv_text::cells::cell(s, cells, 2);
     look_up(&own[0..owns], &common[0..commons], member, soil, slope);
 }
 
 // Each row of a comma-separated text.
 fn look_up_all(s: &[u8]) {
-    if !csv::is_csv(s) {
+    if !csv_text::is_csv(s) {
         io::write_all(
             STDERR_FILENO,
             b"lookup_run: the list is not comma-separated\n",
@@ -67,7 +67,7 @@ fn look_up_all(s: &[u8]) {
     }
     let mut at: usize = 0;
     while at < s.len() {
-        let cells = csv::cells::cells_at(s, at);
+        let cells = csv_text::cells::cells_at(s, at);
         look_up_row(s, cells);
         at = cells.next;
     }

@@ -7,7 +7,7 @@ use native.Mathlib.Omega.{arith}
 use borrow.Author.Tests.{eqb-false, ne_eqb}
 use lib.Dec.{T, eqb}
 use lib.ListN.{length, drop, get_or}
-use Rattle.csv.specs.rfc4180.Rfc4180.{COMMA, CR}
+use Rattle.csv_text.specs.rfc4180.Rfc4180.{COMMA, CR}
 use Rattle.fields.specs.names.Names.{Letter, hyphen, digit, upper, IsName}
 use Rattle.fields.specs.digits.Numerals.{Numeral, one, more}
 use Rattle.sets.specs.declared.Combination.{Combination}

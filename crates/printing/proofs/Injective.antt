@@ -4,7 +4,7 @@ use mathlib.Core.Path.{◌≡◌, refl, sym, ap, ◌∙◌}
 use mathlib.Core.List.{List, [], ◌∷◌, ◌++◌, append_assoc}
 use lib.Seq.{take-append_seam}
 use Rattle.arithmetic.proofs.Cases.{impossible}
-use Rattle.csv.specs.rfc4180.Rfc4180.{COMMA, CR, LF}
+use Rattle.csv_text.specs.rfc4180.Rfc4180.{COMMA, CR, LF}
 use Rattle.fields.specs.declared.names.Name.{Name}
 use Rattle.fields.specs.names.Names.{name, NameOf}
 use Rattle.rows.specs.declared.keys.Key.{Key}

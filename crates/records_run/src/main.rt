@@ -2,7 +2,7 @@
 // that is lent, and the record in hex. Each gives a line: the refusal, 0 where a row was written, and the row in hex. Where a byte that is none of the
 // row's was written, `touched` stands in its place. The list has these two behind its six, as implementations written apart agree on them or as they were
 // worked out by hand; they are not read here, and are what must be printed.
-use csv::cells::Cells;
+use csv_text::cells::Cells;
 use fields::Entered;
 use libc::{STDERR_FILENO, STDIN_FILENO, STDOUT_FILENO};
 use reactions::RowWritten;
@@ -59,7 +59,7 @@ fn length_of(written: RowWritten) -> usize {
 // Bytes in hex, of a buffer of at most 200.
 fn put_hex(bytes: &[u8]) {
     let mut digits = [0u8; 400];
-    let len = hex::encode(bytes, &mut digits);
+    let len = hex_text::encode(bytes, &mut digits);
     io::write_all(STDOUT_FILENO, &digits[..len]);
 }
 
@@ -90,13 +90,13 @@ fn run(member: &[u8], job: &[u8], kind: &[u8], phase: u32, sent: &[u8], out: &mu
 
 // The call of a row of the list. A record of more than 512 bytes is cut there, and is none either way; a buffer has at most 200.
 fn run_row(s: &[u8], cells: Cells) {
-    let member = csv::cells::cell(s, cells, 0);
-    let job = csv::cells::cell(s, cells, 1);
-    let kind = csv::cells::cell(s, cells, 2);
-    let phase = number_of(csv::cells::cell(s, cells, 3));
-    let length = number_of(csv::cells::cell(s, cells, 4));
+    let member = csv_text::cells::cell(s, cells, 0);
+    let job = csv_text::cells::cell(s, cells, 1);
+    let kind = csv_text::cells::cell(s, cells, 2);
+    let phase = number_of(csv_text::cells::cell(s, cells, 3));
+    let length = number_of(csv_text::cells::cell(s, cells, 4));
     let mut sent = [0u8; 512];
-    let len = hex::decode(csv::cells::cell(s, cells, 5), &mut sent);
+    let len = hex_text::decode(csv_text::cells::cell(s, cells, 5), &mut sent);
     let mut out = [UNTOUCHED; 200];
     let room = io::count(length as isize, &out);
     run(member, job, kind, phase, &sent[..len], &mut out[..room]);
@@ -104,7 +104,7 @@ fn run_row(s: &[u8], cells: Cells) {
 
 // Each row of a comma-separated text.
 fn run_all(s: &[u8]) {
-    if !csv::is_csv(s) {
+    if !csv_text::is_csv(s) {
         io::write_all(
             STDERR_FILENO,
             b"records_run: the list is not comma-separated\n",
@@ -113,7 +113,7 @@ fn run_all(s: &[u8]) {
     }
     let mut at: usize = 0;
     while at < s.len() {
-        let cells = csv::cells::cells_at(s, at);
+        let cells = csv_text::cells::cells_at(s, at);
         run_row(s, cells);
         at = cells.next;
     }

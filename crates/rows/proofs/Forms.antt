@@ -6,11 +6,11 @@ use mathlib.Core.Path.{◌≡◌, refl, sym, ap, subst, ◌∙◌}
 use mathlib.Core.List.{List, [], ◌∷◌}
 use lib.ListN.{length, get_or, drop, drop_of_length-le}
 use lib.Seq.{drop-cons}
-use Rattle.csv.specs.rfc4180.Rfc4180.{Cell, File, Readable}
-use Rattle.csv.specs.cells.Content.{no_cell}
-use Rattle.csv.specs.cells.Standing.{raw}
-use Rattle.csv.specs.cells.Content.{content}
-use Rattle.csv.proofs.rfc4180.First.{first, some_row}
+use Rattle.csv_text.specs.rfc4180.Rfc4180.{Cell, File, Readable}
+use Rattle.csv_text.specs.cells.Content.{no_cell}
+use Rattle.csv_text.specs.cells.Standing.{raw}
+use Rattle.csv_text.specs.cells.Content.{content}
+use Rattle.csv_text.proofs.rfc4180.First.{first, some_row}
 use Rattle.fields.specs.names.Names.{NameOf}
 use Rattle.kinds.specs.Table.{columns, letters}
 use Rattle.kinds.specs.declared.Columns.{Columns}

@@ -5,16 +5,16 @@ use mathlib.Core.Path.{◌≡◌, refl, sym, subst, ◌∙◌}
 use mathlib.Core.Bool.{Bool, true, false, ◌&&◌}
 use mathlib.Core.List.{List, ◌∷◌}
 use lib.ListN.{drop}
-use Rattle.csv.specs.rfc4180.Rfc4180.{Cell, Field, File}
-use Rattle.csv.proofs.rfc4180.Unique.{content_unique}
+use Rattle.csv_text.specs.rfc4180.Rfc4180.{Cell, Field, File}
+use Rattle.csv_text.proofs.rfc4180.Unique.{content_unique}
 use Rattle.arithmetic.proofs.Tests.{AllSix, all_six, decides_six}
 use Rattle.arithmetic.specs.decides.Decides.{Decides}
 use Rattle.arithmetic.proofs.Deciding.{decides_both, decides_flag}
-use Rattle.csv.specs.cells.Cells.{RowAt, CellAt}
-use Rattle.csv.specs.cells.Standing.{raw, Standing}
-use Rattle.csv.specs.cells.Content.{content}
-use Rattle.csv.specs.declared.cells.Cells.{Cells}
-use Rattle.csv.proofs.cells.Standing.{standing, cell_field}
+use Rattle.csv_text.specs.cells.Cells.{RowAt, CellAt}
+use Rattle.csv_text.specs.cells.Standing.{raw, Standing}
+use Rattle.csv_text.specs.cells.Content.{content}
+use Rattle.csv_text.specs.declared.cells.Cells.{Cells}
+use Rattle.csv_text.proofs.cells.Standing.{standing, cell_field}
 use Rattle.fields.specs.names.Names.{NameOf}
 use Rattle.fields.specs.names.NameAt.{NameIn, NameGiven, NameAt}
 use Rattle.fields.specs.Entries.{EntryAt}

@@ -1,9 +1,9 @@
 -- What `read_row` answers for the row that starts at a place.
 use Rattle.std.specs.Prelude.{ℕ, ◌+◌, ◌<◌, min, ◌≡◌, Bool, true, false, List, ◌∷◌, length, get_or, drop}
-use Rattle.csv.specs.rfc4180.Rfc4180.{Cell, File}
-use Rattle.csv.specs.cells.Cells.{offset, Rest}
-use Rattle.csv.specs.cells.Content.{no_cell}
-use Rattle.csv.specs.cells.Standing.{raw}
+use Rattle.csv_text.specs.rfc4180.Rfc4180.{Cell, File}
+use Rattle.csv_text.specs.cells.Cells.{offset, Rest}
+use Rattle.csv_text.specs.cells.Content.{no_cell}
+use Rattle.csv_text.specs.cells.Standing.{raw}
 use Rattle.rows.specs.Form.{BookRow, Ten, Form}
 use Rattle.rows.specs.keys.Keyed.{no_row}
 use Rattle.rows.specs.declared.keys.Keyed.{Keyed}

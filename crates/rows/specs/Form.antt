@@ -1,6 +1,6 @@
 -- Document 01, the job book: "Ten fields: member, job, kind, n1 to n6, note." What the cells of a row mean.
 use Rattle.std.specs.Prelude.{ℕ, ◌≡◌, List, [], ◌∷◌}
-use Rattle.csv.specs.rfc4180.Rfc4180.{Cell}
+use Rattle.csv_text.specs.rfc4180.Rfc4180.{Cell}
 use Rattle.fields.specs.names.Names.{NameOf}
 use Rattle.kinds.specs.Table.{columns, letters}
 use Rattle.kinds.specs.Form.{Means}

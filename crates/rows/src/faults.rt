@@ -4,11 +4,11 @@
 // A number is judged by its kind, so the kind is asked before the numbers; the columns are asked from the left, and the first that is wrong
 // is told. The promise speaks of every reading of the text, and not of the cells that the code looks at.
 ghost use Rattle.std.specs.Prelude.{◌≤◌, length, drop};
-ghost use Rattle.csv.specs.rfc4180.Rfc4180.{Readable};
+ghost use Rattle.csv_text.specs.rfc4180.Rfc4180.{Readable};
 ghost use Rattle.rows.specs.faults.Place.{FaultAt};
 ghost use Rattle.rows.specs.faults.steps.Columns.{FormAsked, NumbersFault};
 
-use csv::cells::Cells;
+use csv_text::cells::Cells;
 use kinds::letters::KindRead;
 use kinds::{Column, Kind};
 
@@ -24,7 +24,7 @@ pub enum RowFault {
 fn has_form(s: &[u8], cells: Cells, k: usize, column: Column) -> bool
     ensures { FormAsked s.now cells k column result }
 {
-    let read = crate::entry_at(column, csv::cells::cell(s, cells, k));
+    let read = crate::entry_at(column, csv_text::cells::cell(s, cells, k));
     read.good
 }
 
@@ -66,20 +66,20 @@ pub fn fault_at(s: &[u8], start: usize) -> RowFault
     requires readable { Readable (drop start s.now) }
     ensures { FaultAt s.now start result }
 {
-    let cells = csv::cells::cells_at(s, start);
+    let cells = csv_text::cells::cells_at(s, start);
     let count = cells.count;
     if count != 10 {
         return RowFault::Count(count);
     }
-    let member = fields::names::name_at(csv::cells::cell(s, cells, 0));
+    let member = fields::names::name_at(csv_text::cells::cell(s, cells, 0));
     if !member.good {
         return RowFault::Column(1);
     }
-    let job = fields::names::name_at(csv::cells::cell(s, cells, 1));
+    let job = fields::names::name_at(csv_text::cells::cell(s, cells, 1));
     if !job.good {
         return RowFault::Column(2);
     }
-    let KindRead::Known(kind) = kinds::letters::kind_at(csv::cells::cell(s, cells, 2)) else {
+    let KindRead::Known(kind) = kinds::letters::kind_at(csv_text::cells::cell(s, cells, 2)) else {
         return RowFault::Column(3);
     };
     numbers_fault(s, cells, kind)

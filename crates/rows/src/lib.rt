@@ -7,14 +7,14 @@ pub mod keys;
 pub mod refusals;
 
 ghost use Rattle.std.specs.Prelude.{◌≡◌, false, ◌≤◌, length, drop};
-ghost use Rattle.csv.specs.rfc4180.Rfc4180.{Readable};
+ghost use Rattle.csv_text.specs.rfc4180.Rfc4180.{Readable};
 ghost use Rattle.fields.specs.Entries.{EntryAt};
 ghost use Rattle.kinds.specs.Form.{Means};
 ghost use Rattle.rows.specs.keys.Keyed.{no_row};
 ghost use Rattle.rows.specs.Answer.{SeenAt};
 ghost use Rattle.rows.specs.steps.Numbers.{entered, NumbersAre};
 
-use csv::cells::Cells;
+use csv_text::cells::Cells;
 use fields::{Entered, Entry};
 use keys::{Key, Keyed};
 use kinds::letters::KindRead;
@@ -65,22 +65,22 @@ fn numbers_of(s: &[u8], cells: Cells, kind: Kind) -> NumbersRead
 {
     let columns = kinds::columns_of(kind);
     let c1 = columns.n1;
-    let e1 = entry_at(c1, csv::cells::cell(s, cells, 3));
+    let e1 = entry_at(c1, csv_text::cells::cell(s, cells, 3));
     let n1 = e1.entry;
     let c2 = columns.n2;
-    let e2 = entry_at(c2, csv::cells::cell(s, cells, 4));
+    let e2 = entry_at(c2, csv_text::cells::cell(s, cells, 4));
     let n2 = e2.entry;
     let c3 = columns.n3;
-    let e3 = entry_at(c3, csv::cells::cell(s, cells, 5));
+    let e3 = entry_at(c3, csv_text::cells::cell(s, cells, 5));
     let n3 = e3.entry;
     let c4 = columns.n4;
-    let e4 = entry_at(c4, csv::cells::cell(s, cells, 6));
+    let e4 = entry_at(c4, csv_text::cells::cell(s, cells, 6));
     let n4 = e4.entry;
     let c5 = columns.n5;
-    let e5 = entry_at(c5, csv::cells::cell(s, cells, 7));
+    let e5 = entry_at(c5, csv_text::cells::cell(s, cells, 7));
     let n5 = e5.entry;
     let c6 = columns.n6;
-    let e6 = entry_at(c6, csv::cells::cell(s, cells, 8));
+    let e6 = entry_at(c6, csv_text::cells::cell(s, cells, 8));
     let n6 = e6.entry;
     let numbers = Numbers {
         n1,
@@ -112,16 +112,16 @@ pub fn read_row(s: &[u8], start: usize) -> RowRead
     requires readable { Readable (drop start s.now) }
     ensures { SeenAt s.now start result }
 {
-    let cells = csv::cells::cells_at(s, start);
+    let cells = csv_text::cells::cells_at(s, start);
     if cells.count != 10 {
         return unread(cells.next);
     }
-    let KindRead::Known(kind) = kinds::letters::kind_at(csv::cells::cell(s, cells, 2)) else {
+    let KindRead::Known(kind) = kinds::letters::kind_at(csv_text::cells::cell(s, cells, 2)) else {
         return unread(cells.next);
     };
     let numbers_read = numbers_of(s, cells, kind);
-    let member_read = fields::names::name_at(csv::cells::cell(s, cells, 0));
-    let job_read = fields::names::name_at(csv::cells::cell(s, cells, 1));
+    let member_read = fields::names::name_at(csv_text::cells::cell(s, cells, 0));
+    let job_read = fields::names::name_at(csv_text::cells::cell(s, cells, 1));
     if member_read.good & job_read.good & numbers_read.good {
         let member = member_read.name;
         let job = job_read.name;

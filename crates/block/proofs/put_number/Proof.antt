@@ -2,7 +2,7 @@
 use Prim.Native.Nat.{◌<◌}
 use mathlib.Core.List.{[], ◌∷◌}
 use native.Mathlib.Omega.{arith}
-use Rattle.csv.specs.rfc4180.Rfc4180.{COMMA}
+use Rattle.csv_text.specs.rfc4180.Rfc4180.{COMMA}
 use Rattle.block.proofs.Numbers.{decimal_length}
 use Rattle.block.proofs.Pages.{then}
 use borrow.Author.Rules.{rules}

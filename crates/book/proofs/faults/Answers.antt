@@ -5,11 +5,11 @@ use mathlib.Core.Path.{◌≡◌, refl, sym, ap, subst, ◌∙◌}
 use mathlib.Core.List.{List, ◌∷◌, ◌++◌, append_assoc}
 use lib.ListN.{length, length-append}
 use Rattle.arithmetic.proofs.Cases.{impossible}
-use Rattle.csv.specs.Nth.{Nth}
-use Rattle.csv.specs.rfc4180.Rfc4180.{Cell, File}
-use Rattle.csv.proofs.Lists.{level}
-use Rattle.csv.proofs.rfc4180.Unique.{file_unique}
-use Rattle.csv.proofs.strays.Answers.{fault_unreadable, text_one}
+use Rattle.csv_text.specs.Nth.{Nth}
+use Rattle.csv_text.specs.rfc4180.Rfc4180.{Cell, File}
+use Rattle.csv_text.proofs.Lists.{level}
+use Rattle.csv_text.proofs.rfc4180.Unique.{file_unique}
+use Rattle.csv_text.proofs.strays.Answers.{fault_unreadable, text_one}
 use Rattle.kinds.specs.declared.Role.TheVariants.{Base}
 use Rattle.rows.specs.Form.{BookRow, Form}
 use Rattle.rows.specs.faults.Faults.{RowSays}

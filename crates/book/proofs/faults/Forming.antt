@@ -4,13 +4,13 @@ use native.Mathlib.Omega.{arith}
 use mathlib.Core.Path.{◌≡◌, refl, sym, ap, subst, ◌∙◌}
 use mathlib.Core.List.{List, [], ◌∷◌}
 use lib.ListN.{length, length-append}
-use Rattle.csv.specs.Nth.{Nth}
-use Rattle.csv.specs.rfc4180.Rfc4180.{CR, LF, Cell, File, last, closed, next, Readable}
-use Rattle.csv.specs.places.Places.{StartsAt}
-use Rattle.csv.proofs.notes.Answers.{nth_one}
-use Rattle.csv.proofs.notes.Reached.{reached_start}
-use Rattle.csv.proofs.places.Starts.{Started, start_past}
-use Rattle.csv.proofs.rfc4180.Unique.{file_unique}
+use Rattle.csv_text.specs.Nth.{Nth}
+use Rattle.csv_text.specs.rfc4180.Rfc4180.{CR, LF, Cell, File, last, closed, next, Readable}
+use Rattle.csv_text.specs.places.Places.{StartsAt}
+use Rattle.csv_text.proofs.notes.Answers.{nth_one}
+use Rattle.csv_text.proofs.notes.Reached.{reached_start}
+use Rattle.csv_text.proofs.places.Starts.{Started, start_past}
+use Rattle.csv_text.proofs.rfc4180.Unique.{file_unique}
 use Rattle.rows.specs.faults.Faults.{RowSays}
 use Rattle.rows.specs.faults.Place.{FaultAt}
 use Rattle.rows.specs.declared.faults.RowFault.{RowFault}

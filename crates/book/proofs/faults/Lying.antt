@@ -8,7 +8,7 @@ use lib.ListN.{length}
 use types.Run.{OneOf}
 use denote.Enum.Declared.{tag_of}
 use Rattle.arithmetic.proofs.Cases.{impossible}
-use Rattle.csv.specs.rfc4180.Rfc4180.{Cell}
+use Rattle.csv_text.specs.rfc4180.Rfc4180.{Cell}
 use Rattle.kinds.specs.Table.{role}
 use Rattle.rows.specs.Form.{BookRow}
 use Rattle.rows.specs.faults.Faults.{RowSays}

@@ -1,10 +1,10 @@
 -- Where a refusal lies, 1 to 6: where the refusal of a book lies, stated of the book alone.
 use Rattle.std.specs.Prelude.{ℕ, ◌+◌, ◌≤◌, ◌<◌, ◌≡◌, List, length}
-use Rattle.csv.specs.Nth.{Nth}
-use Rattle.csv.specs.rfc4180.Rfc4180.{Cell, File}
-use Rattle.csv.specs.strays.Strays.{TextSays}
-use Rattle.csv.specs.declared.strays.TextFault.{TextFault}
-use Rattle.csv.specs.declared.strays.TextFault.TheVariants as text_fault
+use Rattle.csv_text.specs.Nth.{Nth}
+use Rattle.csv_text.specs.rfc4180.Rfc4180.{Cell, File}
+use Rattle.csv_text.specs.strays.Strays.{TextSays}
+use Rattle.csv_text.specs.declared.strays.TextFault.{TextFault}
+use Rattle.csv_text.specs.declared.strays.TextFault.TheVariants as text_fault
 use Rattle.kinds.specs.declared.Role.TheVariants.{Base}
 use Rattle.rows.specs.Form.{BookRow, Form}
 use Rattle.rows.specs.faults.Faults.{RowSays}

@@ -1,7 +1,7 @@
 -- Where a refusal lies: what `form_fault` answers, the form alone of a row of a book.
 use Rattle.std.specs.Prelude.{ℕ, ◌≡◌, List}
-use Rattle.csv.specs.Nth.{Nth}
-use Rattle.csv.specs.rfc4180.Rfc4180.{Cell, File, Readable}
+use Rattle.csv_text.specs.Nth.{Nth}
+use Rattle.csv_text.specs.rfc4180.Rfc4180.{Cell, File, Readable}
 use Rattle.rows.specs.faults.Faults.{RowSays}
 use Rattle.rows.specs.declared.faults.RowFault.{RowFault}
 use Rattle.rows.specs.declared.faults.RowFault.TheVariants as fault_of_row

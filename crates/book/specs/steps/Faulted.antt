@@ -1,6 +1,6 @@
 -- What `rule_at`, `river_count` and `earlier_row` answer, and what the last is given.
 use Rattle.std.specs.Prelude.{ℕ, ◌+◌, ◌≤◌, ◌≡◌, List, ◌∷◌, length, drop}
-use Rattle.csv.specs.rfc4180.Rfc4180.{Cell, File}
+use Rattle.csv_text.specs.rfc4180.Rfc4180.{Cell, File}
 use Rattle.rows.specs.Form.{BookRow, Form}
 use Rattle.rows.specs.declared.keys.Key.{Key}
 use Rattle.jobs.specs.misplaced.Placing.{PlacingIs}

@@ -1,6 +1,6 @@
 -- What `refused_at` and `walk_rows` answer: where the walk stopped, and why (document 01, Refusals of a book).
 use Rattle.std.specs.Prelude.{ℕ, ◌+◌, ◌≤◌, ◌<◌, ◌≡◌, List, ◌∷◌, ◌++◌, length, drop}
-use Rattle.csv.specs.rfc4180.Rfc4180.{Cell, File}
+use Rattle.csv_text.specs.rfc4180.Rfc4180.{Cell, File}
 use Rattle.kinds.specs.declared.Role.TheVariants.{Base}
 use Rattle.rows.specs.Form.{BookRow, Form}
 use Rattle.rows.specs.declared.refusals.Refusal.{Refusal}

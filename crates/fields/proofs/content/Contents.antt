@@ -10,11 +10,11 @@ use lib.Seq.{get_or_at}
 use Rattle.arithmetic.proofs.Cases.{impossible}
 use Rattle.arithmetic.specs.decides.Decides.{Decides}
 use Rattle.arithmetic.proofs.Deciding.{decided, refuted, decides_both, decides_equal}
-use Rattle.csv.specs.rfc4180.Rfc4180.{DQUOTE, Plain, none, text, is_text, Escaped, empty, byte, doubled, Field, plain, quoted}
-use Rattle.csv.specs.Part.{part}
-use Rattle.csv.proofs.Lists.{tails, lasts}
-use Rattle.csv.proofs.rfc4180.Unique.{text_quote}
-use Rattle.csv.proofs.rfc4180.Parts.{at_index, past, part_rest}
+use Rattle.csv_text.specs.rfc4180.Rfc4180.{DQUOTE, Plain, none, text, is_text, Escaped, empty, byte, doubled, Field, plain, quoted}
+use Rattle.csv_text.specs.Part.{part}
+use Rattle.csv_text.proofs.Lists.{tails, lasts}
+use Rattle.csv_text.proofs.rfc4180.Unique.{text_quote}
+use Rattle.csv_text.proofs.rfc4180.Parts.{at_index, past, part_rest}
 use Rattle.fields.specs.content.Content.{Bare, between, all}
 
 plain_escaped : {s : List ℕ} → Plain s → Escaped s s

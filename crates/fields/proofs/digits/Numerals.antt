@@ -12,7 +12,7 @@ use lib.Dec.{lit<, ltb, eqb}
 use lib.ListN.{length, get_or, take, length-take, length-append, get_or-append}
 use lib.Seq.{get_or_at, take-suc, take_all}
 use Rattle.arithmetic.proofs.Cases.{by_cases}
-use Rattle.csv.proofs.Lists.{heads, lasts}
+use Rattle.csv_text.proofs.Lists.{heads, lasts}
 use Rattle.arithmetic.specs.decides.Decides.{Decides}
 use Rattle.arithmetic.proofs.Deciding.{decided, refuted, decides_either, decides_both, decides_below, decides_equal}
 use Rattle.fields.specs.digits.Numerals.{Numeral, one, more}

@@ -3,7 +3,7 @@ use Prim.Native.Nat.{ℕ}
 use mathlib.Core.Path.{◌≡◌, refl, sym, ap, ◌∙◌}
 use mathlib.Core.Bool.{Bool, true, false}
 use mathlib.Core.List.{List}
-use Rattle.csv.proofs.rfc4180.Unique.{content_unique}
+use Rattle.csv_text.proofs.rfc4180.Unique.{content_unique}
 use Rattle.fields.specs.names.Names.{name}
 use Rattle.fields.specs.names.NameAt.{NameIn, ContentNamed, NameGiven, NameAt}
 use Rattle.fields.specs.declared.names.Name.{Name}

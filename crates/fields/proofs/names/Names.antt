@@ -11,7 +11,7 @@ use borrow.Author.Count.{below_more}
 use lib.Dec.{ltb, leb, eqb}
 use lib.ListN.{length, get_or, take, set, replicate}
 use lib.Seq.{take-suc, length-take-le, set_at, append_snoc, take-length}
-use Rattle.csv.specs.rfc4180.Rfc4180.{Textdata, high, Plain, none, text}
+use Rattle.csv_text.specs.rfc4180.Rfc4180.{Textdata, high, Plain, none, text}
 use Rattle.fields.specs.content.Content.{Bare}
 use Rattle.arithmetic.specs.decides.Decides.{Decides}
 use Rattle.arithmetic.proofs.Deciding.{not_both, decides_same, decides_either, decides_equal}

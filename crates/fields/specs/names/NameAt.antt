@@ -1,6 +1,6 @@
 -- What `name_at` answers for a stretch of the book (document 01, the job book).
 use Rattle.std.specs.Prelude.{ℕ, ◌≡◌, Bool, true, false, List}
-use Rattle.csv.specs.rfc4180.Rfc4180.{Field}
+use Rattle.csv_text.specs.rfc4180.Rfc4180.{Field}
 use Rattle.fields.specs.declared.names.Name.{Name}
 use Rattle.fields.specs.declared.names.NameRead.{NameRead}
 use Rattle.fields.specs.names.Names.{IsName, NameOf, no_name}

@@ -9,10 +9,10 @@ use lib.ListN.{length, get_or, length-append, get_or-append}
 use lib.Seq.{get_or_at}
 use Rattle.arithmetic.proofs.Cases.{by_cases, impossible}
 use Rattle.arithmetic.proofs.rounding.Laws.{least_one}
-use Rattle.csv.specs.rfc4180.Rfc4180.{Cell, plain, none, only, last, Readable}
-use Rattle.csv.specs.Nth.{Nth}
-use Rattle.csv.proofs.strays.Answers as strays
-use Rattle.csv.proofs.Lists.{heads, tails, conses, level}
+use Rattle.csv_text.specs.rfc4180.Rfc4180.{Cell, plain, none, only, last, Readable}
+use Rattle.csv_text.specs.Nth.{Nth}
+use Rattle.csv_text.proofs.strays.Answers as strays
+use Rattle.csv_text.proofs.Lists.{heads, tails, conses, level}
 use Rattle.fills.specs.declared.fill_rows.Fill.{Fill}
 use Rattle.fills.specs.declared.fill_rows.Whose.{Whose}
 use Rattle.fills.specs.declared.fill_rows.Whose.TheVariants.{Own, Common}

@@ -10,14 +10,14 @@ use borrow.Author.Tests.{ltb-true, ltb-false}
 use Rattle.arithmetic.proofs.Cases.{impossible}
 use Rattle.arithmetic.specs.decides.Decides.{Decides}
 use Rattle.arithmetic.proofs.Deciding.{decides_both, decides_below, decides_flag}
-use Rattle.csv.specs.rfc4180.Rfc4180.{Cell, Field, File}
-use Rattle.csv.specs.cells.Cells.{Rest, RowAt, CellAt}
-use Rattle.csv.specs.cells.Content.{no_cell}
-use Rattle.csv.specs.cells.Standing.{Standing}
-use Rattle.csv.specs.cells.Content.{content}
-use Rattle.csv.specs.declared.cells.Cells.{Cells}
-use Rattle.csv.proofs.rfc4180.Unique.{content_unique}
-use Rattle.csv.proofs.cells.Standing.{standing, cell_field}
+use Rattle.csv_text.specs.rfc4180.Rfc4180.{Cell, Field, File}
+use Rattle.csv_text.specs.cells.Cells.{Rest, RowAt, CellAt}
+use Rattle.csv_text.specs.cells.Content.{no_cell}
+use Rattle.csv_text.specs.cells.Standing.{Standing}
+use Rattle.csv_text.specs.cells.Content.{content}
+use Rattle.csv_text.specs.declared.cells.Cells.{Cells}
+use Rattle.csv_text.proofs.rfc4180.Unique.{content_unique}
+use Rattle.csv_text.proofs.cells.Standing.{standing, cell_field}
 use Rattle.fields.specs.Numbers.{positive, IsNumber, is_positive, is_negative, IsEmpty}
 use Rattle.fields.specs.digits.Numerals.{Digited}
 use Rattle.fields.specs.Entries.{EntryIn, EntryAt}

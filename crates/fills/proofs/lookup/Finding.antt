@@ -9,8 +9,8 @@ use lib.Dec.{ltb}
 use lib.ListN.{length, get_or}
 use Rattle.arithmetic.specs.decides.Decides.{Decides}
 use Rattle.arithmetic.proofs.Deciding.{decides_either, decides_below}
-use Rattle.csv.specs.rfc4180.Rfc4180.{Cell}
-use Rattle.csv.specs.Nth.{Nth}
+use Rattle.csv_text.specs.rfc4180.Rfc4180.{Cell}
+use Rattle.csv_text.specs.Nth.{Nth}
 use Rattle.fields.specs.declared.names.Name.{Name}
 use Rattle.fills.specs.declared.fill_rows.Fill.{Fill}
 use Rattle.fills.specs.declared.fill_rows.Whose.{Whose}

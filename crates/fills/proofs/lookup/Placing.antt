@@ -6,12 +6,12 @@ use mathlib.Core.Bool.{Bool, true, false}
 use mathlib.Core.List.{List, [], ◌∷◌, ◌++◌}
 use lib.ListN.{length, get_or, length-append}
 use Rattle.arithmetic.proofs.Cases.{impossible}
-use Rattle.csv.specs.rfc4180.Rfc4180.{Cell, File}
-use Rattle.csv.specs.Part.{part}
-use Rattle.csv.specs.cells.Standing.{row_text, row_start}
-use Rattle.csv.proofs.Lists.{level}
-use Rattle.csv.proofs.cells.Standing.{row_lies, row_within}
-use Rattle.csv.proofs.places.Here.{HereAt, row_here}
+use Rattle.csv_text.specs.rfc4180.Rfc4180.{Cell, File}
+use Rattle.csv_text.specs.Part.{part}
+use Rattle.csv_text.specs.cells.Standing.{row_text, row_start}
+use Rattle.csv_text.proofs.Lists.{level}
+use Rattle.csv_text.proofs.cells.Standing.{row_lies, row_within}
+use Rattle.csv_text.proofs.places.Here.{HereAt, row_here}
 use Rattle.fields.specs.names.Names.{NameOf, no_name}
 use Rattle.fields.specs.names.NameAt.{ContentNamed}
 use Rattle.fields.specs.declared.names.Name.{Name}

@@ -6,17 +6,17 @@ use mathlib.Core.Path.{◌≡◌, refl, sym, ap, subst, ◌∙◌}
 use mathlib.Core.List.{List, [], ◌∷◌, ◌++◌}
 use lib.ListN.{length, get_or, length-append}
 use Rattle.arithmetic.proofs.Cases.{by_cases}
-use Rattle.csv.specs.rfc4180.Rfc4180.{Cell, File}
-use Rattle.csv.specs.cells.Cells.{offset, Rest, nothing, more, RowIs, RowAt}
-use Rattle.csv.specs.cells.Content.{no_cell}
-use Rattle.csv.specs.cells.Standing.{row_text, row_start}
-use Rattle.csv.specs.declared.cells.Cells.{Cells}
-use Rattle.csv.proofs.Lists.{level}
-use Rattle.csv.proofs.rfc4180.Parts.{past}
-use Rattle.csv.proofs.rfc4180.Unique.{file_unique}
-use Rattle.csv.proofs.cells.Standing.{file_offset}
-use Rattle.csv.proofs.notes.Reached.{RowReached, reached_start, reached_more}
-use Rattle.csv.proofs.places.Here.{start_more}
+use Rattle.csv_text.specs.rfc4180.Rfc4180.{Cell, File}
+use Rattle.csv_text.specs.cells.Cells.{offset, Rest, nothing, more, RowIs, RowAt}
+use Rattle.csv_text.specs.cells.Content.{no_cell}
+use Rattle.csv_text.specs.cells.Standing.{row_text, row_start}
+use Rattle.csv_text.specs.declared.cells.Cells.{Cells}
+use Rattle.csv_text.proofs.Lists.{level}
+use Rattle.csv_text.proofs.rfc4180.Parts.{past}
+use Rattle.csv_text.proofs.rfc4180.Unique.{file_unique}
+use Rattle.csv_text.proofs.cells.Standing.{file_offset}
+use Rattle.csv_text.proofs.notes.Reached.{RowReached, reached_start, reached_more}
+use Rattle.csv_text.proofs.places.Here.{start_more}
 use Rattle.fills.specs.declared.fill_rows.Fill.{Fill}
 use Rattle.fills.specs.declared.fill_rows.Whose.{Whose}
 use Rattle.fills.specs.fill_rows.Form.{Form}

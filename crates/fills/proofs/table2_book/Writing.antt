@@ -4,9 +4,9 @@ use native.Mathlib.Omega.{arith}
 use mathlib.Core.Path.{◌≡◌, refl, sym}
 use mathlib.Core.List.{List, [], ◌∷◌}
 use lib.ListN.{length, get_or}
-use Rattle.csv.specs.rfc4180.Rfc4180.{none, plain, Cell, Record, only, then, File, closed, next}
-use Rattle.csv.proofs.Lists.{nil_cons}
-use Rattle.csv.proofs.rfc4180.First.{cell}
+use Rattle.csv_text.specs.rfc4180.Rfc4180.{none, plain, Cell, Record, only, then, File, closed, next}
+use Rattle.csv_text.proofs.Lists.{nil_cons}
+use Rattle.csv_text.proofs.rfc4180.First.{cell}
 use Rattle.fields.specs.Numbers.{is_positive}
 use Rattle.fields.specs.names.Names.{no_name}
 use Rattle.fields.proofs.Numerals.{number_plain}

@@ -2,12 +2,12 @@
 -- row of the same member, soil and slope." Stated of one fill book, the members' own or the common one.
 use Rattle.std.specs.Prelude.{ℕ, ◌≤◌, ◌<◌, ◌≡◌, List, length}
 use Rattle.arithmetic.specs.rounding.Least.{Least}
-use Rattle.csv.specs.rfc4180.Rfc4180.{Cell}
-use Rattle.csv.specs.Nth.{Nth}
-use Rattle.csv.specs.cells.Content.{content}
-use Rattle.csv.specs.strays.Strays.{TextSays}
-use Rattle.csv.specs.declared.strays.TextFault.{TextFault}
-use Rattle.csv.specs.declared.strays.TextFault.TheVariants as strays
+use Rattle.csv_text.specs.rfc4180.Rfc4180.{Cell}
+use Rattle.csv_text.specs.Nth.{Nth}
+use Rattle.csv_text.specs.cells.Content.{content}
+use Rattle.csv_text.specs.strays.Strays.{TextSays}
+use Rattle.csv_text.specs.declared.strays.TextFault.{TextFault}
+use Rattle.csv_text.specs.declared.strays.TextFault.TheVariants as strays
 use Rattle.fields.specs.declared.names.Name.{Name}
 use Rattle.fills.specs.declared.fill_rows.Fill.{Fill}
 use Rattle.fills.specs.declared.fill_rows.Whose.{Whose}

@@ -1,7 +1,7 @@
 -- Document 02, P4: "rows .. member, soil, slope, value (1 to 40,000), note"; the common book is "in the same layout with the member empty
 -- (there only)". What the cells of a row mean.
 use Rattle.std.specs.Prelude.{ℕ, ◌≤◌, ◌≡◌, List, [], ◌∷◌}
-use Rattle.csv.specs.rfc4180.Rfc4180.{Cell}
+use Rattle.csv_text.specs.rfc4180.Rfc4180.{Cell}
 use Rattle.fields.specs.Numbers.{IsNumber, positive}
 use Rattle.fields.specs.names.Names.{NameOf, no_name}
 use Rattle.fields.specs.declared.names.Name.{Name}

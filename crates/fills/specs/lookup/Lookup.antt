@@ -1,10 +1,10 @@
 -- Document 02, P4: "A lookup hands back the matching row itself, still lying in whichever book holds it .. its CRLF is left out, and without a
 -- match, or where a fill book is refused, the stretch is empty." An own row wins.
 use Rattle.std.specs.Prelude.{ℕ, ◌+◌, ◌≡◌, List, [], length}
-use Rattle.csv.specs.rfc4180.Rfc4180.{Cell}
-use Rattle.csv.specs.Nth.{Nth}
-use Rattle.csv.specs.Part.{part}
-use Rattle.csv.specs.cells.Standing.{row_text, row_start}
+use Rattle.csv_text.specs.rfc4180.Rfc4180.{Cell}
+use Rattle.csv_text.specs.Nth.{Nth}
+use Rattle.csv_text.specs.Part.{part}
+use Rattle.csv_text.specs.cells.Standing.{row_text, row_start}
 use Rattle.fields.specs.names.Names.{NameOf, no_name}
 use Rattle.fields.specs.declared.names.Name.{Name}
 use Rattle.fills.specs.declared.fill_rows.Fill.{Fill}

@@ -2,7 +2,7 @@
 use Prim.Native.Nat.{ℕ}
 use mathlib.Core.Path.{◌≡◌, refl, sym, ap, ◌∙◌}
 use mathlib.Core.List.{List}
-use Rattle.csv.proofs.rfc4180.Unique.{content_unique}
+use Rattle.csv_text.proofs.rfc4180.Unique.{content_unique}
 use Rattle.kinds.specs.letters.Form.{KindIs, KindAt}
 use Rattle.kinds.specs.declared.letters.KindRead.{KindRead}
 use Rattle.kinds.specs.declared.letters.KindRead.TheVariants.{Known, Unknown}

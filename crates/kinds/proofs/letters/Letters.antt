@@ -12,7 +12,7 @@ use lib.Dec.{lit<, lit≤, ltb, eqb}
 use lib.ListN.{length, get_or, take}
 use lib.Seq.{take-suc, take_all}
 use Rattle.arithmetic.proofs.Cases.{by_cases}
-use Rattle.csv.specs.rfc4180.Rfc4180.{Textdata, high, Plain, none, text, Field}
+use Rattle.csv_text.specs.rfc4180.Rfc4180.{Textdata, high, Plain, none, text, Field}
 use Rattle.arithmetic.specs.decides.Decides.{Decides}
 use Rattle.arithmetic.proofs.Deciding.{decided, refuted, decides_both, decides_below}
 use Rattle.fields.specs.content.Content.{Bare}

@@ -1,6 +1,6 @@
 -- Document 01, the job book: the kind that letters are, and that a field is.
 use Rattle.std.specs.Prelude.{ℕ, ◌≡◌, List}
-use Rattle.csv.specs.rfc4180.Rfc4180.{Field}
+use Rattle.csv_text.specs.rfc4180.Rfc4180.{Field}
 use Rattle.kinds.specs.Table.{letters}
 use Rattle.kinds.specs.declared.Kind.{Kind}
 use Rattle.kinds.specs.declared.letters.KindRead.{KindRead}

@@ -5,7 +5,7 @@ use lib.ListN.{length}
 use borrow.Author.Rules.{rules}
 use borrow.Author.Tests.{not-false}
 use Rattle.arithmetic.proofs.Deciding.{decided}
-use Rattle.csv.proofs.cells.Left.{Left, left_behind, goes_on}
+use Rattle.csv_text.proofs.cells.Left.{Left, left_behind, goes_on}
 use Rattle.lookup_run.proofs.look_up_all.Statement.{statement}
 use Rattle.lookup_run.proofs.look_up_all.Tie as tie
 

@@ -1,6 +1,6 @@
 -- Document 01, The printed answer: the bytes of a line's key.
 use Rattle.std.specs.Prelude.{ℕ, List, [], ◌∷◌, ◌++◌, take}
-use Rattle.csv.specs.rfc4180.Rfc4180.{COMMA}
+use Rattle.csv_text.specs.rfc4180.Rfc4180.{COMMA}
 use Rattle.fields.specs.declared.names.Name.{Name}
 use Rattle.rows.specs.declared.keys.Key.{Key}
 

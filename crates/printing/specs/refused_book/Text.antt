@@ -1,6 +1,6 @@
 -- Document 01, The printed answer: the line of a refused book.
 use Rattle.std.specs.Prelude.{ℕ, List, [], ◌∷◌, ◌++◌}
-use Rattle.csv.specs.rfc4180.Rfc4180.{COMMA}
+use Rattle.csv_text.specs.rfc4180.Rfc4180.{COMMA}
 use Rattle.block.specs.Decimal.{decimal}
 use Rattle.block.specs.Fields.{field, line_end}
 

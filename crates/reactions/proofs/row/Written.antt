@@ -6,8 +6,8 @@ use mathlib.Core.Path.{◌≡◌, refl, sym, subst}
 use mathlib.Core.List.{List, []}
 use lib.IntN.{ℤ, pos, negsuc, nat_abs}
 use lib.ListN.{length, length-append}
-use Rattle.csv.specs.rfc4180.Rfc4180.{Cell, Plain, none, plain, Record, only, then, closed}
-use Rattle.csv.proofs.rfc4180.Unique.{file_unique}
+use Rattle.csv_text.specs.rfc4180.Rfc4180.{Cell, Plain, none, plain, Record, only, then, closed}
+use Rattle.csv_text.proofs.rfc4180.Unique.{file_unique}
 use Rattle.fields.specs.digits.Numerals.{Digited}
 use Rattle.fields.specs.Numbers.{IsNumber, is_positive, is_negative}
 use Rattle.fields.specs.declared.Entry.{Entry}

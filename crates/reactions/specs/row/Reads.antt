@@ -1,6 +1,6 @@
 -- Document 02, P6: "the output is a load row", in the job book's own sense.
 use Rattle.std.specs.Prelude.{ℕ, ◌≡◌, List, [], ◌∷◌, ◌++◌}
-use Rattle.csv.specs.rfc4180.Rfc4180.{Cell, Record, File}
+use Rattle.csv_text.specs.rfc4180.Rfc4180.{Cell, Record, File}
 use Rattle.block.specs.Fields.{line_end}
 use Rattle.kinds.specs.Table.{role}
 use Rattle.kinds.specs.declared.Role.TheVariants.{Load}

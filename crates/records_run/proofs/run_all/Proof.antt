@@ -5,7 +5,7 @@ use lib.ListN.{length}
 use borrow.Author.Rules.{rules}
 use borrow.Author.Tests.{not-false}
 use Rattle.arithmetic.proofs.Deciding.{decided}
-use Rattle.csv.proofs.cells.Left.{Left, left_behind, goes_on}
+use Rattle.csv_text.proofs.cells.Left.{Left, left_behind, goes_on}
 use Rattle.records_run.proofs.run_all.Statement.{statement}
 use Rattle.records_run.proofs.run_all.Tie as tie
 

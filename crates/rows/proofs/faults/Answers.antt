@@ -6,8 +6,8 @@ use mathlib.Core.List.{List, ◌∷◌}
 use lib.ListN.{drop}
 use Rattle.arithmetic.proofs.Cases.{impossible}
 use Rattle.arithmetic.proofs.rounding.Laws.{least_one}
-use Rattle.csv.specs.rfc4180.Rfc4180.{Cell, File, Readable}
-use Rattle.csv.proofs.rfc4180.First.{first, some_row}
+use Rattle.csv_text.specs.rfc4180.Rfc4180.{Cell, File, Readable}
+use Rattle.csv_text.proofs.rfc4180.First.{first, some_row}
 use Rattle.kinds.specs.Table.{columns}
 use Rattle.kinds.specs.declared.Kind.{Kind}
 use Rattle.kinds.proofs.letters.Letters.{letters_one}

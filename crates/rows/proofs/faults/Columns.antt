@@ -12,13 +12,13 @@ use Rattle.arithmetic.proofs.Cases.{by_cases}
 use Rattle.arithmetic.proofs.Deciding.{decides_same, decides_flag}
 use Rattle.arithmetic.specs.decides.Decides.{Decides}
 use Rattle.arithmetic.specs.rounding.Least.{Least}
-use Rattle.csv.specs.Nth.{Nth}
-use Rattle.csv.specs.rfc4180.Rfc4180.{Cell}
-use Rattle.csv.specs.cells.Cells.{CellAt}
-use Rattle.csv.specs.cells.Standing.{Standing}
-use Rattle.csv.specs.cells.Content.{content}
-use Rattle.csv.specs.declared.cells.Cells.{Cells}
-use Rattle.csv.proofs.notes.Answers.{nth_one}
+use Rattle.csv_text.specs.Nth.{Nth}
+use Rattle.csv_text.specs.rfc4180.Rfc4180.{Cell}
+use Rattle.csv_text.specs.cells.Cells.{CellAt}
+use Rattle.csv_text.specs.cells.Standing.{Standing}
+use Rattle.csv_text.specs.cells.Content.{content}
+use Rattle.csv_text.specs.declared.cells.Cells.{Cells}
+use Rattle.csv_text.proofs.notes.Answers.{nth_one}
 use Rattle.fields.specs.names.Names.{NameOf}
 use Rattle.fields.specs.Entries.{EntryAt}
 use Rattle.fields.specs.declared.names.Name.{Name}

@@ -2,9 +2,9 @@
 -- job, kind, then n1 to n6 by that kind."
 use Rattle.std.specs.Prelude.{ℕ, ◌+◌, ◌≡◌, List, length}
 use Rattle.arithmetic.specs.rounding.Least.{Least}
-use Rattle.csv.specs.Nth.{Nth}
-use Rattle.csv.specs.rfc4180.Rfc4180.{Cell}
-use Rattle.csv.specs.cells.Content.{content}
+use Rattle.csv_text.specs.Nth.{Nth}
+use Rattle.csv_text.specs.rfc4180.Rfc4180.{Cell}
+use Rattle.csv_text.specs.cells.Content.{content}
 use Rattle.fields.specs.names.Names.{NameOf}
 use Rattle.fields.specs.declared.names.Name.{Name}
 use Rattle.fields.specs.declared.Entry.{Entry}

@@ -1,6 +1,6 @@
 -- Where a refusal lies: what `fault_at` answers, for the row that starts at a place.
 use Rattle.std.specs.Prelude.{ℕ, List, ◌∷◌, drop}
-use Rattle.csv.specs.rfc4180.Rfc4180.{Cell, File}
+use Rattle.csv_text.specs.rfc4180.Rfc4180.{Cell, File}
 use Rattle.rows.specs.declared.faults.RowFault.{RowFault}
 use Rattle.rows.specs.faults.Faults.{RowSays}
 

@@ -1,8 +1,8 @@
 -- What `entry_at` and `numbers_of` answer, for ten cells that stand where the places say.
 use Rattle.std.specs.Prelude.{ℕ, Bool, true, false, List}
-use Rattle.csv.specs.rfc4180.Rfc4180.{Cell}
-use Rattle.csv.specs.cells.Standing.{Standing}
-use Rattle.csv.specs.declared.cells.Cells.{Cells}
+use Rattle.csv_text.specs.rfc4180.Rfc4180.{Cell}
+use Rattle.csv_text.specs.cells.Standing.{Standing}
+use Rattle.csv_text.specs.declared.cells.Cells.{Cells}
 use Rattle.fields.specs.declared.Entry.{Entry}
 use Rattle.fields.specs.declared.Entered.{Entered}
 use Rattle.fields.specs.declared.Entered.TheVariants.{Is, Wrong}

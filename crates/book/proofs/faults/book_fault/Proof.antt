@@ -3,8 +3,8 @@ use mathlib.Core.Path.{subst}
 use borrow.Author.Rules.{rules}
 use borrow.Author.Tests.{not-true, not-false}
 use Rattle.arithmetic.proofs.Deciding.{decided, refuted}
-use Rattle.csv.specs.strays.Strays.{TextSays}
-use Rattle.csv.proofs.strays.Answers.{sound_readable}
+use Rattle.csv_text.specs.strays.Strays.{TextSays}
+use Rattle.csv_text.proofs.strays.Answers.{sound_readable}
 use Rattle.book.specs.faults.Faults.{too_long, text}
 use Rattle.book.proofs.faults.book_fault.Statement.{statement}
 use Rattle.book.proofs.faults.book_fault.Tie as tie

@@ -4,8 +4,8 @@ use mathlib.Core.Path.{refl}
 use borrow.Author.Rules.{rules}
 use borrow.Author.Tests.{not-true, not-false}
 use Rattle.arithmetic.proofs.Deciding.{decided, refuted}
-use Rattle.csv.specs.rfc4180.Rfc4180.{Readable}
-use Rattle.csv.proofs.places.Starts.{started}
+use Rattle.csv_text.specs.rfc4180.Rfc4180.{Readable}
+use Rattle.csv_text.proofs.places.Starts.{started}
 use Rattle.book.specs.faults.FormAlone.{no_text}
 use Rattle.book.proofs.faults.Forming.{form_first, form_there, form_missing}
 use Rattle.book.proofs.faults.form_fault.Statement.{statement}

@@ -3,7 +3,7 @@ use mathlib.Core.Path.{◌≡◌, ap, subst}
 use mathlib.Core.Bool.{Bool, true, false}
 use mathlib.Core.List.{List}
 use borrow.Author.Rules.{rules}
-use Rattle.csv.specs.rfc4180.Rfc4180.{Cell}
+use Rattle.csv_text.specs.rfc4180.Rfc4180.{Cell}
 use Rattle.rows.specs.Form.{BookRow, Form}
 use Rattle.rows.specs.Answer.{RowGiven}
 use Rattle.rows.specs.declared.keys.Keyed.{Keyed}

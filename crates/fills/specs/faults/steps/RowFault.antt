@@ -1,6 +1,6 @@
 -- What `row_fault` is asked for, and what it answers.
 use Rattle.std.specs.Prelude.{ℕ, List, ◌∷◌, drop}
-use Rattle.csv.specs.rfc4180.Rfc4180.{Cell, File}
+use Rattle.csv_text.specs.rfc4180.Rfc4180.{Cell, File}
 use Rattle.fills.specs.declared.fill_rows.Fill.{Fill}
 use Rattle.fills.specs.declared.fill_rows.Whose.{Whose}
 use Rattle.fills.specs.declared.faults.FillFault.{FillFault}

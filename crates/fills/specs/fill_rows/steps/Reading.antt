@@ -1,7 +1,7 @@
 -- What `number_to`, `member_at` and `fill_at` answer.
 use Rattle.std.specs.Prelude.{ℕ, zero, suc, ◌+◌, ◌<◌, min, ◌≡◌, Bool, true, false, List, ◌∷◌, length, drop}
-use Rattle.csv.specs.rfc4180.Rfc4180.{Cell, Field, File}
-use Rattle.csv.specs.cells.Cells.{offset, Rest}
+use Rattle.csv_text.specs.rfc4180.Rfc4180.{Cell, Field, File}
+use Rattle.csv_text.specs.cells.Cells.{offset, Rest}
 use Rattle.fields.specs.declared.names.Name.{Name}
 use Rattle.fields.specs.declared.names.NameRead.{NameRead}
 use Rattle.fills.specs.declared.fill_rows.Fill.{Fill}

@@ -1,8 +1,8 @@
 -- What `row_part` and `find_row` answer: where a row of one book lies.
 use Rattle.std.specs.Prelude.{ℕ, ◌+◌, ◌<◌, ◌≡◌, List, length}
-use Rattle.csv.specs.rfc4180.Rfc4180.{Cell}
-use Rattle.csv.specs.Nth.{Nth}
-use Rattle.csv.specs.cells.Standing.{row_text, row_start}
+use Rattle.csv_text.specs.rfc4180.Rfc4180.{Cell}
+use Rattle.csv_text.specs.Nth.{Nth}
+use Rattle.csv_text.specs.cells.Standing.{row_text, row_start}
 use Rattle.fields.specs.declared.names.Name.{Name}
 use Rattle.fills.specs.declared.fill_rows.Fill.{Fill}
 use Rattle.fills.specs.declared.fill_rows.Whose.{Whose}

@@ -7,10 +7,10 @@ use lib.ListN.{length, drop}
 use borrow.Author.Rules.{rules}
 use borrow.Author.Tests.{not-true, not-false}
 use Rattle.arithmetic.proofs.Deciding.{not_both}
-use Rattle.csv.specs.rfc4180.Rfc4180.{Cell, File}
-use Rattle.csv.specs.cells.Standing.{raw, Standing}
-use Rattle.csv.specs.cells.Content.{content}
-use Rattle.csv.proofs.cells.Standing.{standing}
+use Rattle.csv_text.specs.rfc4180.Rfc4180.{Cell, File}
+use Rattle.csv_text.specs.cells.Standing.{raw, Standing}
+use Rattle.csv_text.specs.cells.Content.{content}
+use Rattle.csv_text.proofs.cells.Standing.{standing}
 use Rattle.fields.specs.names.Names.{NameOf}
 use Rattle.fields.specs.declared.names.Name.{Name}
 use Rattle.kinds.specs.Table.{letters}

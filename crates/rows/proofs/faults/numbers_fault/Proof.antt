@@ -8,10 +8,10 @@ use borrow.Author.Rules.{rules}
 use borrow.Author.Tests.{not-true, not-false}
 use Rattle.arithmetic.proofs.Deciding.{decided, refuted}
 use Rattle.arithmetic.specs.rounding.Least.{Least}
-use Rattle.csv.specs.Nth.{Nth}
-use Rattle.csv.specs.rfc4180.Rfc4180.{Cell}
-use Rattle.csv.specs.cells.Standing.{Standing}
-use Rattle.csv.specs.cells.Content.{content}
+use Rattle.csv_text.specs.Nth.{Nth}
+use Rattle.csv_text.specs.rfc4180.Rfc4180.{Cell}
+use Rattle.csv_text.specs.cells.Standing.{Standing}
+use Rattle.csv_text.specs.cells.Content.{content}
 use Rattle.kinds.specs.Table.{letters, six_of}
 use Rattle.kinds.specs.declared.Column.{Column}
 use Rattle.kinds.specs.declared.Columns.{Columns}

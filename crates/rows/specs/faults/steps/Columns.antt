@@ -2,10 +2,10 @@
 use Rattle.std.specs.Prelude.{ℕ, ◌<◌, ◌≡◌, Bool, List}
 use Rattle.arithmetic.specs.decides.Decides.{Decides}
 use Rattle.arithmetic.specs.rounding.Least.{Least}
-use Rattle.csv.specs.rfc4180.Rfc4180.{Cell}
-use Rattle.csv.specs.cells.Standing.{Standing}
-use Rattle.csv.specs.cells.Content.{content}
-use Rattle.csv.specs.declared.cells.Cells.{Cells}
+use Rattle.csv_text.specs.rfc4180.Rfc4180.{Cell}
+use Rattle.csv_text.specs.cells.Standing.{Standing}
+use Rattle.csv_text.specs.cells.Content.{content}
+use Rattle.csv_text.specs.declared.cells.Cells.{Cells}
 use Rattle.fields.specs.declared.Entry.{Entry}
 use Rattle.kinds.specs.Table.{columns, letters}
 use Rattle.kinds.specs.Form.{Means}
