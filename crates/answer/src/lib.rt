@@ -2,6 +2,8 @@
 //
 // What is hard is the order: a job is refused with the lowest of its numbers, over all its rows, whatever row shows it
 // first. The answer is total on every `Job` value, whatever is held of fills, and depends on these alone: Table 4 is a constant.
+#![tactic(auto)]
+
 pub mod river;
 
 ghost use Rattle.std.specs.Prelude.{◌≡◌};

@@ -16,14 +16,14 @@ use lines::RiverLine;
 use scour::ScourAnswer;
 
 // What the river rows of a job give: their refusal, 11 to 14, or their lines.
-#[derive(Drop)]
+#[derive(Clone, Copy)]
 pub enum RiverRead {
     Refused(u8),
     Shown(RiverLine, RiverLine),
 }
 
 // What an S or a C row gives.
-#[derive(Drop)]
+#[derive(Clone, Copy)]
 enum RowGives {
     Refused(u8),
     Line(RiverLine),

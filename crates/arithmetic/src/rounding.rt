@@ -8,7 +8,7 @@ ghost use Rattle.arithmetic.specs.rounding.Least.{RoundedDown};
 ghost use Rattle.arithmetic.specs.rounding.Rounding.{Rounding, Exactly, RoundsUp};
 
 // A rounded number, and whether nothing was rounded away.
-#[derive(Drop)]
+#[derive(Clone, Copy)]
 pub struct Rounded {
     pub value: u64,
     pub exact: bool,

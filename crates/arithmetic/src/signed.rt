@@ -8,14 +8,14 @@ ghost use Rattle.arithmetic.specs.signed.Whole.{worth, amount};
 ghost use Rattle.arithmetic.specs.signed.Parts.{parts_in, times, Small};
 
 // A whole number: its size, and whether it is below zero.
-#[derive(Drop)]
+#[derive(Clone, Copy)]
 pub struct Amount {
     pub minus: bool,
     pub size: u64,
 }
 
 // What a whole number is above zero, and what it is below zero.
-#[derive(Drop)]
+#[derive(Clone, Copy)]
 pub struct Parts {
     pub above: u64,
     pub below: u64,

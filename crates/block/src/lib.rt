@@ -4,13 +4,15 @@
 // Every function writes behind the text that a page holds already, and says by one equation what the page holds then. A full
 // page takes no more, and so says the equation, so that texts compose by one law and room is counted once, by whoever knows the whole
 // text.
+#![tactic(auto)]
+
 ghost use Rattle.std.specs.Prelude.{◌≡◌, [], ◌∷◌, ◌+◌, ◌≤◌, length};
 ghost use Rattle.block.specs.Decimal.{decimal};
 ghost use Rattle.block.specs.Block.{page, puts, Adds};
 ghost use Rattle.block.specs.Fields.{field};
 
 // A text of at most 2,048 bytes, and zeros behind it.
-#[derive(Drop)]
+#[derive(Clone, Copy)]
 pub struct Block {
     pub bytes: [u8; 2048],
     pub len: usize,

@@ -9,14 +9,14 @@ use jobs::Job;
 use rows::refusals::Refusal;
 
 // The number of jobs; or a refusal, and its row.
-#[derive(Drop)]
+#[derive(Clone, Copy)]
 pub enum Count {
     Given(usize),
     Refused(Refusal, usize),
 }
 
 // The number of jobs and the jobs themselves, the unused places blank; or a refusal, and all places blank.
-#[derive(Drop)]
+#[derive(Clone, Copy)]
 pub struct Book {
     pub count: Count,
     pub jobs: [Job; 64],

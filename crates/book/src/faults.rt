@@ -23,7 +23,7 @@ use rows::refusals::Refusal;
 
 // Where the refusal of a book lies: the text's fault; a row and why it has no form; a row, or one past the last, and the rule of 4; the
 // B row of a 65th job; a B row with a key used before, and the earlier B row.
-#[derive(Drop)]
+#[derive(Clone, Copy)]
 pub enum BookFault {
     Sound,
     TooLong,

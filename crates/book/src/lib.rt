@@ -3,6 +3,8 @@
 //
 // A book is refused by its length before its form, and by its form before its rows, which `walk` goes through. A note is the tenth cell of
 // a row of the text, and the forms of the book's rows say the same of it.
+#![tactic(auto)]
+
 pub mod counted;
 pub mod faults;
 mod step;

@@ -10,7 +10,7 @@ use jobs::{Job, Took};
 use rows::refusals::Refusal;
 
 // What a row does, the job behind it, and where the next row starts.
-#[derive(Drop)]
+#[derive(Clone, Copy)]
 pub struct Step {
     pub way: Took,
     pub job: Job,

@@ -17,7 +17,7 @@ use rows::keys::Beginning;
 use rows::refusals::Refusal;
 
 // Whether the walk went through all the rows, or a row was refused.
-#[derive(Drop)]
+#[derive(Clone, Copy)]
 pub enum Ending {
     Through,
     Refused(Refusal),
@@ -25,7 +25,7 @@ pub enum Ending {
 
 // Where the walk stopped: at the last row, or at the first bad one; where that row starts, the last job, and the jobs. A row out of place
 // leaves the last job as it stood; a B row that may not begin a job has its own there, which is not among the jobs.
-#[derive(Drop)]
+#[derive(Clone, Copy)]
 pub struct Stop {
     pub ending: Ending,
     pub row: usize,

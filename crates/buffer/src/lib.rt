@@ -3,13 +3,15 @@
 // Exactly the block's bytes are written from the start, and the rest of the buffer is untouched; a buffer that is too short is refused, and
 // nothing is written. The promise gives one answer and one state of the buffer for every block, also for one that claims more than its
 // 2,048 bytes.
+#![tactic(auto)]
+
 ghost use Rattle.block.specs.Block.{text_held};
 ghost use Rattle.buffer.specs.Copying.{Wrote, copy_told};
 
 use block::Block;
 
 // What came of writing into a lent buffer: the length written, or refusal 7.
-#[derive(Drop)]
+#[derive(Clone, Copy)]
 pub enum Copied {
     Length(usize),
     TooShort,

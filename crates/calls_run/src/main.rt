@@ -6,6 +6,8 @@
 // written apart from this one.
 //
 // A buffer is lent full of dots, so that a byte which is written shows, and one which is not.
+#![tactic(auto)]
+
 ghost use Rattle.std.specs.Prelude.{◌≤◌};
 ghost use Rattle.io.specs.Counts.{IsPrefixLen};
 

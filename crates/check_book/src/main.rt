@@ -2,6 +2,8 @@
 // answer). Its arguments name the members' own fill book and the common one (02, P4); without them there are no own rows, and Table 2 is the
 // common book. Which bytes are printed is the promise of `debtarush::book_lines`, and they are written as they come. A file that cannot be read
 // to its end is told, and no job is printed.
+#![tactic(auto)]
+
 use libc::{STDERR_FILENO, STDIN_FILENO, STDOUT_FILENO};
 
 // Prints the lines of a book; where they cannot be written, that is told.

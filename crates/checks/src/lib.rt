@@ -2,6 +2,8 @@
 //
 // What is hard is that the search compares figures as numbers: a figure's rank is one number of 64 bits whose order is that of the
 // figures, the worst first, with "none" at one end and "off" at the other, and the figure is read back from it.
+#![tactic(auto)]
+
 pub mod limits;
 pub mod passing;
 pub mod ranks;
@@ -14,7 +16,7 @@ ghost use Rattle.checks.specs.steps.Ranks.{HasRank, rank};
 
 // The base: its width along the axis and its length in mm, the allowable pressure in kN/m², the friction in thousandths, and whether it
 // stands on rock.
-#[derive(Drop)]
+#[derive(Clone, Copy)]
 pub struct Base {
     pub width: u64,
     pub length: u64,
@@ -24,7 +26,7 @@ pub struct Base {
 }
 
 // Overturning about the edge at +x and at -x, sliding, the greatest pressure, and on rock how far the load stands from the middle.
-#[derive(Drop)]
+#[derive(Clone, Copy)]
 pub enum Check {
     OP,
     OM,
@@ -34,7 +36,7 @@ pub enum Check {
 }
 
 // A printed figure: "none", a number, "off".
-#[derive(Drop)]
+#[derive(Clone, Copy)]
 pub enum Figure {
     Nothing,
     Number(u64),

@@ -2,6 +2,8 @@
 // or 14.
 //
 // What is left of the clearance may be below zero: levels are added up on two sides, and only natural numbers are taken from each other.
+#![tactic(auto)]
+
 pub mod afflux;
 
 ghost use Rattle.clearance.specs.ClearanceRow.{clearance_told, ClearanceSays};
@@ -13,7 +15,7 @@ use arithmetic::signed::Amount;
 use kinds::{Kind, Numbers};
 
 // The columns of a C row: velocity in mm/s, area A and obstructed area a in tenths of m², and the levels of underside and flood in mm.
-#[derive(Drop)]
+#[derive(Clone, Copy)]
 pub struct Opening {
     pub velocity: u64,
     pub area: u64,
@@ -24,7 +26,7 @@ pub struct Opening {
 
 // What a C row is told: the clearance there is, underside - flood - afflux, and the clearance needed, in mm, and whether the afflux is exact; or a
 // refusal.
-#[derive(Drop)]
+#[derive(Clone, Copy)]
 pub enum ClearanceAnswer {
     OutOfRange,
     OverObstructed,

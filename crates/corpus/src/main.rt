@@ -9,6 +9,8 @@
 // refusal of load rows that comes before 19; those whose names begin with p7 or exact, and using-exact.book, try what the eighth field says: exact-named-set.book has sets
 // of one printed figure, of which one is exact, exact-checks.book each check with an exact and with a rounded figure, exact-river.book the same of SC and
 // CL; docs/DECISIONS.md works them out. A file that cannot be read to its end is told, and has no lines.
+#![tactic(auto)]
+
 use libc::{STDERR_FILENO, STDOUT_FILENO};
 
 // Prints the lines of a book; where they cannot be written, that is told.

@@ -2,6 +2,8 @@
 // book, whose name is printed before its lines. What it must print is put together from the lines of programs written apart from this one.
 // Those whose names begin with p4 are books of all kinds, some with a fill book that is refused, those with p5 have G rows, and those with p7 try what the eighth field says; fills.book has full fill books; using-fills.book
 // is the example of docs/USING.md; the others are worked out in docs/DECISIONS.md. A file that cannot be read to its end is told, and its book has no lines.
+#![tactic(auto)]
+
 ghost use Rattle.std.specs.Prelude.{◌+◌, ◌<◌, ◌^◌};
 
 use libc::{STDERR_FILENO, STDOUT_FILENO};

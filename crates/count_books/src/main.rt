@@ -1,6 +1,8 @@
 // Counts the jobs of each book that its arguments name. One line a book: its name, the number of its jobs and the
 // length of its first note, or the number and the row of its refusal. A file that cannot be read to its end is told, and
 // has no line.
+#![tactic(auto)]
+
 use book::counted::Count;
 use libc::STDOUT_FILENO;
 

@@ -10,7 +10,7 @@ ghost use Rattle.csv_text.specs.rfc4180.Rfc4180.{Readable};
 use crate::field::Ended;
 
 // A row: how many fields it has, where the first ten start and end, and where the next row starts.
-#[derive(Drop)]
+#[derive(Clone, Copy)]
 pub struct Cells {
     pub count: usize,
     pub from: [usize; 10],

@@ -10,7 +10,7 @@ use crate::quoted::ClosingQuote;
 
 // What follows the field at a place: a comma or a row's end, with the index at which the field ends; the text's end, which is
 // that index itself; or Bad, where no field stands there that may be followed so.
-#[derive(Drop)]
+#[derive(Clone, Copy)]
 pub enum Ended {
     Comma(usize),
     Row(usize),

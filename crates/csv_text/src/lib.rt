@@ -3,6 +3,8 @@
 //
 // What RFC 4180 is stands in `rfc4180`, as a relation between a text and its rows. What is hard is that one walk from field to field decides
 // whether a text has rows: from the start of a field, the text is readable exactly if it is from the start of the next.
+#![tactic(auto)]
+
 pub mod cells;
 mod field;
 pub mod notes;

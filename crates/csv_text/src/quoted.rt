@@ -8,7 +8,7 @@ ghost use Rattle.arithmetic.specs.decides.Decides.{Decides};
 ghost use Rattle.csv_text.specs.steps.Closing.{FirstByte, ClosedAt};
 
 // Where a closing quote stands.
-#[derive(Drop)]
+#[derive(Clone, Copy)]
 pub enum ClosingQuote {
     At(usize),
     Unclosed,

@@ -11,7 +11,7 @@ use crate::quoted;
 
 // What stands right before a place: a field starts there; plain text; an open quote, with what stands between quotes; a closed quoted field; a CR
 // outside quotes.
-#[derive(Drop)]
+#[derive(Clone, Copy)]
 pub enum Spot {
     Start,
     Plain,
@@ -22,7 +22,7 @@ pub enum Spot {
 
 // Where a text stops being RFC 4180: the first stray byte, with what stands right before it; the quote of which the text ends inside; the CR with
 // which it ends.
-#[derive(Drop)]
+#[derive(Clone, Copy)]
 pub enum TextFault {
     Sound,
     Stray(usize, Spot),
@@ -31,7 +31,7 @@ pub enum TextFault {
 }
 
 // What stands right behind a byte, or that no text goes on with it.
-#[derive(Drop)]
+#[derive(Clone, Copy)]
 enum Onward {
     To(Spot),
     Nowhere,

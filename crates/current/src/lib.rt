@@ -1,6 +1,8 @@
 // Water current on the shaft (document 02, P1; 002, 5.9.2): the force on a W row's shaft, and its height above the base.
 //
 // The numbers of a W row are just small enough: with 9.80665 as its smaller fraction, the product that is rounded fits a word.
+#![tactic(auto)]
+
 mod force;
 mod table4;
 
@@ -12,7 +14,7 @@ use kinds::{Kind, Numbers};
 
 // The columns of a W row: shape from 1 to 6, exposed area in hundredths of m², velocity in mm/s, upper and lower wetted height in mm above
 // the base. Its phase is the load's.
-#[derive(Drop)]
+#[derive(Clone, Copy)]
 pub struct Shaft {
     pub shape: u64,
     pub area: u64,
@@ -22,7 +24,7 @@ pub struct Shaft {
 }
 
 // What a W row is told: the force toward +x in kN and its height above the base in mm, or a refusal.
-#[derive(Drop)]
+#[derive(Clone, Copy)]
 pub enum CurrentAnswer {
     OutOfRange,
     UpperBelowLower,

@@ -5,6 +5,8 @@
 // job is told a length; or a refusal of the book, 1 to 6, with its row; or 8, 10 or 7, all with row 0, in this order, and a refused call writes
 // nothing. A job's lines fit their block, since their set numbers are those of at most 16 load rows, and so the lines of 64 jobs fit 64 blocks. The
 // jobs come by value in 64 places, of which the book's jobs fill the first: a place past their number is none, whatever stands there.
+#![tactic(auto)]
+
 ghost use Rattle.std.specs.Prelude.{◌≡◌, ◌+◌, ◌≤◌, length};
 ghost use Rattle.block.specs.Block.{text_held};
 ghost use Rattle.earth.specs.coefficients.Coefficients.{fill_of};
@@ -22,7 +24,7 @@ use jobs::Job;
 use rows::refusals::Refusal;
 
 // The length written; or the refusal of the book with its row, of the fill books, of the place, or of the buffer.
-#[derive(Drop)]
+#[derive(Clone, Copy)]
 pub enum Written {
     Length(usize),
     BookRefused(Refusal, usize),

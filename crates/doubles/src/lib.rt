@@ -2,6 +2,8 @@
 //
 // What a double is, and its products, stands in the kit's logic (`lib.Ieee`). What is hard is the nearest whole number, halves away from
 // zero: it is worked out on the bits, and said of the double's exact value. A NaN has no bits of its own in Rattle, so it is made, never read.
+#![tactic(auto)]
+
 ghost use Rattle.std.specs.Prelude.{◌≡◌, pos};
 ghost use Rattle.std.specs.Float.Ieee as Ieee;
 ghost use Rattle.std.specs.Float.{binary64};
@@ -27,7 +29,7 @@ const BEYOND: u64 = 0x100000000;
 
 // A double to the nearest whole number, and whether it is that number exactly (02, P7: "Every rounding is to tell also whether it was exact"); or that the
 // nearest has more than 32 bits, or that there is none.
-#[derive(Drop)]
+#[derive(Clone, Copy)]
 pub enum Whole {
     Is { amount: Amount, exact: bool },
     Beyond,

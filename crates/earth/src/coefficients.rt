@@ -6,7 +6,7 @@ ghost use Rattle.std.specs.Prelude.{◌≡◌, ◌≤◌};
 ghost use Rattle.earth.specs.coefficients.Coefficients.{fill_of};
 
 // What is held for a soil and a slope.
-#[derive(Drop)]
+#[derive(Clone, Copy)]
 pub enum Coefficient {
     Blank,
     Value(u32),

@@ -2,6 +2,8 @@
 // fill, and its height above the base.
 //
 // The numbers of an E row are small enough for any coefficient up to 40,000, whichever book it comes from.
+#![tactic(auto)]
+
 pub mod coefficients;
 mod thrust;
 
@@ -14,7 +16,7 @@ use coefficients::Coefficient;
 use kinds::{Kind, Numbers};
 
 // The columns of an E row: soil and slope, each from 1 to 5, height and length in mm. Its phase is the load's.
-#[derive(Drop)]
+#[derive(Clone, Copy)]
 pub struct Backfill {
     pub soil: u64,
     pub slope: u64,
@@ -23,7 +25,7 @@ pub struct Backfill {
 }
 
 // What an E row is told: the thrust toward +x in kN and its height above the base in mm, or a refusal.
-#[derive(Drop)]
+#[derive(Clone, Copy)]
 pub enum EarthAnswer {
     OutOfRange,
     NoCoefficient,

@@ -3,6 +3,8 @@
 //
 // Where a refusal lies, and the figures that were compared, are values that other rooms prove; here they become words, on standard output. Which
 // words these are no contract says: they are tried on stored books.
+#![tactic(auto)]
+
 mod all_rows;
 mod book_words;
 mod columns;

@@ -1,6 +1,8 @@
 // explain_book [--all] [OWN [COMMON]]: reads a job book from standard input and says in plain words where it is refused, or which of its jobs
 // are, and what is odd in the others; or that it is not refused. OWN and COMMON name the fill books; without them there are no own rows, and Table 2
 // is the common book. With --all it tells every bad row of a book that is RFC 4180. What it says is put into words by `explain`, from proved values.
+#![tactic(auto)]
+
 use libc::{STDERR_FILENO, STDIN_FILENO};
 
 // The book on standard input, with these fill books.

@@ -1,6 +1,8 @@
 // Explains each stored book that its arguments name, after a line with these arguments. They come four by four: "first" or "all", for the refusal alone
 // or every bad row; the book; the own fill book, or "-" for none; the common fill book, or "-" for Table 2. A file that cannot be read to its end is
 // told, and nothing is said of it.
+#![tactic(auto)]
+
 use libc::STDOUT_FILENO;
 
 // Prints an argument.

@@ -4,7 +4,7 @@
 ghost use Rattle.fields.specs.steps.Digits.{DigitsAre};
 
 // What digits are worth, or that a content is not digits.
-#[derive(Drop)]
+#[derive(Clone, Copy)]
 pub enum Digits {
     Worth(u32),
     NoDigits,

@@ -2,6 +2,8 @@
 //
 // Each function takes a stretch of the lent book that starts in its middle, and its answer is exact for every stretch, whether or not it is
 // a field of RFC 4180. One content is one number: a minus stands before its digits or nowhere, and never before a zero.
+#![tactic(auto)]
+
 pub mod content;
 pub mod digits;
 pub mod names;
@@ -13,7 +15,7 @@ ghost use Rattle.fields.specs.Entries.{EntryAt};
 use digits::Digits;
 
 // What a number field holds: nothing, or a number by its sign and size. No field gives a minus zero.
-#[derive(Drop)]
+#[derive(Clone, Copy)]
 pub struct Entry {
     pub filled: bool,
     pub minus: bool,
@@ -21,7 +23,7 @@ pub struct Entry {
 }
 
 // What a content is, as a number field or an empty one holds it; or that its form is wrong (refusal 3).
-#[derive(Drop)]
+#[derive(Clone, Copy)]
 pub enum Entered {
     Is(Entry),
     Wrong,

@@ -7,14 +7,14 @@ ghost use Rattle.fields.specs.names.Names.{no_name};
 ghost use Rattle.fields.specs.names.NameAt.{ContentNamed, NameAt};
 
 // A member or a job: its bytes, with zeros behind them.
-#[derive(Drop)]
+#[derive(Clone, Copy)]
 pub struct Name {
     pub len: usize,
     pub bytes: [u8; 12],
 }
 
 // A name; or none, where a stretch has none. (A name holds an array, so no enum can hold it.)
-#[derive(Drop)]
+#[derive(Clone, Copy)]
 pub struct NameRead {
     pub good: bool,
     pub name: Name,

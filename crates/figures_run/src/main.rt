@@ -1,6 +1,8 @@
 // Runs the figures of document 01's "Figures on each side", starred or not, through the public functions, and those of document 02's requests,
 // worked out by hand. One line a figure, in 01's order and then 02's: what was asked, what came and what it should be; and a last line with how
 // many of them agree.
+#![tactic(auto)]
+
 mod asked;
 mod currents;
 mod forces;

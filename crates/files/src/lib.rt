@@ -3,12 +3,14 @@
 //
 // A failed read says neither that a file ended nor what follows, so a byte more is asked for where fewer came than fit. One byte past the limit of a
 // book is enough to refuse a book of any length. What a file holds is not promised here, but that no byte is counted which was not read.
+#![tactic(auto)]
+
 ghost use Rattle.io.specs.Counts.{IsPrefixLen};
 
 use libc::STDERR_FILENO;
 
 // How many bytes were read, and whether these are all.
-#[derive(Drop)]
+#[derive(Clone, Copy)]
 pub struct Got {
     pub all: bool,
     pub len: usize,

@@ -2,6 +2,8 @@
 // the book that it lies in, own or common; or none (02, P4: "so the note can be shown"). OWN and COMMON name the fill books; without them there are
 // no own rows, and Table 2 is the common book. Which row that is, is the promise of `fills::lookup`. A refused fill book, and a file that cannot
 // be read to its end, are told.
+#![tactic(auto)]
+
 use fields::Entered;
 use fills::lookup::Place;
 use libc::{STDERR_FILENO, STDOUT_FILENO};

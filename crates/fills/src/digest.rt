@@ -9,7 +9,7 @@ ghost use Rattle.fills.specs.digest.Digest.{WordIs, NameKeyIs, KeyIs, FoundAt};
 use fields::names::Name;
 
 // A member, or a member with a soil and a slope, in two words.
-#[derive(Drop)]
+#[derive(Clone, Copy)]
 pub struct TwoWords {
     pub high: u64,
     pub low: u64,

@@ -14,7 +14,7 @@ use crate::{fill_rows, reading};
 use csv_text::strays::TextFault;
 
 // Where the refusal of a fill book lies, its rows and columns counted from 1.
-#[derive(Drop)]
+#[derive(Clone, Copy)]
 pub enum FillFault {
     Sound,
     TooLong,

@@ -9,14 +9,14 @@ use fields::Entered;
 use fields::names::{Name, NameRead};
 
 // Whose rows a fill book has: the members' own, or the common ones, with the member empty.
-#[derive(Drop)]
+#[derive(Clone, Copy)]
 pub enum Whose {
     Own,
     Common,
 }
 
 // What a row of a fill book says: the value of a soil and a slope, for a member or, with no name, for all.
-#[derive(Drop)]
+#[derive(Clone, Copy)]
 pub struct Fill {
     pub member: Name,
     pub soil: u32,
@@ -25,7 +25,7 @@ pub struct Fill {
 }
 
 // What a row means, or that it means no fill; and where the next row starts, or the text's end.
-#[derive(Drop)]
+#[derive(Clone, Copy)]
 pub struct FillRead {
     pub good: bool,
     pub fill: Fill,

@@ -3,6 +3,8 @@
 //
 // What a fill book is stands in `specs/FillBook.antt`, with no reader in it. Each book is walked once, into words; what it holds for a member
 // is then laid over what is held for all. Where the refusal of a book lies (8), that walk tells too (`faults`).
+#![tactic(auto)]
+
 mod digest;
 pub mod faults;
 pub mod fill_rows;

@@ -12,7 +12,7 @@ use crate::{digest, reading};
 use fields::names::Name;
 
 // Where a row lies: in which of the two books, from where to where; or nowhere.
-#[derive(Drop)]
+#[derive(Clone, Copy)]
 pub enum Place {
     Own { from: usize, to: usize },
     Common { from: usize, to: usize },
@@ -20,7 +20,7 @@ pub enum Place {
 }
 
 // Where a row of one book lies; or that it has none, or is refused.
-#[derive(Drop)]
+#[derive(Clone, Copy)]
 pub enum Found {
     At { from: usize, to: usize },
     Missing,
@@ -28,7 +28,7 @@ pub enum Found {
 }
 
 // From where to where a row lies.
-#[derive(Drop)]
+#[derive(Clone, Copy)]
 pub struct Lies {
     pub from: usize,
     pub to: usize,

@@ -10,7 +10,7 @@ use crate::fill_rows::Whose;
 use crate::{digest, faults, fill_rows};
 
 // How many fills a book has; or where its refusal lies.
-#[derive(Drop)]
+#[derive(Clone, Copy)]
 pub enum Rows {
     Given(usize),
     Refused(FillFault),

@@ -2,6 +2,8 @@
 //
 // What each function leaves in a lent buffer is promised for any bytes: as much as fits, and behind it what the buffer held. A byte that is no digit
 // counts as 0. That the digits of bytes stand for these bytes is a law (proofs/Encoding, `decoded_encoded`).
+#![tactic(auto)]
+
 ghost use Rattle.std.specs.Prelude.{◌<◌, ◌%◌, ◌≡◌};
 ghost use Rattle.io.specs.Counts.{IsPrefixLen};
 ghost use Rattle.hex_text.specs.Hex.{worth, digit, Decoded, Encoded};

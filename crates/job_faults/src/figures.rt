@@ -18,7 +18,7 @@ use jobs::Job;
 use kinds::{Column, Columns, Numbers, Row};
 
 // The range of a column, and the entry that stands in it.
-#[derive(Drop)]
+#[derive(Clone, Copy)]
 pub struct Filling {
     pub range: Column,
     pub entry: Entry,

@@ -3,6 +3,8 @@
 //
 // It is said of the job alone, and of every `Job` value. The numbers are asked in their order, and each of all the rows in the book's order, by one walk; past 11 every
 // number is in its range, and the rules below it can be asked.
+#![tactic(auto)]
+
 mod figures;
 mod rules;
 
@@ -23,7 +25,7 @@ use kinds::{Column, Kind, Row};
 use rules::Rule;
 
 // The first number of a job that is out of its range: its row by its position in the job, from 1, its column as the sheet counts them, what stands there, and the range.
-#[derive(Drop)]
+#[derive(Clone, Copy)]
 pub struct Out {
     pub row: usize,
     pub kind: Kind,
@@ -33,7 +35,7 @@ pub struct Out {
 }
 
 // Where the refusal of a job lies: the row by its position in the job, from 1, and the figures that were compared.
-#[derive(Drop)]
+#[derive(Clone, Copy)]
 pub enum JobFault {
     Sound,
     OutOfRange(Out),
@@ -79,7 +81,7 @@ pub enum JobFault {
 }
 
 // The first row that shows a refusal, by its position, or none.
-#[derive(Drop)]
+#[derive(Clone, Copy)]
 enum Found {
     At(usize, Row),
     Nothing,

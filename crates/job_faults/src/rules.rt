@@ -23,7 +23,7 @@ use kinds::{Kind, Numbers, Row};
 use scour::ScourAnswer;
 
 // The refusals of a job, 11 to 20, in their order.
-#[derive(Drop)]
+#[derive(Clone, Copy)]
 pub enum Rule {
     OutOfRange,
     LargeCatchment,

@@ -4,6 +4,8 @@
 // The promise is exact for every value, and not only for those that a book gives: a row is taken exactly if it is in place, and then the
 // next job is this job with exactly that row more; a row that is refused leaves the job as it stood. Whether a row is in place is decided
 // first, from what `stages` needs of it, so that the copies of a job are few.
+#![tactic(auto)]
+
 pub mod misplaced;
 pub mod stages;
 
@@ -19,7 +21,7 @@ use rows::refusals::Refusal;
 use stages::Stage;
 
 // A job as it stands: its key, and the numbers of its rows, blank where it has none.
-#[derive(Drop)]
+#[derive(Clone, Copy)]
 pub struct Job {
     pub stage: Stage,
     pub key: Key,
@@ -31,7 +33,7 @@ pub struct Job {
 }
 
 // What became of a row: it is refused, or it joined the job before it, or it started the next.
-#[derive(Drop)]
+#[derive(Clone, Copy)]
 pub enum Took {
     Refused(Refusal),
     Joined,
@@ -39,7 +41,7 @@ pub enum Took {
 }
 
 // What became of a row, and the job behind it.
-#[derive(Drop)]
+#[derive(Clone, Copy)]
 pub struct Taken {
     pub answer: Took,
     pub job: Job,

@@ -15,7 +15,7 @@ use rows::keys::Keyed;
 
 // The rules of 4 in their order: no B row before; no load row in the job that ends; another key than the job's; a second S; an S behind a
 // load row; a C without an S; a second C; a C behind a load row; a 17th load row.
-#[derive(Drop)]
+#[derive(Clone, Copy)]
 pub enum Misplaced {
     NoBase,
     NoLoad,
@@ -29,7 +29,7 @@ pub enum Misplaced {
 }
 
 // A row in its place; or the first rule by which it is out of place.
-#[derive(Drop)]
+#[derive(Clone, Copy)]
 pub enum Placing {
     InPlace,
     Out(Misplaced),

@@ -7,7 +7,7 @@ ghost use Rattle.kinds.specs.letters.Form.{KindIs, KindAt};
 use crate::Kind;
 
 // The kind that letters are, or that they are none.
-#[derive(Drop)]
+#[derive(Clone, Copy)]
 pub enum KindRead {
     Known(Kind),
     Unknown,

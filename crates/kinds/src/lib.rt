@@ -3,6 +3,8 @@
 // Which columns are filled and in what range, how the kind is written, what a row of it is to its job, and where its phase and its train
 // stand, is stated in one table (`specs/Table.antt`), its class and the source of its forces with `classes`. A kind that is added joins both. The code's copies are
 // shown to be the definitions'.
+#![tactic(auto)]
+
 pub mod classes;
 pub mod letters;
 pub mod ranges;
@@ -13,7 +15,7 @@ ghost use Rattle.kinds.specs.Table.{columns, role, phase, train};
 use fields::Entry;
 
 // The kinds of a row: the base, the two river rows, earth pressure, water current, surcharge, and the load rows that give their own forces.
-#[derive(Drop)]
+#[derive(Clone, Copy)]
 pub enum Kind {
     B,
     S,
@@ -35,7 +37,7 @@ pub enum Kind {
 }
 
 // What a row of a kind is to its job.
-#[derive(Drop)]
+#[derive(Clone, Copy)]
 pub enum Role {
     Base,
     Scour,
@@ -44,7 +46,7 @@ pub enum Role {
 }
 
 // A column of the table: left empty; a number from low to high; or one from so far below zero to so far above.
-#[derive(Drop)]
+#[derive(Clone, Copy)]
 pub enum Column {
     Empty,
     Filled(u32, u32),
@@ -52,7 +54,7 @@ pub enum Column {
 }
 
 // The columns n1 to n6 of a kind.
-#[derive(Drop)]
+#[derive(Clone, Copy)]
 pub struct Columns {
     pub n1: Column,
     pub n2: Column,
@@ -63,7 +65,7 @@ pub struct Columns {
 }
 
 // The numbers of a row.
-#[derive(Drop)]
+#[derive(Clone, Copy)]
 pub struct Numbers {
     pub n1: Entry,
     pub n2: Entry,
@@ -74,7 +76,7 @@ pub struct Numbers {
 }
 
 // A row by its kind and its numbers; its key is its job's, and its note is not interpreted.
-#[derive(Drop)]
+#[derive(Clone, Copy)]
 pub struct Row {
     pub kind: Kind,
     pub numbers: Numbers,

@@ -2,6 +2,8 @@
 //
 // `worst` gives the lines of a combination, `answer` those of the river, and `verdicts` here whether they all say Y. Their order stands
 // once, as a list, in `specs/`, for the text and for the demands.
+#![tactic(auto)]
+
 pub mod verdicts;
 
 ghost use Rattle.std.specs.Prelude.{◌≡◌};
@@ -12,7 +14,7 @@ use arithmetic::signed::Amount;
 use checks::Figure;
 
 // The line of a check: value, limit, set, whether it says Y, and whether its value is exact, with nothing rounded away (02, P7).
-#[derive(Drop)]
+#[derive(Clone, Copy)]
 pub enum Line {
     Missing,
     Shown {
@@ -25,7 +27,7 @@ pub enum Line {
 }
 
 // The lines of a combination.
-#[derive(Drop)]
+#[derive(Clone, Copy)]
 pub struct Lines {
     pub op: Line,
     pub om: Line,
@@ -35,7 +37,7 @@ pub struct Lines {
 }
 
 // What VERDICT says: A, N, or the number of the job's refusal.
-#[derive(Drop)]
+#[derive(Clone, Copy)]
 pub enum Verdict {
     Accepted,
     NotAccepted,
@@ -44,7 +46,7 @@ pub enum Verdict {
 
 // SC or CL: the value and the limit, in mm, whether it says Y, and whether the value is exact. Of SC the value is the depth needed, and the
 // limit the foundation depth found; of CL underside - flood - afflux, and the clearance needed.
-#[derive(Drop)]
+#[derive(Clone, Copy)]
 pub enum RiverLine {
     Missing,
     Shown {
@@ -56,7 +58,7 @@ pub enum RiverLine {
 }
 
 // The verdict, the lines of combinations I to IV, and those of the river. Of a refused job only the verdict is printed.
-#[derive(Drop)]
+#[derive(Clone, Copy)]
 pub struct Answer {
     pub verdict: Verdict,
     pub one: Lines,

@@ -17,7 +17,7 @@ use sets::{Class, Load};
 use surcharge::{Parts, SurchargeAnswer};
 
 // What a load row is told: the lowest of its own refusals, or its load.
-#[derive(Drop)]
+#[derive(Clone, Copy)]
 pub enum RowLoad {
     Refused(u8),
     Exerted(Load),

@@ -2,6 +2,8 @@
 //
 // Everything above sees loads and no rows. One loop asks each row once, and another which row it names. The order of the refusals is over
 // all the rows and by number, and past the rows of the job there stands no load.
+#![tactic(auto)]
+
 mod forces;
 
 ghost use Rattle.std.specs.Prelude.{◌≡◌, ◌≤◌, take};
@@ -17,14 +19,14 @@ use kinds::{Kind, Row};
 use sets::Loads;
 
 // What the load rows are told: the lowest of the refusals that they give, over all of them; or the loads.
-#[derive(Drop)]
+#[derive(Clone, Copy)]
 pub enum LoadsAnswer {
     Refused(u8),
     Given,
 }
 
 // The answer, and the loads where they are given.
-#[derive(Drop)]
+#[derive(Clone, Copy)]
 pub struct LoadsRead {
     pub answer: LoadsAnswer,
     pub loads: Loads,
@@ -32,7 +34,7 @@ pub struct LoadsRead {
 
 // What was asked of rows: the lowest number with which one of them is refused by itself, or 0, and how many rows are optional; and, where
 // none is refused, the loads of the rows.
-#[derive(Drop)]
+#[derive(Clone, Copy)]
 struct Asked {
     first: u8,
     optional: u64,

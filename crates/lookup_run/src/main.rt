@@ -1,6 +1,8 @@
 // Runs the lookups that standard input lists (02, P4). It is a comma-separated text, a lookup a row: the own book and the common one, byte by
 // byte in hex, member, soil and slope. Each gives a line: the book that holds the row, where the row starts in it, and the row in hex.
 // The list has these three behind its five, as implementations written apart agree on them; they are not read here, and are what must be printed.
+#![tactic(auto)]
+
 use csv_text::cells::Cells;
 use fields::Entered;
 use fills::lookup::Place;

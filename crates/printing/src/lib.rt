@@ -4,6 +4,8 @@
 // Each function puts a field, a line or lines behind the text that a page of 2,048 bytes holds, or nothing where a line is missing. What is
 // hard is that nothing is cut: each says how many bytes it puts at most, and the sum is below 2,048 where the set numbers are those of
 // at most 16 load rows; and that what a line says is read back from its text (`proofs/`).
+#![tactic(auto)]
+
 mod line_fields;
 mod line_key;
 pub mod refused_book;

@@ -1,6 +1,8 @@
 // reaction_row MEMBER JOB KIND PHASE: prints the load row that a record of the frame program gives, the record being what is on standard input (02, P6).
 // The row is printed as `reactions::reaction_row` writes it, CRLF included. A refusal is told on standard error with its number; so are, without one,
 // arguments that are missing or too many, and an input that cannot be read to its end. Nothing is printed then.
+#![tactic(auto)]
+
 use libc::{STDERR_FILENO, STDIN_FILENO, STDOUT_FILENO};
 use reactions::RowWritten;
 

@@ -4,6 +4,8 @@
 // Key, kind and phase are given beside the record. What is hard is that nothing is said of the doubles but by their exact values: the record holds
 // them as they are, not a number and infinities among them, each product is rounded once, and the nearest whole number is told of what comes out.
 // The row is written to a lent buffer, or one refusal is told and nothing is written.
+#![tactic(auto)]
+
 mod row;
 mod xdr;
 
@@ -22,7 +24,7 @@ use kinds::{Kind, Numbers};
 use xdr::{FrameLoad, RecordRead};
 
 // The length written; or the refusal of what is asked, of the record, of its numbers, or of the buffer.
-#[derive(Drop)]
+#[derive(Clone, Copy)]
 pub enum RowWritten {
     Length(usize),
     NoRow,
@@ -33,7 +35,7 @@ pub enum RowWritten {
 }
 
 // The numbers of the row that a record gives; or why it gives none.
-#[derive(Drop)]
+#[derive(Clone, Copy)]
 enum NumbersRead {
     Is(Numbers),
     NoRecord,

@@ -6,7 +6,7 @@ ghost use Rattle.reactions.specs.xdr.Record.{behind, Double};
 ghost use Rattle.reactions.specs.xdr.steps.Reading.{BeginsWith, RecordIs};
 
 // A load of the frame program: a force in kN, a line load in kN/m with its length in m, or a pressure in kN/m² with its two sides in m.
-#[derive(Drop)]
+#[derive(Clone, Copy)]
 pub enum FrameLoad {
     Force(f64),
     Line(f64, f64),
@@ -14,7 +14,7 @@ pub enum FrameLoad {
 }
 
 // What a record holds: the vertical load and its x, the horizontal load and its y, in mm.
-#[derive(Drop)]
+#[derive(Clone, Copy)]
 pub struct Reaction {
     pub vertical: FrameLoad,
     pub x: f64,
@@ -23,14 +23,14 @@ pub struct Reaction {
 }
 
 // The load that bytes begin with, and how many bytes it has; or that they begin with none.
-#[derive(Drop)]
+#[derive(Clone, Copy)]
 enum LoadRead {
     Is(FrameLoad, usize),
     Unknown,
 }
 
 // What a record holds, or that bytes are no record.
-#[derive(Drop)]
+#[derive(Clone, Copy)]
 pub enum RecordRead {
     Is(Reaction),
     Unknown,

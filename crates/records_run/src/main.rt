@@ -2,6 +2,8 @@
 // that is lent, and the record in hex. Each gives a line: the refusal, 0 where a row was written, and the row in hex. Where a byte that is none of the
 // row's was written, `touched` stands in its place. The list has these two behind its six, as implementations written apart agree on them or as they were
 // worked out by hand; they are not read here, and are what must be printed.
+#![tactic(auto)]
+
 use csv_text::cells::Cells;
 use fields::Entered;
 use libc::{STDERR_FILENO, STDIN_FILENO, STDOUT_FILENO};

@@ -13,7 +13,7 @@ use kinds::letters::KindRead;
 use kinds::{Column, Kind};
 
 // Why a row has no form: the number of its fields, or its first wrong column, member being 1.
-#[derive(Drop)]
+#[derive(Clone, Copy)]
 pub enum RowFault {
     Sound,
     Count(usize),

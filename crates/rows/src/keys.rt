@@ -13,21 +13,21 @@ use fields::names::Name;
 use kinds::{Kind, Numbers, Row};
 
 // Member and job, together the key.
-#[derive(Drop)]
+#[derive(Clone, Copy)]
 pub struct Key {
     pub member: Name,
     pub job: Name,
 }
 
 // A row with its key.
-#[derive(Drop)]
+#[derive(Clone, Copy)]
 pub struct Keyed {
     pub key: Key,
     pub row: Row,
 }
 
 // Whether a job begins; or the refusal of its B row.
-#[derive(Drop)]
+#[derive(Clone, Copy)]
 pub enum Beginning {
     Allowed,
     Barred(Refusal),

@@ -2,6 +2,8 @@
 //
 // The text is known to be RFC 4180, and the row has one reading. Each promise here speaks of every reading of the text, and not of the
 // cells that the code looks at.
+#![tactic(auto)]
+
 pub mod faults;
 pub mod keys;
 pub mod refusals;
@@ -21,21 +23,21 @@ use kinds::letters::KindRead;
 use kinds::{Column, Kind, Numbers, Row};
 
 // A number or an empty field; or neither, where a field holds neither by its column.
-#[derive(Drop)]
+#[derive(Clone, Copy)]
 struct EntryRead {
     good: bool,
     entry: Entry,
 }
 
 // The numbers of a row; or none, where one of its fields holds none.
-#[derive(Drop)]
+#[derive(Clone, Copy)]
 struct NumbersRead {
     good: bool,
     numbers: Numbers,
 }
 
 // A row or none, and where the next row starts, or the text's end.
-#[derive(Drop)]
+#[derive(Clone, Copy)]
 pub struct RowRead {
     pub good: bool,
     pub row: Keyed,

@@ -2,6 +2,8 @@
 // 11 to 13.
 //
 // The regime test takes Q, the depths and q take Qf. Each rule bounds the number that it hands to the next.
+#![tactic(auto)]
+
 mod cubes;
 pub mod discharge;
 pub mod lacey;
@@ -15,7 +17,7 @@ use kinds::{Kind, Numbers};
 
 // The columns of an S row: discharge Q in l/s, catchment in km², silt factor in thousandths, width of the waterway W in mm, reach, and
 // depth of the foundation below flood in mm.
-#[derive(Drop)]
+#[derive(Clone, Copy)]
 pub struct Waterway {
     pub discharge: u64,
     pub catchment: u64,
@@ -26,7 +28,7 @@ pub struct Waterway {
 }
 
 // What an S row is told: the depth needed in mm, and whether it is exact, or a refusal.
-#[derive(Drop)]
+#[derive(Clone, Copy)]
 pub enum ScourAnswer {
     OutOfRange,
     LargeCatchment,

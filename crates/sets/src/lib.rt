@@ -1,6 +1,8 @@
 // The loads of a job, and which sets of them a combination permits (document 01, Load sets; 02, P3; 002, 5.13).
 //
 // A set is a bit pattern: the first load row counts 1, the next 2, the next 4. The definition names no order of going through the sets.
+#![tactic(auto)]
+
 pub mod admission;
 pub mod arising;
 pub mod phases;
@@ -13,7 +15,7 @@ ghost use Rattle.sets.specs.Sets.{bit, blank_load};
 use arithmetic::signed::Amount;
 
 // What a row is to a combination: DL, EP and E are permanent, WL is wind, SF is earthquake, every other row is free, LF and CF only beside their train.
-#[derive(Drop)]
+#[derive(Clone, Copy)]
 pub enum Class {
     Permanent,
     Free,
@@ -22,7 +24,7 @@ pub enum Class {
 }
 
 // The combinations of loads (002, 5.13): I without wind and earthquake, II with wind, III with earthquake, IV during erection.
-#[derive(Drop)]
+#[derive(Clone, Copy)]
 pub enum Combination {
     I,
     II,
@@ -33,7 +35,7 @@ pub enum Combination {
 // What a load row exerts: V in kN, down positive; x in mm from the base's centre; H in kN, positive toward +x; the twist is H
 // times its height above the base, in kN mm. The phase is 0 service, 1 erection, 2 both. A row that comes with a train has the position of
 // its LL row among the load rows, from 1, and any other 0 (02, P3).
-#[derive(Drop)]
+#[derive(Clone, Copy)]
 pub struct Load {
     pub class: Class,
     pub phase: u32,
@@ -45,7 +47,7 @@ pub struct Load {
 }
 
 // The loads of a job: the first `count` of them.
-#[derive(Drop)]
+#[derive(Clone, Copy)]
 pub struct Loads {
     pub count: usize,
     pub loads: [Load; 16],

@@ -2,6 +2,8 @@
 // combination permits the set, by the wind and earthquake rows among them.
 //
 // Document 01 sums whole numbers, and the program adds what each is above and below zero, row by row.
+#![tactic(auto)]
+
 pub mod carried;
 pub mod permitted;
 pub mod row_terms;
@@ -13,7 +15,7 @@ ghost use Rattle.sums.specs.steps.Sums.{zero_sums, add, Room};
 use arithmetic::signed::{Amount, Parts};
 
 // What resists and what overturns at an edge, in kN mm.
-#[derive(Drop)]
+#[derive(Clone, Copy)]
 pub struct Balance {
     pub resisting: u64,
     pub overturning: u64,
@@ -21,7 +23,7 @@ pub struct Balance {
 
 // The sums over the rows of a set: V, H and the moment by their parts, the balance at the edges at +x and at -x, how many of its
 // rows are wind and earthquake rows, how many rows it has, and the set's number.
-#[derive(Drop)]
+#[derive(Clone, Copy)]
 pub struct Sums {
     pub v: Parts,
     pub h: Parts,
@@ -35,7 +37,7 @@ pub struct Sums {
 }
 
 // The totals of a set as document 01 names them: N, the sum of H, M, and the balance at each edge.
-#[derive(Drop)]
+#[derive(Clone, Copy)]
 pub struct Totals {
     pub n: Amount,
     pub h: Amount,

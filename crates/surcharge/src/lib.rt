@@ -1,5 +1,7 @@
 // Surcharge behind an abutment (document 02, P5; 002, 5.8.1, 5.8.2 and 5.8.5): the two forces of a G row's live and dead load, and their heights above
 // the base.
+#![tactic(auto)]
+
 mod force;
 mod tables;
 
@@ -11,7 +13,7 @@ use kinds::{Kind, Numbers};
 
 // The columns of a G row: standard of loading from 1 to 7, dead surcharge in kg/m, soil from 1 to 5, depth below formation level and length of
 // the abutment in mm. Its phase is the load's.
-#[derive(Drop)]
+#[derive(Clone, Copy)]
 pub struct Abutment {
     pub standard: u64,
     pub dead: u64,
@@ -21,21 +23,21 @@ pub struct Abutment {
 }
 
 // One part of a surcharge: a force toward +x in kN, and its height above the base in mm.
-#[derive(Drop)]
+#[derive(Clone, Copy)]
 pub struct Part {
     pub force: u64,
     pub arm: u64,
 }
 
 // Both parts: P1, which presses alike from the formation level to the base, and P2, which is greatest at the formation level.
-#[derive(Drop)]
+#[derive(Clone, Copy)]
 pub struct Parts {
     pub first: Part,
     pub second: Part,
 }
 
 // What a G row is told: its two parts, or a refusal.
-#[derive(Drop)]
+#[derive(Clone, Copy)]
 pub enum SurchargeAnswer {
     OutOfRange,
     LengthNotAbove,

@@ -4,6 +4,8 @@
 // Each warning is one question, yes or no, of the load rows or of the answer, and is stated as that question (`specs/Warnings.antt`). One loop
 // asks every row once. That no service combination was checked is read off the lines of the answer; what it means, that none of I, II and III
 // has a permitted set, is a theorem (`proofs/Served.antt`).
+#![tactic(auto)]
+
 ghost use Rattle.std.specs.Prelude.{◌≡◌, ◌*◌, ◌<◌, take};
 ghost use Rattle.arithmetic.specs.decides.Decides.{Decides};
 ghost use Rattle.kinds.specs.declared.Kind.TheVariants.{DL, WL, SF};
@@ -21,7 +23,7 @@ use lines::{Answer, Line};
 const EXPECTED_HEIGHT: u32 = 100;
 
 // Which way the forces of a kind act, where they act one way only: both ways or none at all; toward +x only; toward -x only.
-#[derive(Drop)]
+#[derive(Clone, Copy)]
 pub enum OneWay {
     Neither,
     Forward,
@@ -29,7 +31,7 @@ pub enum OneWay {
 }
 
 // What is odd about the load rows of a job: no DL row; wind one way only; earthquake one way only.
-#[derive(Drop)]
+#[derive(Clone, Copy)]
 pub struct JobWarnings {
     pub no_dead: bool,
     pub wind: OneWay,
@@ -37,7 +39,7 @@ pub struct JobWarnings {
 }
 
 // What is odd about a load row: its V stands outside the base; its H acts low.
-#[derive(Drop)]
+#[derive(Clone, Copy)]
 pub struct RowWarnings {
     pub outside: bool,
     pub low: bool,

@@ -15,7 +15,7 @@ use checks::{Base, TOP};
 use sums::carried::Carried;
 
 // A set is within a bound where `by` times what counts against it is at most `of` times what counts for it.
-#[derive(Drop)]
+#[derive(Clone, Copy)]
 pub struct Bound {
     pub by: u64,
     pub of: u64,
@@ -23,7 +23,7 @@ pub struct Bound {
 
 // The bounds of OP, OM and SL; those of NB + 3|M|, where the base is pressed whole, and of PR's rule for a part, in thousands; that of
 // 1,000|M| by NB; and the key from which on a set that ties comes no earlier than the worst so far.
-#[derive(Drop)]
+#[derive(Clone, Copy)]
 pub struct Bounds {
     pub op: Bound,
     pub om: Bound,

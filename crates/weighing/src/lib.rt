@@ -3,6 +3,8 @@
 // A search goes on from one worst so far to the next with each set that it weighs. What is hard is that no order of going through the
 // sets is part of what a line names, or of the laws by which a search finds it; and that a set without a row may not be weighed, since 0
 // stands for no set yet.
+#![tactic(auto)]
+
 pub mod bounds;
 pub mod ranked;
 
@@ -17,7 +19,7 @@ use sets::Combination;
 use sums::carried::Carried;
 
 // The worst so far of each check.
-#[derive(Drop)]
+#[derive(Clone, Copy)]
 pub struct Worst {
     pub op: RankedSet,
     pub om: RankedSet,

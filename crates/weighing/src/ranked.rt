@@ -6,7 +6,7 @@ ghost use Rattle.std.specs.Prelude.{◌≡◌, ◌<◌};
 ghost use Rattle.weighing.specs.steps.Ranked.{order_of_ties, WorseOf};
 
 // The worst so far of a check: the rank of its figure, and its set; set 0 where there is none yet.
-#[derive(Drop)]
+#[derive(Clone, Copy)]
 pub struct RankedSet {
     pub rank: u64,
     pub set: u64,

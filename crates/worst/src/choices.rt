@@ -9,7 +9,7 @@ use crate::trains::Trains;
 use sets::{Class, Combination, Load};
 
 // A row is in no set of the combination, in every one, or choosable.
-#[derive(Drop)]
+#[derive(Clone, Copy)]
 pub enum Stance {
     Never,
     Always,

@@ -4,6 +4,8 @@
 // Neighbours differ by one row, and the sums are carried from one to the next; what is plainly no worse is passed over, and the rest is weighed
 // in all checks at once. What is hard is that the promise of the walk names no order: it is only that no permitted set comes before the one that
 // is named.
+#![tactic(auto)]
+
 mod choices;
 mod step_table;
 mod trains;
@@ -30,7 +32,7 @@ use weighing::bounds::Bounds;
 use weighing::ranked::RankedSet;
 
 // Where a walk stands: the step that it has reached, and the sums of the choice there.
-#[derive(Drop)]
+#[derive(Clone, Copy)]
 struct Standing {
     pub step: u64,
     pub carried: Carried,

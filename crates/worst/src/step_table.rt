@@ -16,7 +16,7 @@ use sums::carried::Carried;
 
 // The steps of a combination: what leads from choice to choice, the number of the last step, and the sums of the first choice, which has no
 // choosable row.
-#[derive(Drop)]
+#[derive(Clone, Copy)]
 pub struct StepTable {
     pub steps: [u64; 256],
     pub last: u64,

@@ -10,7 +10,7 @@ ghost use Rattle.worst.specs.steps.Trains.{with_row, LeadersIs};
 use sets::{Combination, Loads};
 
 // The rows that act and that others name, and those of them that are in the sets gone through, as sets of rows.
-#[derive(Drop)]
+#[derive(Clone, Copy)]
 pub struct Trains {
     pub leaders: u64,
     pub present: u64,
