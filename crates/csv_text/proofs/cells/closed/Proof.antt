@@ -3,15 +3,15 @@ use borrow.Author.Rules.{rules}
 use Rattle.csv_text.proofs.cells.closed.Statement.{statement}
 use Rattle.csv_text.proofs.cells.closed.Tie as tie
 
-with-place-requires : tie.Need-with-place-requires
+with-place-requires : tie.Need-with_place-ends-requires
 with-place-requires c κs = search rules
 
-add-t7 : tie.Need-overflow-add-t7
+add-t7 : tie.Need-overflow_add-result
 add-t7 c = search rules
 
 returns : tie.Need-returns
 returns c =
-    let ends = c.with-place.ensures in
+    let ends = c.with_place-ends.ensures in
     cc
 
 pub closed_spec : {M : Type 1} → statement M

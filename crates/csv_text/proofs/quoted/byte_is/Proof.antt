@@ -5,14 +5,14 @@ use Rattle.csv_text.proofs.quoted.Scan.{first_byte_decides}
 use Rattle.csv_text.proofs.quoted.byte_is.Statement.{statement}
 use Rattle.csv_text.proofs.quoted.byte_is.Tie as tie
 
-shared-slice-read-result : tie.Need-shared-slice-read-result
+shared-slice-read-result : tie.Need-bounds-s-i
 shared-slice-read-result c = search rules
 
-returns : tie.Need-returns
-returns c = let start = c.before.before in first_byte_decides start.args.s.now start.args.i start.args.b c.before.if1.true
+returns : tie.Need-returns-then-i-s
+returns c = first_byte_decides c.args.s.now c.args.i c.args.b c.if-i-s.true
 
-returns-2 : tie.Need-returns-2
-returns-2 c = λ g. past_first_byte c.before.args.s.now c.before.args.i _ _ c.if1.false g.begins
+returns-2 : tie.Need-returns
+returns-2 c = λ g. past_first_byte c.args.s.now c.args.i _ _ c.if-i-s.false g.begins
 
 pub byte_is_spec : {M : Type 1} → statement M
 byte_is_spec = tie.close (tie.spec shared-slice-read-result returns returns-2)
