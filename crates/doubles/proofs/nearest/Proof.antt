@@ -19,19 +19,19 @@ number nan e = absurd (not_both nan_differs e)
 number (inf s) e = tt
 number (fin s m e) h = tt
 
-returns : tie.Need-returns
-returns c = λ z v. absurd (subst (λ (x : Float). Nearest x z) (differs_from_itself c.before.args.x (subst T (sym c.if1.true) tt)) v)
+returns : tie.Need-returns-then-x
+returns c = λ z v. absurd (subst (λ (x : Float). Nearest x z) (differs_from_itself c.args.x (subst T (sym c.if-x.true) tt)) v)
 
-float-to-bits-nearest-of : tie.Need-float-to-bits-nearest-of
-float-to-bits-nearest-of c = number c.before.args.x c.if1.false
+float-to-bits-nearest-of : tie.Need-float_to_bits-x
+float-to-bits-nearest-of c = number c.args.x c.if-x.false
 
-nearest-of-requires : tie.Need-nearest-of-requires
+nearest-of-requires : tie.Need-nearest_of-requires
 nearest-of-requires c κs = search rules
 
-returns-2 : tie.Need-returns-2
+returns-2 : tie.Need-returns
 returns-2 c =
-    subst (λ (x : Float). NearestIs x c.nearest-of.result) (of_bits-to_bits binary64 c.before.before.args.x (subst T (sym c.before.before.well-formed.0.1) tt))
-    c.nearest-of.ensures
+    subst (λ (x : Float). NearestIs x c.nearest_of.result) (of_bits-to_bits binary64 c.args.x (subst T (sym c.well_formed.0.1) tt))
+    c.nearest_of.ensures
 
 pub nearest_spec : {M : Type 1} → statement M
 nearest_spec = tie.close (tie.spec returns float-to-bits-nearest-of nearest-of-requires returns-2)

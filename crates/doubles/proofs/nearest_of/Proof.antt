@@ -104,91 +104,73 @@ module _ (b : ℕ) (small : field b < 1022) where
         told = λ w. let zero = exactly_zero s (field b) (b % 2 ^ 52) small w in some zero.0 zero.1;
       }
 
-returns : tie.Need-returns
+returns : tie.Need-returns-then-field-gt1054
 unfolding of_bits
-returns c = let b = c.before.args.bits in beyond (leb (2 ^ 63) b) (field b) (b % 2 ^ 52) (omega arith)
+returns c = let b = c.args.bits in beyond (leb (2 ^ 63) b) (field b) (b % 2 ^ 52) (omega arith)
 
 nothing-requires : tie.Need-nothing-requires
 nothing-requires c κs = search rules
 
-returns-2 : tie.Need-returns-2
+returns-2 : tie.Need-returns-then-magnitude-eq0
 returns-2 c =
-    let none = c.before.if2.true in
-    let b = c.before.before.before.args.bits in
+    let none = c.if-magnitude-eq0.true in
+    let b = c.args.bits in
     subst⁻¹ (NearestIs (of_bits binary64 b)) c.nothing.ensures (pos 0, zero_told b (omega (arith, none)) (omega (arith, none)) (omega (arith, none)), refl, lit< tt)
 
-nothing-requires-2 : tie.Need-nothing-requires-2
+nothing-requires-2 : tie.Need-nothing-requires-then-field-lt1022
 nothing-requires-2 c κs = search rules
 
-returns-3 : tie.Need-returns-3
+returns-3 : tie.Need-returns-then-field-lt1022
 returns-3 c =
-    let b = c.before.before.before.before.args.bits in
-    let small = c.before.if3.true in
-    subst⁻¹ (NearestIs (of_bits binary64 b)) c.nothing2.ensures (pos 0, below_told b (omega (arith, small)) (λ e k. omega (arith, e, k, c.before.before.if2.false)), refl, lit< tt)
+    let b = c.args.bits in
+    let small = c.if-field-lt1022.true in
+    subst⁻¹ (NearestIs (of_bits binary64 b)) c.nothing-then-field-lt1022.ensures (pos 0, below_told b (omega (arith, small)) (λ e k. omega (arith, e, k, c.if-magnitude-eq0.false)), refl, lit< tt)
 
-add-digits : tie.Need-overflow-add-digits
+add-digits : tie.Need-overflow_add-digits
 add-digits c = search rules
 
-sub-half : tie.Need-overflow-sub-half
+sub-half : tie.Need-overflow_sub-half
 sub-half c = search rules
 
-shl-half : tie.Need-overflow-shl-half
+shl-half : tie.Need-overflow_shl-half
 shl-half c = search rules
 
-mul-unit : tie.Need-overflow-mul-unit
-mul-unit c = omega (arith, half_most c.before.before.before.args.bits (omega arith))
+mul-unit : tie.Need-overflow_mul-unit
+mul-unit c = omega (arith, half_most c.args.bits (omega arith))
 
-add-raised : tie.Need-overflow-add-raised
-add-raised c = omega (arith, half_most c.before.before.before.args.bits (omega arith))
+add-raised : tie.Need-overflow_add-raised
+add-raised c = omega (arith, half_most c.args.bits (omega arith))
 
-down-requires : tie.Need-down-requires
-down-requires c κs = omega (arith, half_pos c.before.before.before.args.bits (omega arith))
+down-requires : tie.Need-down-size-requires
+down-requires c κs = omega (arith, half_pos c.args.bits (omega arith))
 
 -- the size that is told is that of the nearest number
-module _ (c : tie.After-down) where
+module _ (c : tie.After-down-size) where
   abbrev b : ℕ
-  b = c.before.before.before.before.args.bits
+  b = c.args.bits
 
-  is : c.down.result.value ≡ size b
-  is = size_is b (omega arith) c.down.result.value c.down.ensures.rounded
+  is : c.down-size.result.value ≡ size b
+  is = size_is b (omega arith) c.down-size.result.value c.down-size.ensures.rounded
 
-  close : Nearest (of_bits binary64 b) (signed (leb (2 ^ 63) b) c.down.result.value)
+  close : Nearest (of_bits binary64 b) (signed (leb (2 ^ 63) b) c.down-size.result.value)
   close = subst⁻¹ (λ (n : ℕ). Nearest (of_bits binary64 b) (signed (leb (2 ^ 63) b) n)) is (near b (omega arith) (omega arith))
 
-returns-4 : tie.Need-returns-4
+returns-4 : tie.Need-returns-then-size-ge-BEYOND
 returns-4 c =
-    let at = c.before in
-    reached (of_bits binary64 (b at)) (leb (2 ^ 63) (b at)) at.down.result.value (close at) (omega arith)
+    reached (of_bits binary64 (b c.before)) (leb (2 ^ 63) (b c.before)) c.down-size.result.value (close c.before) (omega arith)
 
-down-requires-2 : tie.Need-down-requires-2
+down-requires-2 : tie.Need-down-exact-requires
 down-requires-2 c κs = omega (arith, half_pos (b c.before) (omega arith))
 
-returns-5 : tie.Need-returns-5
+returns-5 : tie.Need-returns
 returns-5 c =
-    let at = c.before.before in
-    let s = leb (2 ^ 63) (b at) in
-    let n = at.down.result.value in (
+    let s = leb (2 ^ 63) (b c.before.before) in
+    let n = c.down-size.result.value in (
       signed s n,
-      exact_told (b at) (omega arith) n (omega arith) (close at) c.down2.ensures (omega arith),
-      amount_signed s n (omega (arith, is at, size_pos (b at) (omega arith))),
+      exact_told (b c.before.before) (omega arith) n (omega arith) (close c.before.before) c.down-exact.ensures (omega arith),
+      amount_signed s n (omega (arith, is c.before.before, size_pos (b c.before.before) (omega arith))),
       omega (arith, size_signed s n),
     )
 
 pub nearest_of_spec : {M : Type 1} → statement M
-nearest_of_spec =
-    tie.close
-    (tie.spec
-    returns
-    nothing-requires
-    returns-2
-    nothing-requires-2
-    returns-3
-    add-digits
-    sub-half
-    shl-half
-    mul-unit
-    add-raised
-    down-requires
-    returns-4
-    down-requires-2
-    returns-5)
+nearest_of_spec = tie.close (tie.spec returns nothing-requires returns-2 nothing-requires-2 returns-3 add-digits sub-half shl-half mul-unit add-raised down-requires returns-4 down-requires-2 returns-5)

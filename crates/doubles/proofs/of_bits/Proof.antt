@@ -19,14 +19,14 @@ made nan e = refl
 made (inf s) e = impossible cc
 made (fin s m e) h = impossible cc
 
-returns : tie.Need-returns
-returns c = let b = c.before.args.bits in made (of_bits binary64 b) (sym (nan_bits_is binary64 b) ∙ nan_bits_above binary64 b ∙ lt-ltb 0x7FF0000000000000 (b % 2 ^ 63) (omega arith))
+returns : tie.Need-returns-then-bits-gt-ENDLESS
+returns c = let b = c.args.bits in made (of_bits binary64 b) (sym (nan_bits_is binary64 b) ∙ nan_bits_above binary64 b ∙ lt-ltb 0x7FF0000000000000 (b % 2 ^ 63) (omega arith))
 
-float-from-bits-result : tie.Need-float-from-bits-result
+float-from-bits-result : tie.Need-float_from_bits-result
 float-from-bits-result c =
-    let b = c.before.args.bits in subst⁻¹ (λ (t : Bool). T (not t)) (nan_bits_above binary64 b ∙ le-ltb 0x7FF0000000000000 (b % 2 ^ 63) (omega arith)) tt
+    let b = c.args.bits in subst⁻¹ (λ (t : Bool). T (not t)) (nan_bits_above binary64 b ∙ le-ltb 0x7FF0000000000000 (b % 2 ^ 63) (omega arith)) tt
 
-returns-2 : tie.Need-returns-2
+returns-2 : tie.Need-returns
 returns-2 c = search rules
 
 pub of_bits_spec : {M : Type 1} → statement M
