@@ -8,17 +8,17 @@ use borrow.Author.Rules.{rules}
 use Rattle.fields.proofs.empty_at.Statement.{statement}
 use Rattle.fields.proofs.empty_at.Tie as tie
 
-bare-requires : tie.Need-bare-requires
+bare-requires : tie.Need-bare-content-requires
 bare-requires c κs = search rules
 
-blank-entry-requires : tie.Need-blank-entry-requires
+blank-entry-requires : tie.Need-blank_entry-requires
 blank-entry-requires c κs = search rules
 
-returns : tie.Need-returns
-returns c = empty_field c.before.before.bare.ensures (Is c.blank-entry.result) (nothing _ c.before.if1.true, c.blank-entry.ensures)
+returns : tie.Need-returns-then-content-eq0
+returns c = empty_field c.bare-content.ensures (Is c.blank_entry.result) (nothing _ c.if-content-eq0.true, c.blank_entry.ensures)
 
-returns-2 : tie.Need-returns-2
-returns-2 c = empty_field c.before.bare.ensures Wrong (λ e h. c.if1.false (ap length h.0))
+returns-2 : tie.Need-returns
+returns-2 c = empty_field c.bare-content.ensures Wrong (λ e h. c.if-content-eq0.false (ap length h.0))
 
 pub empty_at_spec : {M : Type 1} → statement M
 empty_at_spec = tie.close (tie.spec bare-requires blank-entry-requires returns returns-2)

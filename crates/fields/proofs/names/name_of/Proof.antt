@@ -9,68 +9,53 @@ use Rattle.fields.proofs.names.Names.{Read, read_start, read_room, read_more, re
 use Rattle.fields.proofs.names.name_of.Statement.{statement}
 use Rattle.fields.proofs.names.name_of.Tie as tie
 
-abbrev invariant-loop : tie.invariant-loop
+abbrev invariant-loop : tie.invariant-loop-good
 invariant-loop content n good₀ bytes₀ i₀ good bytes i = Read content bytes i good
 
-abbrev decreases-loop : tie.decreases-loop
+abbrev decreases-loop : tie.decreases-loop-good
 decreases-loop content n good₀ bytes₀ i₀ good bytes i = n - i
 
-loop-holds : tie.Need-loop-init invariant-loop decreases-loop
-loop-holds c = read_start c.before.args.content.now
+loop-holds : tie.Need-loop-good-init invariant-loop decreases-loop
+loop-holds c = read_start c.args.content.now
 
 -- where a byte is read
-module _ (c : tie.After-shared-slice-known2 invariant-loop decreases-loop) where
+module _ (c : tie.In-loop-good invariant-loop decreases-loop) where
   abbrev content : List ℕ
-  content = c.before.before.before.before.args.content.now
+  content = c.args.content.now
 
   abbrev i : ℕ
-  i = c.before.before.loop.i
+  i = c.loop-good.i
 
   room : (i < length content) × (length content ≤ 12)
-  room = read_room content c.before.before.loop.bytes i c.before.before.loop.good c.before.loop-test.true c.before.before.loop.invariant
+  room = read_room content c.loop-good.bytes i c.loop-good.good c.loop-good-test.true c.loop-good.invariant
 
-shared-slice-read-b : tie.Need-shared-slice-read-b invariant-loop decreases-loop
-shared-slice-read-b c = (room c).0
+shared-slice-read-b : tie.Need-bounds-content-i invariant-loop decreases-loop
+shared-slice-read-b c = (room c.before).0
 
-array-write-bytes : tie.Need-array-write-bytes invariant-loop decreases-loop
-array-write-bytes c = let r = room c in omega arith
+array-write-bytes : tie.Need-bounds-bytes-i invariant-loop decreases-loop
+array-write-bytes c = let r = room c.before in omega arith
 
-add-i : tie.Need-overflow-add-i invariant-loop decreases-loop
-add-i c = let r = room c in search rules
+add-i : tie.Need-overflow_add-i invariant-loop decreases-loop
+add-i c = let r = room c.before in search rules
 
-loop-less : tie.Need-loop-smaller invariant-loop decreases-loop
-loop-less c = let r = room c in search rules
+loop-less : tie.Need-loop-good-smaller invariant-loop decreases-loop
+loop-less c = let r = room c.before in search rules
 
-loop-again : tie.Need-loop-preserved invariant-loop decreases-loop
-loop-again c = read_more (content c) c.before.before.loop.bytes (i c) c.before.before.loop.good c.before.loop-test.true c.before.before.loop.invariant
+loop-again : tie.Need-loop-good-preserved invariant-loop decreases-loop
+loop-again c = read_more (content c.before) c.loop-good.bytes (i c.before) c.loop-good.good c.loop-good-test.true c.loop-good.invariant
 
-blank-name-requires : tie.Need-blank-name-requires invariant-loop decreases-loop
+blank-name-requires : tie.Need-blank_name-name-requires invariant-loop decreases-loop
 blank-name-requires c κs = search rules
 
-returns : tie.Need-returns invariant-loop decreases-loop
+returns : tie.Need-returns-then-good invariant-loop decreases-loop
 returns c =
-    let at_loop = c.before.before in
-    let l = at_loop.loop in
-    read_name at_loop.before.before.args.content.now l.bytes l.i l.good c.if1.true c.before.loop-test.false l.invariant
+    let l = c.loop-good in
+    read_name c.args.content.now l.bytes l.i l.good c.if-good.true c.loop-good-test.false l.invariant
 
-returns-2 : tie.Need-returns-2 invariant-loop decreases-loop
+returns-2 : tie.Need-returns-else-good invariant-loop decreases-loop
 returns-2 c =
-    let at_loop = c.before.before.before in
-    let l = at_loop.loop in
-    read_none at_loop.before.before.args.content.now l.bytes l.i l.good c.before.if1.false l.invariant c.blank-name.result c.blank-name.ensures
+    let l = c.loop-good in
+    read_none c.args.content.now l.bytes l.i l.good c.if-good.false l.invariant c.blank_name-name.result c.blank_name-name.ensures
 
 pub name_of_spec : {M : Type 1} → statement M
-name_of_spec =
-    tie.close
-    (tie.spec
-    invariant-loop
-    decreases-loop
-    loop-holds
-    shared-slice-read-b
-    array-write-bytes
-    add-i
-    loop-less
-    loop-again
-    blank-name-requires
-    returns
-    returns-2)
+name_of_spec = tie.close (tie.spec invariant-loop decreases-loop loop-holds shared-slice-read-b array-write-bytes add-i loop-less loop-again blank-name-requires returns returns-2)
