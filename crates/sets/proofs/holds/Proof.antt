@@ -6,7 +6,7 @@ use Rattle.sets.specs.Sets.{bit}
 use Rattle.sets.proofs.holds.Statement.{statement}
 use Rattle.sets.proofs.holds.Tie as tie
 
-shr-result : tie.Need-overflow-shr-result
+shr-result : tie.Need-overflow_shr-result
 shr-result c = omega (arith, c.requires)
 
 returns : tie.Need-returns

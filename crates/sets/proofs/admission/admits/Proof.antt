@@ -14,78 +14,63 @@ use Rattle.sets.proofs.admission.admits.Statement.{statement}
 use Rattle.sets.proofs.admission.admits.Tie as tie
 
 -- In a set that has a row, the test r is the answer where it is passed exactly when so many rows may act together.
-module _ (c : tie.Else1) (j : Combination) (r : Bool) where
+module _ (c : tie.Else-set-eq0) (j : Combination) (r : Bool) where
   abbrev TogetherIn : Combination → Type 0
-  TogetherIn k = Together k c.before.args.winds c.before.args.earthquakes
+  TogetherIn k = Together k c.args.winds c.args.earthquakes
 
-  answer : c.before.args.combination ≡ j → (r ≡ true → TogetherIn j) → (TogetherIn j → r ≡ true) → Decides r (Admits c.before.args.combination c.before.args.winds c.before.args.earthquakes c.before.args.set)
+  answer : c.args.combination ≡ j → (r ≡ true → TogetherIn j) → (TogetherIn j → r ≡ true) → Decides r (Admits c.args.combination c.args.winds c.args.earthquakes c.args.set)
   answer told passed asked =
       decides_same r
-      (λ p. record { some = omega (arith, c.if1.false); together = subst⁻¹ TogetherIn told (passed p) })
+      (λ p. record { some = omega (arith, c.if-set-eq0.false); together = subst⁻¹ TogetherIn told (passed p) })
       (λ a. asked (subst TogetherIn told a.together))
       (decides_flag r)
 
-returns : tie.Need-returns
+returns : tie.Need-returns-then-set-eq0
 returns c = search rules
 
-enum_told : tie.Need-enum-told
+enum_told : tie.Need-enum_told-1
 enum_told c = search rules
 
-enum-told-2 : tie.Need-enum-told-2
+enum-told-2 : tie.Need-enum_told-in-II
 enum-told-2 c = search rules
 
-enum-told-3 : tie.Need-enum-told-3
+enum-told-3 : tie.Need-enum_told-in-III
 enum-told-3 c = search rules
 
-enum-told-4 : tie.Need-enum-told-4
+enum-told-4 : tie.Need-enum_told-in-IV
 enum-told-4 c = search rules
 
-returns-2 : tie.Need-returns-2
+returns-2 : tie.Need-returns-then-winds-eq0
 unfolding Together
-returns-2 c = answer c.before.before.before I _ c.before.enum_told.given.1 (λ p. (c.if2.true, eqb-true _ _ p)) (λ t. eq-eqb _ _ t.1)
+returns-2 c = answer c.before.before I _ c.in-I.is (λ p. (c.if-winds-eq0.true, eqb-true _ _ p)) (λ t. eq-eqb _ _ t.1)
 
-returns-3 : tie.Need-returns-3
+returns-3 : tie.Need-returns-else-winds-eq0
 unfolding Together
-returns-3 c = answer c.before.before.before I _ c.before.enum_told.given.1 (λ p. absurd (not_both p (ne_eqb _ _ c.if2.false))) (λ t. eq-eqb _ _ t.0)
+returns-3 c = answer c.before.before I _ c.in-I.is (λ p. absurd (not_both p (ne_eqb _ _ c.if-winds-eq0.false))) (λ t. eq-eqb _ _ t.0)
 
-returns-4 : tie.Need-returns-4
+returns-4 : tie.Need-returns-then-winds-gt0
 unfolding Together
-returns-4 c = answer c.before.before.before II _ c.before.enum-told2.given.1 (λ p. (c.if3.true, eqb-true _ _ p)) (λ t. eq-eqb _ _ t.1)
+returns-4 c = answer c.before.before II _ c.in-II.is (λ p. (c.if-winds-gt0.true, eqb-true _ _ p)) (λ t. eq-eqb _ _ t.1)
 
-returns-5 : tie.Need-returns-5
+returns-5 : tie.Need-returns-else-winds-gt0
 unfolding Together
-returns-5 c = answer c.before.before.before II _ c.before.enum-told2.given.1 (λ p. absurd (not_both p (le-ltb _ _ c.if3.false))) (λ t. lt-ltb _ _ t.0)
+returns-5 c = answer c.before.before II _ c.in-II.is (λ p. absurd (not_both p (le-ltb _ _ c.if-winds-gt0.false))) (λ t. lt-ltb _ _ t.0)
 
-returns-6 : tie.Need-returns-6
+returns-6 : tie.Need-returns-then-winds-eq0-2
 unfolding Together
-returns-6 c = answer c.before.before.before III _ c.before.enum-told3.given.1 (λ p. (c.if4.true, ltb-true _ _ p)) (λ t. lt-ltb _ _ t.1)
+returns-6 c = answer c.before.before III _ c.in-III.is (λ p. (c.if-winds-eq0-2.true, ltb-true _ _ p)) (λ t. lt-ltb _ _ t.1)
 
-returns-7 : tie.Need-returns-7
+returns-7 : tie.Need-returns-else-winds-eq0-2
 unfolding Together
-returns-7 c = answer c.before.before.before III _ c.before.enum-told3.given.1 (λ p. absurd (not_both p (ne_eqb _ _ c.if4.false))) (λ t. eq-eqb _ _ t.0)
+returns-7 c = answer c.before.before III _ c.in-III.is (λ p. absurd (not_both p (ne_eqb _ _ c.if-winds-eq0-2.false))) (λ t. eq-eqb _ _ t.0)
 
-returns-8 : tie.Need-returns-8
+returns-8 : tie.Need-returns-then-winds-eq0-3
 unfolding Together
-returns-8 c = answer c.before.before.before IV _ c.before.enum-told4.given.1 (λ p. inl (eqb-true _ _ p)) (λ t. eq-eqb _ _ c.if5.true)
+returns-8 c = answer c.before.before IV _ c.in-IV.is (λ p. inl (eqb-true _ _ p)) (λ t. eq-eqb _ _ c.if-winds-eq0-3.true)
 
-returns-9 : tie.Need-returns-9
+returns-9 : tie.Need-returns-else-winds-eq0-3
 unfolding Together
-returns-9 c = answer c.before.before.before IV _ c.before.enum-told4.given.1 (λ p. inr (eqb-true _ _ p)) (⊎_elim (λ e. absurd (c.if5.false e)) (eq-eqb _ _))
+returns-9 c = answer c.before.before IV _ c.in-IV.is (λ p. inr (eqb-true _ _ p)) (⊎_elim (λ e. absurd (c.if-winds-eq0-3.false e)) (eq-eqb _ _))
 
 pub admits_spec : {M : Type 1} → statement M
-admits_spec =
-    tie.close
-    (tie.spec
-    returns
-    enum_told
-    enum-told-2
-    enum-told-3
-    enum-told-4
-    returns-2
-    returns-3
-    returns-4
-    returns-5
-    returns-6
-    returns-7
-    returns-8
-    returns-9)
+admits_spec = tie.close (tie.spec returns enum_told enum-told-2 enum-told-3 enum-told-4 returns-2 returns-3 returns-4 returns-5 returns-6 returns-7 returns-8 returns-9)

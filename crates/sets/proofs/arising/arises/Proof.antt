@@ -9,54 +9,41 @@ use Rattle.sets.specs.Sets.{row}
 use Rattle.sets.proofs.arising.arises.Statement.{statement}
 use Rattle.sets.proofs.arising.arises.Tie as tie
 
-abbrev invariant-loop : tie.invariant-loop
+abbrev invariant-loop : tie.invariant-loop-i
 invariant-loop combination loads i₀ i = (i ≤ loads.count) × ((j : ℕ) → j < i → RaisedBy combination (row loads j).class (row loads j).phase → ⊥)
 
-abbrev decreases-loop : tie.decreases-loop
+abbrev decreases-loop : tie.decreases-loop-i
 decreases-loop combination loads i₀ i = loads.count - i
 
-loop-holds : tie.Need-loop-init invariant-loop decreases-loop
+loop-holds : tie.Need-loop-i-init invariant-loop decreases-loop
 loop-holds c = (search rules, λ j h. absurd (omega arith))
 
-mul-load : tie.Need-overflow-mul-load invariant-loop decreases-loop
+mul-load : tie.Need-offset_bounds-loads-i invariant-loop decreases-loop
 mul-load c = omega arith
 
-element-copy-out-load : tie.Need-element-copy-out-load invariant-loop decreases-loop
+element-copy-out-load : tie.Need-bounds-loads-i invariant-loop decreases-loop
 element-copy-out-load c = omega arith
 
-raised-by-requires : tie.Need-raised-by-requires invariant-loop decreases-loop
+raised-by-requires : tie.Need-raised_by-requires invariant-loop decreases-loop
 raised-by-requires c κs = search rules
 
-returns : tie.Need-returns invariant-loop decreases-loop
+returns : tie.Need-returns-then-raised_by invariant-loop decreases-loop
 unfolding Arises row
-returns c = (_, c.before.before.before.loop-test.true, decided c.before.raised_by.result c.if1.true c.before.raised_by.ensures)
+returns c = (_, c.loop-i-test.true, decided c.raised_by.result c.if-raised_by.true c.raised_by.ensures)
 
-add-i : tie.Need-overflow-add-i invariant-loop decreases-loop
+add-i : tie.Need-overflow_add-i invariant-loop decreases-loop
 add-i c = omega arith
 
-loop-less : tie.Need-loop-smaller invariant-loop decreases-loop
+loop-less : tie.Need-loop-i-smaller invariant-loop decreases-loop
 loop-less c = omega arith
 
-loop-again : tie.Need-loop-preserved invariant-loop decreases-loop
+loop-again : tie.Need-loop-i-preserved invariant-loop decreases-loop
 unfolding row
-loop-again c = (omega arith, below_more _ _ c.before.before.before.before.loop.invariant.1 (refuted c.before.raised_by.result c.if1.false c.before.raised_by.ensures))
+loop-again c = (omega arith, below_more _ _ c.loop-i.invariant.1 (refuted c.raised_by.result c.if-raised_by.false c.raised_by.ensures))
 
-returns-2 : tie.Need-returns-2 invariant-loop decreases-loop
+returns-2 : tie.Need-returns invariant-loop decreases-loop
 unfolding Arises
-returns-2 c = λ w. c.before.loop.invariant.1 w.0 (omega arith) w.2
+returns-2 c = λ w. c.loop-i.invariant.1 w.0 (omega arith) w.2
 
 pub arises_spec : {M : Type 1} → statement M
-arises_spec =
-    tie.close
-    (tie.spec
-    invariant-loop
-    decreases-loop
-    loop-holds
-    mul-load
-    element-copy-out-load
-    raised-by-requires
-    returns
-    add-i
-    loop-less
-    loop-again
-    returns-2)
+arises_spec = tie.close (tie.spec invariant-loop decreases-loop loop-holds mul-load element-copy-out-load raised-by-requires returns add-i loop-less loop-again returns-2)

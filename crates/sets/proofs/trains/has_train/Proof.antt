@@ -14,23 +14,22 @@ named : (train set n : ℕ) (r : Bool) → train ≡ suc n → Decides r (bit se
 unfolding HasTrain
 named train set n r e d = subst⁻¹ (λ (t : ℕ). Decides r (HasTrain t set)) e d
 
-returns : tie.Need-returns
+returns : tie.Need-returns-then-train-eq0
 unfolding HasTrain
-returns c = subst⁻¹ (λ (t : ℕ). HasTrain t c.before.args.set) c.if1.true tt
-
-sub_holds : tie.Need-overflow-sub-holds
-sub_holds c = omega (arith, c.if1.false)
-
-cast-holds : tie.Need-overflow-cast-holds
-cast-holds c = search rules
+returns c = subst⁻¹ (λ (t : ℕ). HasTrain t c.args.set) c.if-train-eq0.true tt
 
 holds-requires : tie.Need-holds-requires
-holds-requires c κs = omega (arith, c.before.requires, c.if1.false)
+holds-requires c κs = omega (arith, c.requires, c.if-train-eq0.false)
 
-returns-2 : tie.Need-returns-2
+returns-2 : tie.Need-returns
 returns-2 c =
-    let e = c.before in
-    named e.before.args.train e.before.args.set (e.before.args.train - 1) c.holds.result (omega (arith, e.if1.false)) c.holds.ensures
+    named c.args.train c.args.set (c.args.train - 1) c.holds.result (omega (arith, c.if-train-eq0.false)) c.holds.ensures
+
+added_overflow_sub_train : tie.Need-overflow_sub-train
+added_overflow_sub_train c = search rules
+
+added_overflow_cast_train : tie.Need-overflow_cast-train
+added_overflow_cast_train c = search rules
 
 pub has_train_spec : {M : Type 1} → statement M
-has_train_spec = tie.close (tie.spec returns sub_holds cast-holds holds-requires returns-2)
+has_train_spec = tie.close (tie.spec returns added_overflow_sub_train added_overflow_cast_train holds-requires returns-2)
