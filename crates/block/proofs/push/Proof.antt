@@ -5,19 +5,19 @@ use Rattle.block.specs.Block.{pushed, puts}
 use Rattle.block.proofs.push.Statement.{statement}
 use Rattle.block.proofs.push.Tie as tie
 
-element-write-out : tie.Need-element-write-out
+element-write-out : tie.Need-bounds-out-at
 element-write-out c = search rules
 
-add-result : tie.Need-overflow-add-result
+add-result : tie.Need-overflow_add-result
 add-result c = search rules
 
-returns : tie.Need-returns
+returns : tie.Need-returns-then-at-lt2048
 unfolding pushed puts
-returns c = simp (lt-ltb _ _ c.if1.true)
+returns c = simp (lt-ltb _ _ c.if-at-lt2048.true)
 
-returns-2 : tie.Need-returns-2
+returns-2 : tie.Need-returns
 unfolding pushed puts
-returns-2 c = simp (le-ltb _ _ c.if1.false)
+returns-2 c = simp (le-ltb _ _ c.if-at-lt2048.false)
 
 pub push_spec : {M : Type 1} → statement M
 push_spec = tie.close (tie.spec element-write-out add-result returns returns-2)
