@@ -21,15 +21,15 @@ counts_one Free t = refl
 counts_one Wind t = refl
 counts_one Earthquake t = refl
 
-enum_told : tie.Need-enum-told
+enum_told : tie.Need-enum_told-1
 enum_told c = search rules
 
-returns : tie.Need-returns
+returns : tie.Need-returns-in-Permanent
 unfolding optional
-returns c = sym (ap optional c.enum_told.given.1)
+returns c = sym (ap optional c.in-Permanent.is)
 
-returns-2 : tie.Need-returns-2
-returns-2 c = counts_one c.before.args.class c.match.keys2
+returns-2 : tie.Need-returns-in-Free
+returns-2 c = counts_one c.args.class c.in-Free.in-Free-own.keys2
 
 pub optional_count_spec : {M : Type 1} → statement M
 optional_count_spec = tie.close (tie.spec enum_told returns returns-2)

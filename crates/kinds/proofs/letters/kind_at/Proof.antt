@@ -7,11 +7,11 @@ use Rattle.kinds.proofs.letters.kind_at.Tie as tie
 bare-requires : tie.Need-bare-requires
 bare-requires c κs = search rules
 
-kind-of-requires : tie.Need-kind-of-requires
+kind-of-requires : tie.Need-kind_of-requires
 kind-of-requires c κs = search rules
 
 returns : tie.Need-returns
-returns c = kind_field c.before.bare.ensures c.kind-of.result c.kind-of.ensures
+returns c = kind_field c.bare.ensures c.kind_of.result c.kind_of.ensures
 
 pub kind_at_spec : {M : Type 1} → statement M
 kind_at_spec = tie.close (tie.spec bare-requires kind-of-requires returns)
