@@ -5,7 +5,7 @@ use mathlib.Core.Path.{◌≡◌, refl, sym}
 use mathlib.Core.List.{List, [], ◌∷◌}
 use native.Mathlib.Omega.{arith}
 use lib.ListN.{length, get_or, set}
-use Rattle.io.specs.Counts.{IsPrefixLen}
+use Rattle.hex_text.specs.Hex.{IsPrefixLen}
 use Rattle.hex_text.specs.Hex.{digit, decoded, encoded, Encoded}
 use Rattle.hex_text.proofs.Digits.{worth_digit}
 use Rattle.hex_text.proofs.Filling.{Filled, fills_next, fills_count}

@@ -7,7 +7,7 @@ use native.Mathlib.Numerals.{add-one}
 use native.Mathlib.Omega.{arith}
 use lib.ListN.{length, take, drop, get_or, set, length-set}
 use lib.Seq.{length-take-le, paste-suc}
-use Rattle.io.specs.Counts.{IsPrefixLen}
+use Rattle.hex_text.specs.Hex.{IsPrefixLen}
 
 -- the first i bytes of the text stand in the buffer, and behind them what it held
 pub record Filled (text before after : List ℕ) (i : ℕ) : Type 0 where

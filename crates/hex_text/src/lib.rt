@@ -5,8 +5,7 @@
 #![tactic(auto)]
 
 ghost use Rattle.std.specs.Prelude.{◌<◌, ◌%◌, ◌≡◌};
-ghost use Rattle.io.specs.Counts.{IsPrefixLen};
-ghost use Rattle.hex_text.specs.Hex.{worth, digit, Decoded, Encoded};
+ghost use Rattle.hex_text.specs.Hex.{IsPrefixLen, worth, digit, Decoded, Encoded};
 
 // What a hexadecimal digit is worth; anything else is 0.
 fn worth(byte: u8) -> u8
