@@ -2,7 +2,7 @@
 -- them, natural numbers only, each whole number by what is above and below zero.
 use Rattle.std.specs.Prelude.{ℕ, zero, suc, ◌+◌, ◌-◌, ◌*◌, ◌^◌, ◌≤◌, pos, ◌*ℤ◌}
 use Rattle.arithmetic.specs.declared.signed.Parts.{Parts}
-use Rattle.arithmetic.specs.signed.Whole.{worth, above, below}
+use Rattle.arithmetic.specs.signed.Whole.{worth}
 use Rattle.arithmetic.specs.signed.Parts.{parts_in, times}
 use Rattle.sets.specs.declared.Class.{Class}
 use Rattle.sets.specs.declared.Class.TheVariants.{Permanent, Free, Wind, Earthquake}

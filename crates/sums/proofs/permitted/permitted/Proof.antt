@@ -40,78 +40,58 @@ module _ (combination : Combination) (loads : Loads) (set : ℕ) where
   permitted_by true false admitted f n a = λ p. n (permitted_arises loads combination set p)
   permitted_by false arises admitted n o a = λ p. n (permitted_fits combination loads set p)
 
-abbrev invariant-loop : tie.invariant-loop
+abbrev invariant-loop : tie.invariant-loop-i
 invariant-loop combination set loads fits₀ i₀ rest₀ fits i rest = (i ≤ loads.count) × (rest ≡ set / 2 ^ i) × Decides fits (Fitting combination loads set i)
 
-abbrev decreases-loop : tie.decreases-loop
+abbrev decreases-loop : tie.decreases-loop-i
 decreases-loop combination set loads fits₀ i₀ rest₀ fits i rest = loads.count - i
 
-loop-holds : tie.Need-loop-init invariant-loop decreases-loop
+loop-holds : tie.Need-loop-i-init invariant-loop decreases-loop
 loop-holds c = (omega arith, omega arith, λ j h. absurd (omega arith))
 
-mul-load : tie.Need-overflow-mul-load invariant-loop decreases-loop
-mul-load c = omega (arith, c.before.before.requires.count)
+mul-load : tie.Need-offset_bounds-loads-i invariant-loop decreases-loop
+mul-load c = omega (arith, c.requires.count)
 
-element-copy-out-load : tie.Need-element-copy-out-load invariant-loop decreases-loop
-element-copy-out-load c = omega (arith, c.before.before.requires.count)
+element-copy-out-load : tie.Need-bounds-loads-i invariant-loop decreases-loop
+element-copy-out-load c = omega (arith, c.requires.count)
 
-row-fits-requires : tie.Need-row-fits-requires invariant-loop decreases-loop
+row-fits-requires : tie.Need-row_fits-fits-requires invariant-loop decreases-loop
 unfolding row
-row-fits-requires c κs = (omega arith, (c.before.before.before.requires.each _ c.before.loop-test.true).train)
+row-fits-requires c κs = (omega arith, (c.requires.each _ c.loop-i-test.true).train)
 
-add-i : tie.Need-overflow-add-i invariant-loop decreases-loop
-add-i c = omega (arith, c.before.before.before.before.requires.count)
+add-i : tie.Need-overflow_add-i invariant-loop decreases-loop
+add-i c = omega (arith, c.requires.count)
 
-loop-less : tie.Need-loop-smaller invariant-loop decreases-loop
+loop-less : tie.Need-loop-i-smaller invariant-loop decreases-loop
 loop-less c = omega arith
 
-loop-again : tie.Need-loop-preserved invariant-loop decreases-loop
+loop-again : tie.Need-loop-i-preserved invariant-loop decreases-loop
 unfolding row
 loop-again c =
-    let at = c.before.before.before in
-    let a = at.before.args in
-    let inv = at.loop.invariant in (
+    let a = c.args in
+    let inv = c.loop-i.invariant in (
       omega arith,
       next_bits _ _ _ inv.1,
-      one_more a.combination a.t2 a.set at.loop.i at.loop.fits c.row_fits.result inv.2
-          (subst (λ (held : ℕ). Decides c.row_fits.result (RowFits a.combination (row a.t2 at.loop.i) a.set held)) (bit_is _ _ _ inv.1) c.row_fits.ensures),
+      one_more a.combination a.loads a.set c.loop-i.i c.loop-i.fits c.row_fits-fits.result inv.2
+          (subst (λ (held : ℕ). Decides c.row_fits-fits.result (RowFits a.combination (row a.loads c.loop-i.i) a.set held)) (bit_is _ _ _ inv.1) c.row_fits-fits.ensures),
     )
 
-arises-requires : tie.Need-arises-requires invariant-loop decreases-loop
-arises-requires c κs = c.before.before.requires.count
+arises-requires : tie.Need-arises-arises-requires invariant-loop decreases-loop
+arises-requires c κs = c.requires.count
 
-sums-of-requires : tie.Need-sums-of-requires invariant-loop decreases-loop
+sums-of-requires : tie.Need-sums_of-sums-requires invariant-loop decreases-loop
 sums-of-requires c κs = search rules
 
-admits-requires : tie.Need-admits-requires invariant-loop decreases-loop
+admits-requires : tie.Need-admits-admitted-requires invariant-loop decreases-loop
 admits-requires c κs = search rules
 
 returns : tie.Need-returns invariant-loop decreases-loop
 returns c =
-    let summed = c.before in
-    let asked = summed.before in
-    let past = asked.before in
-    let at = past.before in
-    let inv = at.loop.invariant in
-    let a = at.before.args in
-    permitted_by a.combination a.t2 a.set (at.loop.fits && eqb at.loop.rest 0) asked.arises.result c.admits.result
-    (all_rows a.combination a.t2 a.set at.loop.i at.loop.rest at.loop.fits inv.0 past.loop-test.false inv.1 inv.2) asked.arises.ensures
-    (subst (λ (s : Sums). Decides c.admits.result (Admits a.combination s.winds s.earthquakes a.set)) summed.sums_from.ensures c.admits.ensures)
+    let inv = c.loop-i.invariant in
+    let a = c.args in
+    permitted_by a.combination a.loads a.set (c.loop-i.fits && eqb c.loop-i.rest 0) c.arises-arises.result c.admits-admitted.result
+    (all_rows a.combination a.loads a.set c.loop-i.i c.loop-i.rest c.loop-i.fits inv.0 c.loop-i-test.false inv.1 inv.2) c.arises-arises.ensures
+    (subst (λ (s : Sums). Decides c.admits-admitted.result (Admits a.combination s.winds s.earthquakes a.set)) c.sums_of-sums.ensures c.admits-admitted.ensures)
 
 pub permitted_spec : {M : Type 1} → statement M
-permitted_spec =
-    tie.close
-    (tie.spec
-    invariant-loop
-    decreases-loop
-    loop-holds
-    mul-load
-    element-copy-out-load
-    row-fits-requires
-    add-i
-    loop-less
-    loop-again
-    arises-requires
-    sums-of-requires
-    admits-requires
-    returns)
+permitted_spec = tie.close (tie.spec invariant-loop decreases-loop loop-holds mul-load element-copy-out-load row-fits-requires add-i loop-less loop-again arises-requires sums-of-requires admits-requires returns)
