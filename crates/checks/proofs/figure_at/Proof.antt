@@ -8,24 +8,24 @@ use Rattle.checks.proofs.Sides.{low_side, high_side}
 use Rattle.checks.proofs.figure_at.Statement.{statement}
 use Rattle.checks.proofs.figure_at.Tie as tie
 
-sub-t8 : tie.Need-overflow-sub-t8
+sub-t8 : tie.Need-overflow_sub-result
 sub-t8 c = search rules
 
-returns : tie.Need-returns
+returns : tie.Need-returns-then-r-eq-TOP
 unfolding HasRank rank
-returns c = rw (low_side c.before.before.args.check c.before.match.keys1) (tt, sym c.if1.true)
+returns c = rw (low_side c.args.check c.in-OP.in-OP-own.keys1) (tt, sym c.if-r-eq-TOP.true)
 
-returns-2 : tie.Need-returns-2
+returns-2 : tie.Need-returns-else-r-eq-TOP
 unfolding HasRank rank
-returns-2 c = rw (low_side c.before.before.args.check c.before.match.keys1) (omega (arith, c.if1.false), refl)
+returns-2 c = rw (low_side c.args.check c.in-OP.in-OP-own.keys1) (omega (arith, c.if-r-eq-TOP.false), refl)
 
-returns-3 : tie.Need-returns-3
+returns-3 : tie.Need-returns-then-r-eq0
 unfolding HasRank rank
-returns-3 c = rw (high_side c.before.before.args.check c.before.match.keys2) (tt, sym c.if2.true)
+returns-3 c = rw (high_side c.args.check c.in-PR.in-PR-own.keys2) (tt, sym c.if-r-eq0.true)
 
-returns-4 : tie.Need-returns-4
+returns-4 : tie.Need-returns-else-r-eq0
 unfolding HasRank rank
-returns-4 c = rw (high_side c.before.before.args.check c.before.match.keys2) (omega (arith, c.if2.false), omega arith)
+returns-4 c = rw (high_side c.args.check c.in-PR.in-PR-own.keys2) (omega (arith, c.if-r-eq0.false), omega arith)
 
 pub figure_at_spec : {M : Type 1} → statement M
 figure_at_spec = tie.close (tie.spec sub-t8 returns returns-2 returns-3 returns-4)

@@ -11,7 +11,7 @@ use Rattle.arithmetic.specs.signed.Whole.{signed, worth, above, below}
 use Rattle.sets.specs.declared.Class.TheVariants.{Permanent, Free}
 use Rattle.sets.specs.declared.Loads.{Loads}
 use Rattle.sets.specs.Sets.{bit, row}
-use Rattle.sums.specs.Totals.{counted, sum, minus, arm, v_moment, h_moment, resists, overturns, resisting, overturning}
+use Rattle.sums.specs.Totals.{counted, sum, arm, v_moment, h_moment, resists, overturns, resisting, overturning}
 use Rattle.checks.specs.declared.Base.{Base}
 use Rattle.checks.specs.declared.Check.TheVariants.{OP, OM}
 use Rattle.checks.specs.declared.Figure.TheVariants.{Nothing, Number}

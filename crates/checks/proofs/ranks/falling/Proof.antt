@@ -4,7 +4,7 @@ use mathlib.Core.Path.{refl}
 use Rattle.checks.proofs.ranks.falling.Statement.{statement}
 use Rattle.checks.proofs.ranks.falling.Tie as tie
 
-sub-value : tie.Need-overflow-sub-value
+sub-value : tie.Need-overflow_sub-value
 sub-value c = search rules
 
 returns : tie.Need-returns

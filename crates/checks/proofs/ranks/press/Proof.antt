@@ -17,29 +17,29 @@ area c = mul-pos (mul-pos c.requires.0.0 c.requires.0.0) c.requires.0.2
 part : (c : tie.Start) → c.args.m < c.args.n * c.args.width → 0 < 3 * c.args.length * (c.args.n * c.args.width - c.args.m)
 part c h = mul-pos (mul-pos (lit< tt) c.requires.0.2) (omega arith)
 
-mul-full : tie.Need-overflow-mul-full
+mul-full : tie.Need-overflow_mul-full
 mul-full c = omega (arith, full_low c)
 
-returns : tie.Need-returns
-returns c = press_off_told _ _ _ _ c.if1.true
+returns : tie.Need-returns-then-full-m
+returns c = press_off_told _ _ _ _ c.if-full-m.true
 
-mul-if2 : tie.Need-overflow-mul-if2
+mul-if2 : tie.Need-overflow_mul-m
 mul-if2 c = omega arith
 
-mul-up : tie.Need-overflow-mul-up
+mul-up : tie.Need-overflow_mul-m-then-m-full
 mul-up c = omega arith
 
-add-up : tie.Need-overflow-add-up
+add-up : tie.Need-overflow_add-full
 add-up c = omega (arith, full_low c.before.before)
 
-mul-up-2 : tie.Need-overflow-mul-up-2
+mul-up-2 : tie.Need-overflow_mul-full-then-m-full
 mul-up-2 c = omega (arith, full_low c.before.before)
 
-mul-up-3 : tie.Need-overflow-mul-up-3
-mul-up-3 c = let e = c.before.before in omega (arith, mul-le-mul e.requires.0.1 e.requires.0.1)
+mul-up-3 : tie.Need-overflow_mul-width
+mul-up-3 c = omega (arith, mul-le-mul c.requires.0.1 c.requires.0.1)
 
-mul-up-4 : tie.Need-overflow-mul-up-4
-mul-up-4 c = let e = c.before.before in omega (arith, mul-le-mul (mul-le-mul e.requires.0.1 e.requires.0.1) e.requires.0.3)
+mul-up-4 : tie.Need-overflow_mul-width-then-m-full
+mul-up-4 c = omega (arith, mul-le-mul (mul-le-mul c.requires.0.1 c.requires.0.1) c.requires.0.3)
 
 up-requires : tie.Need-up-requires
 up-requires c κs = area c.before.before
@@ -47,66 +47,41 @@ up-requires c κs = area c.before.before
 falling-requires : tie.Need-falling-requires
 falling-requires c κs = search rules
 
-returns-2 : tie.Need-returns-2
+returns-2 : tie.Need-returns-then-m-full
 returns-2 c =
-    let e = c.before.before.before.before in
-    rw (c.falling.ensures.0, c.falling.ensures.1) (press_full_told _ _ _ _ e.requires.0.1 e.requires.1.0 (area e) c.before.before.before.if1.false c.before.before.if2.true c.before.up.ensures)
+    rw (c.falling.ensures.0, c.falling.ensures.1) (press_full_told _ _ _ _ c.requires.0.1 c.requires.1.0 (area c.before.before.before.before) c.if-full-m.false c.if-m-full.true c.up.ensures)
 
-mul-up-5 : tie.Need-overflow-mul-up-5
+mul-up-5 : tie.Need-overflow_mul-up
 mul-up-5 c = omega arith
 
-mul-up-6 : tie.Need-overflow-mul-up-6
-mul-up-6 c = let e = c.before.before in omega (arith, mul-le-mul e.requires.1.0 e.requires.1.0)
+mul-up-6 : tie.Need-overflow_mul-n
+mul-up-6 c = omega (arith, mul-le-mul c.requires.1.0 c.requires.1.0)
 
-mul-up-7 : tie.Need-overflow-mul-up-7
-mul-up-7 c = let e = c.before.before in omega (arith, mul-le-mul e.requires.1.0 e.requires.1.0)
+mul-up-7 : tie.Need-overflow_mul-n-2
+mul-up-7 c = omega (arith, mul-le-mul c.requires.1.0 c.requires.1.0)
 
-mul-up-8 : tie.Need-overflow-mul-up-8
+mul-up-8 : tie.Need-overflow_mul-length
 mul-up-8 c = omega arith
 
-sub-up : tie.Need-overflow-sub-up
+sub-up : tie.Need-overflow_sub-full
 sub-up c = search rules
 
-mul-up-9 : tie.Need-overflow-mul-up-9
+mul-up-9 : tie.Need-overflow_mul-length-2
 mul-up-9 c =
-    let e = c.before.before in
-    let three : 3 * e.args.length ≤ 180000 = omega (arith, e.requires.0.3) in
-    let rest : e.args.n * e.args.width - e.args.m ≤ 2 ^ 20 * 30000 = omega (arith, full_low e) in
+    let three : 3 * c.args.length ≤ 180000 = omega (arith, c.requires.0.3) in
+    let rest : c.args.n * c.args.width - c.args.m ≤ 2 ^ 20 * 30000 = omega (arith, full_low c.before.before) in
     omega (arith, mul-le-mul three rest)
 
 up-requires-2 : tie.Need-up-requires-2
-up-requires-2 c κs = part c.before.before c.before.if1.false
+up-requires-2 c κs = part c.before.before c.if-full-m.false
 
 falling-requires-2 : tie.Need-falling-requires-2
 falling-requires-2 c κs = search rules
 
-returns-3 : tie.Need-returns-3
+returns-3 : tie.Need-returns
 returns-3 c =
-    let e = c.before.before.before.before in
-    let past = c.before.before.before.if1.false in
-    rw (c.falling2.ensures.0, c.falling2.ensures.1) (press_part_told _ _ _ _ e.requires.1.0 (part e past) past c.before.before.if2.false c.before.up2.ensures)
+    let past = c.if-full-m.false in
+    rw (c.falling-2.ensures.0, c.falling-2.ensures.1) (press_part_told _ _ _ _ c.requires.1.0 (part c.before.before.before.before past) past c.if-m-full.false c.up-2.ensures)
 
 pub press_spec : {M : Type 1} → statement M
-press_spec =
-    tie.close
-    (tie.spec
-    mul-full
-    returns
-    mul-if2
-    mul-up
-    add-up
-    mul-up-2
-    mul-up-3
-    mul-up-4
-    up-requires
-    falling-requires
-    returns-2
-    mul-up-5
-    mul-up-6
-    mul-up-7
-    mul-up-8
-    sub-up
-    mul-up-9
-    up-requires-2
-    falling-requires-2
-    returns-3)
+press_spec = tie.close (tie.spec mul-full returns mul-if2 mul-up add-up mul-up-2 mul-up-3 mul-up-4 up-requires falling-requires returns-2 mul-up-5 mul-up-6 mul-up-7 mul-up-8 sub-up mul-up-9 up-requires-2 falling-requires-2 returns-3)

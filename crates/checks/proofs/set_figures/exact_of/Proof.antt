@@ -14,19 +14,18 @@ use Rattle.checks.proofs.set_figures.Showing.{by_sums_shows, exact_by_sums, show
 use Rattle.checks.proofs.set_figures.exact_of.Statement.{statement}
 use Rattle.checks.proofs.set_figures.exact_of.Tie as tie
 
-sums-of-requires : tie.Need-sums-of-requires
+sums-of-requires : tie.Need-sums_of-sums-requires
 sums-of-requires c κs = search rules
 
-ranked-of-requires : tie.Need-ranked-of-requires
+ranked-of-requires : tie.Need-ranked_of-ranked-requires
 ranked-of-requires c κs =
-    let e = c.before in
-    (e.requires.0, subst⁻¹ (Room 16) c.sums_from.ensures (room_all _ _ _ e.requires.0.width e.requires.1))
+    (c.requires.0, subst⁻¹ (Room 16) c.sums_of-sums.ensures (room_all _ _ _ c.requires.0.width c.requires.1))
 
 returns : tie.Need-returns
 returns c =
-    let e = c.before.before.args in
-    let exact = c.ranked_of.result.exact in
-    let ranked = subst (λ (s : Sums). RanksTold (side e.check) (ShowsBySums e.check e.base s) (ExactBySums e.check e.base s) c.ranked_of.result.value exact) c.before.sums_from.ensures c.ranked_of.ensures in
+    let e = c.args in
+    let exact = c.ranked_of-ranked.result.exact in
+    let ranked = subst (λ (s : Sums). RanksTold (side e.check) (ShowsBySums e.check e.base s) (ExactBySums e.check e.base s) c.ranked_of-ranked.result.value exact) c.sums_of-sums.ensures c.ranked_of-ranked.ensures in
     λ v shows.
     let same = shows_one e.check e.base e.loads e.set _ v (by_sums_shows e.base e.loads e.set e.check _ ranked.ranks.holds) shows in
     subst (λ (w : Figure). Decides exact (ShowsExactly e.check e.base e.loads e.set w)) same
