@@ -21,15 +21,15 @@ unrefused Accepted t later = refl
 unrefused NotAccepted t later = refl
 unrefused (Refused n) t later = absurd (⊎_elim (λ (e : ◌≡◌ {A = ℕ} 2 0). omega arith) (λ (e : ◌≡◌ {A = ℕ} 2 1). omega arith) t)
 
-enum_told : tie.Need-enum-told
+enum_told : tie.Need-enum_told-1
 enum_told c = search rules
 
-returns : tie.Need-returns
-returns c = unrefused c.before.args.verdict c.match.keys1
+returns : tie.Need-returns-in-Accepted
+returns c = unrefused c.args.verdict c.in-Accepted.in-Accepted-own.keys1
 
-returns-2 : tie.Need-returns-2
+returns-2 : tie.Need-returns-in-Refused
 unfolding unless_refused
-returns-2 c = λ later. ap (λ v. unless_refused v later) c.enum_told.given.1
+returns-2 c = λ later. ap (λ v. unless_refused v later) c.in-Refused.is
 
 pub stands_alone_spec : {M : Type 1} → statement M
 stands_alone_spec = tie.close (tie.spec enum_told returns returns-2)

@@ -8,17 +8,17 @@ use borrow.Author.Rules.{rules}
 use Rattle.lines.proofs.verdicts.river_yes.Statement.{statement}
 use Rattle.lines.proofs.verdicts.river_yes.Tie as tie
 
-enum_told : tie.Need-enum-told
+enum_told : tie.Need-enum_told-1
 enum_told c = search rules
 
-enum-known-line : tie.Need-enum-known-line
+enum-known-line : tie.Need-enum_known-line
 enum-known-line c = search rules
 
-returns : tie.Need-returns
-returns c = subst (λ (l : RiverLine). RiverYes l) (sym c.enum_told.given.1) tt
+returns : tie.Need-returns-in-Missing
+returns c = subst (λ (l : RiverLine). RiverYes l) (sym c.in-Missing.is) tt
 
-returns-2 : tie.Need-returns-2
-returns-2 c = subst (λ (l : RiverLine). Decides c.before.line.given.0.1.1.0 (RiverYes l)) (sym c.before.line.given.1) (decides_flag c.before.line.given.0.1.1.0)
+returns-2 : tie.Need-returns-in-Shown
+returns-2 c = subst (λ (l : RiverLine). Decides c.in-Shown.passes (RiverYes l)) (sym c.in-Shown.is) (decides_flag c.in-Shown.passes)
 
 pub river_yes_spec : {M : Type 1} → statement M
 river_yes_spec = tie.close (tie.spec enum_told enum-known-line returns returns-2)
