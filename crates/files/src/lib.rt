@@ -1,13 +1,21 @@
-// Books from files, for the programs: the bytes of a file that is named, or of standard input, to their end. A file that cannot be read to its
-// end is told on standard error.
+// Books from files, for the programs: the bytes of a file that is named, or of standard input, to their end; and the program's arguments, and what is
+// written. A file that cannot be read to its end is told on standard error.
 //
-// A failed read says neither that a file ended nor what follows, so a byte more is asked for where fewer came than fit. One byte past the limit of a
-// book is enough to refuse a book of any length. What a file holds is not promised here, but that no byte is counted which was not read.
+// A failed read says neither that a file ended nor what follows. One byte past the limit of a book is enough to refuse a book of any length. What a
+// file of the system holds is not promised here, but that no byte is counted which was not read.
+//
+// A file's name may be any bytes, but std opens a file by UTF-8 alone: a name that is not is told as one that cannot be opened.
 #![tactic(auto)]
 
-ghost use Rattle.io.specs.Counts.{IsPrefixLen};
+ghost use Rattle.std.specs.Prelude.{◌≤◌, length};
+ghost use Rattle.std.specs.Io.KnownBytes.{Consumes};
+ghost use Rattle.files.specs.Counts.{IsPrefixLen};
 
-use libc::STDERR_FILENO;
+use std::env::FillError;
+use std::fs::File;
+use std::io;
+use std::io::{Cursor, Read, Write};
+use std::rt::{Env, Files};
 
 // How many bytes were read, and whether these are all.
 #[derive(Clone, Copy)]
@@ -16,54 +24,164 @@ pub struct Got {
     pub len: usize,
 }
 
-// Whether the file has no more.
-fn has_ended(file: i32) -> bool {
-    let mut more = [0u8; 1];
-    libc::read(file, &mut more) == 0
+// The system's number of an argument that is missing, of one that is too long, and of a name that is no text.
+const MISSING: i32 = 22;
+
+const TOO_LONG: i32 = 36;
+
+const NO_TEXT: i32 = 84;
+
+// Writes bytes, and whether all of them could be written.
+pub fn put<P: Print>(to: &P, bytes: &[u8]) -> bool {
+    to.write_all(bytes).is_ok()
 }
 
-// What a program says of a file, by errno.
-fn tell(program: &[u8], name: &[u8]) {
-    io::write_all(STDERR_FILENO, program);
-    io::write_all(STDERR_FILENO, b": ");
-    os::fail(name);
+// Writes a number in decimal digits, and whether it could be written.
+pub fn put_number<P: Print>(to: &P, n: u64) -> bool {
+    to.print(n).is_ok()
+}
+
+// How many arguments the program was started with, its own name among them.
+pub fn arg_count<R: Env>(rt: &R) -> usize {
+    let mut none = [0u8; 0];
+    for i in 0..usize::MAX {
+        if let Err(FillError::NotPresent) = rt.arg(i, &mut none) {
+            return i;
+        }
+    }
+    usize::MAX
+}
+
+// Puts an argument at the start of a buffer; and how long it is, or 0 where it is missing or longer than the buffer. Of one that is longer the first
+// bytes are in the buffer.
+pub fn argument<R: Env>(rt: &R, i: usize, buf: &mut [u8]) -> usize
+    ensures { IsPrefixLen result buf.new }
+{
+    match rt.arg(i, buf) {
+        Ok(len) => len,
+        Err(_) => 0,
+    }
+}
+
+// Reads until the buffer is full, or the file ends, or a read fails: how many bytes are at the start of the buffer then, and the failure.
+fn fill<R: Read>(file: &mut R, buf: &mut [u8]) -> (usize, io::Result<()>)
+    ensures { IsPrefixLen result.0 buf.new }
+{
+    let mut len = 0;
+    while len < buf.len() {
+        match file.read(&mut buf[len..]) {
+            Ok(0) => return (len, Ok(())),
+            Ok(n) => len += n,
+            Err(why) => return (len, Err(why)),
+        }
+    }
+    (len, Ok(()))
+}
+
+// Reads until the buffer is full, or the file ends, or a read fails, and tells how many bytes are at the start of the buffer.
+pub fn read_full<R: Read>(file: &mut R, buf: &mut [u8]) -> usize
+    ensures { IsPrefixLen result buf.new }
+{
+    let (len, _) = fill(file, buf);
+    len
+}
+
+// The words of an error, without the number that std puts behind them.
+fn words_of<'a>(text: &'a str) -> &'a str {
+    match text.split_once(" (os error ") {
+        Some((words, _)) => words,
+        None => text,
+    }
+}
+
+// What an error says, and the line's end.
+fn tell_why<P: Print>(err: &P, why: &io::Error) {
+    let mut text = Cursor::new([0u8; 256]);
+    let _ = write!(text, "{why}");
+    let len = text.position() as usize;
+    let text = text.into_inner();
+    let words = str::from_utf8(&text[..len.min(256)]).unwrap_or("");
+    put(err, words_of(words).as_bytes());
+    put(err, b"\n");
+}
+
+// What a program says of a file, and why.
+fn tell<P: Print>(err: &P, program: &[u8], name: &[u8], why: &io::Error) {
+    put(err, program);
+    put(err, b": ");
+    put(err, name);
+    put(err, b": ");
+    tell_why(err, why);
 }
 
 // The bytes of an open file.
-pub fn read_open(file: i32, text: &mut [u8; 65537]) -> Got
+pub fn read_open<R: Read>(file: &mut R, text: &mut [u8; 65537]) -> Got
     ensures { IsPrefixLen result.len text.new }
 {
-    let len = io::read_full(file, text);
-    let all = (len == 65537) | has_ended(file);
-    Got { all, len }
+    let (len, end) = fill(file, text);
+    Got {
+        all: end.is_ok(),
+        len,
+    }
+}
+
+// Opens the file so named.
+fn open_named<R: Files>(rt: &R, name: &[u8]) -> io::Result<R::File> {
+    match str::from_utf8(name) {
+        Ok(path) => File::open(rt, path),
+        Err(_) => Err(io::Error::from_raw_os_error(NO_TEXT)),
+    }
 }
 
 // The bytes of the file so named.
-fn read_named(program: &[u8], name: &[u8], text: &mut [u8; 65537]) -> Got
+fn read_named<R: Files, P: Print>(
+    rt: &R,
+    err: &P,
+    program: &[u8],
+    name: &[u8],
+    text: &mut [u8; 65537],
+) -> Got
     ensures { IsPrefixLen result.len text.new }
 {
-    let file = os::open_read(name);
-    if file < 0 {
-        tell(program, name);
-        return Got { all: false, len: 0 };
+    let mut file = match open_named(rt, name) {
+        Ok(file) => file,
+        Err(why) => {
+            tell(err, program, name, &why);
+            return Got { all: false, len: 0 };
+        }
+    };
+    let (len, end) = fill(&mut file, text);
+    if let Err(why) = end {
+        tell(err, program, name, &why);
+        return Got { all: false, len };
     }
-    let got = read_open(file, text);
-    if !got.all {
-        tell(program, name);
-    }
-    libc::close(file);
-    got
+    Got { all: true, len }
 }
 
-// The bytes of the file that an argument names.
-pub fn read_argument(program: &[u8], i: usize, text: &mut [u8; 65537]) -> Got
+// Why an argument did not come.
+fn missed(why: FillError) -> io::Error {
+    match why {
+        FillError::NotPresent => io::Error::from_raw_os_error(MISSING),
+        FillError::TooLong => io::Error::from_raw_os_error(TOO_LONG),
+    }
+}
+
+// The bytes of the file that an argument names. What keeps it from its end is told to `err`, by the program's name.
+pub fn read_argument<R: Env + Files, P: Print>(
+    rt: &R,
+    err: &P,
+    program: &[u8],
+    i: usize,
+    text: &mut [u8; 65537],
+) -> Got
     ensures { IsPrefixLen result.len text.new }
 {
-    let mut name = io::buffer();
-    let len = os::arg(i, &mut name);
-    if os::errno() != 0 {
-        tell(program, &name);
-        return Got { all: false, len: 0 };
+    let mut name = [0u8; 4096];
+    match rt.arg(i, &mut name) {
+        Ok(len) => read_named(rt, err, program, &name[..len], text),
+        Err(why) => {
+            tell(err, program, &name, &missed(why));
+            Got { all: false, len: 0 }
+        }
     }
-    read_named(program, &name[..len], text)
 }
