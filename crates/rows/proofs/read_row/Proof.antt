@@ -13,114 +13,81 @@ use Rattle.rows.proofs.Reading.{cell_name, cell_good, cell_kind, cell_no_kind, n
 use Rattle.rows.proofs.read_row.Statement.{statement}
 use Rattle.rows.proofs.read_row.Tie as tie
 
-cells-at-requires : tie.Need-cells-at-requires
+cells-at-requires : tie.Need-cells_at-cells-requires
 cells-at-requires c κs = search rules
 
 unread-requires : tie.Need-unread-requires
 unread-requires c κs = search rules
 
-returns : tie.Need-returns
+returns : tie.Need-returns-then-cells-ne10
 returns c = λ cs css q.
-    let at_row = c.before.before.before in
-    seen_none at_row.cells_at.ensures cs css q c.unread.result c.unread.ensures (λ n t b f. c.before.if1.true n)
+    seen_none c.cells_at-cells.ensures cs css q c.unread.result c.unread.ensures (λ n t b f. c.if-cells-ne10.true n)
 
 cell-requires : tie.Need-cell-requires
 cell-requires c κs = search rules
 
-kind-at-requires : tie.Need-kind-at-requires
+kind-at-requires : tie.Need-kind_at-requires
 kind-at-requires c κs = search rules
 
-enum-known-kind : tie.Need-enum-known-kind
+enum-known-kind : tie.Need-enum_known-kind
 enum-known-kind c = search rules
 
-enum_told : tie.Need-enum-told
+enum_told : tie.Need-enum_told-1
 enum_told c = search rules
 
-unread-requires-2 : tie.Need-unread-requires-2
+unread-requires-2 : tie.Need-unread-requires-in_default
 unread-requires-2 c κs = search rules
 
-returns-2 : tie.Need-returns-2
+returns-2 : tie.Need-returns-in_default
 returns-2 c = λ cs css q.
-    let at_kind = c.before.before.before in
-    seen_none at_kind.before.before.before.before.cells_at.ensures cs css q c.unread2.result c.unread2.ensures
-    (λ n t b f. cell_no_kind t 2 _ (lit< tt) at_kind.before.cell.ensures (subst (KindAt _) c.before.enum_told.given.1 at_kind.kind_at.ensures) b.keyed.row.kind (kind_is f))
+    seen_none c.cells_at-cells.ensures cs css q c.unread-in_default.result c.unread-in_default.ensures
+    (λ n t b f. cell_no_kind t 2 _ (lit< tt) c.cell.ensures (subst (KindAt _) c.in_default.is c.kind_at.ensures) b.keyed.row.kind (kind_is f))
 
-numbers-of-requires : tie.Need-numbers-of-requires
+numbers-of-requires : tie.Need-numbers_of-numbers_read-requires
 numbers-of-requires c κs = search rules
 
 cell-requires-2 : tie.Need-cell-requires-2
 cell-requires-2 c κs = search rules
 
-name-at-requires : tie.Need-name-at-requires
+name-at-requires : tie.Need-name_at-member_read-requires
 name-at-requires c κs = search rules
 
 cell-requires-3 : tie.Need-cell-requires-3
 cell-requires-3 c κs = search rules
 
-name-at-requires-2 : tie.Need-name-at-requires-2
+name-at-requires-2 : tie.Need-name_at-job_read-requires
 name-at-requires-2 c κs = search rules
 
-returns-3 : tie.Need-returns-3
+returns-3 : tie.Need-returns-then-member_read-job_read
 returns-3 c = λ cs css q.
-    let at_job = c.before.before.before.before.before.before.before in
-    let at_member = at_job.before.before in
-    let at_numbers = at_member.before.before in
-    let numbers = at_numbers.Numbers-of.result in
-    let at_x = at_numbers.before.before in
-    let at_kind = at_x.before.before in
-    let kind = at_x.kind.given.0.0 in
-    let at_ten = at_kind.before.before in
-    let tests = decided _ c.before.before.before.if2.true (passed at_member.name-at.result.good at_job.name-at2.result.good numbers.good) in
-    seen_row at_ten.before.before.cells_at.ensures cs css q at_ten.if1.false _ (λ t. record {
+    let numbers = c.numbers_of-numbers_read.result in
+    let kind = c.in-Known.kind in
+    let tests = decided _ c.if-member_read-job_read.true (passed c.name_at-member_read.result.good c.name_at-job_read.result.good numbers.good) in
+    seen_row c.cells_at-cells.ensures cs css q c.if-cells-ne10.false _ (λ t. record {
       ten = first_ten cs;
       are = ten_cells cs t.so_many;
-      member = cell_name t 0 _ (lit< tt) at_member.before.cell2.ensures at_member.name-at.result tests.0.0 at_member.name-at.ensures;
-      job = cell_name t 1 _ (lit< tt) at_job.before.cell3.ensures at_job.name-at2.result tests.0.1 at_job.name-at2.ensures;
-      kind = cell_kind t 2 _ (lit< tt) at_kind.before.cell.ensures kind (subst (KindAt _) at_x.kind.given.1 at_kind.kind_at.ensures);
-      numbers = subst (λ (g : Bool). NumbersGiven g numbers.numbers kind cs) tests.1 (at_numbers.Numbers-of.ensures cs t);
+      member = cell_name t 0 _ (lit< tt) c.cell-2.ensures c.name_at-member_read.result tests.0.0 c.name_at-member_read.ensures;
+      job = cell_name t 1 _ (lit< tt) c.cell-3.ensures c.name_at-job_read.result tests.0.1 c.name_at-job_read.ensures;
+      kind = cell_kind t 2 _ (lit< tt) c.cell.ensures kind (subst (KindAt _) c.in-Known.is c.kind_at.ensures);
+      numbers = subst (λ (g : Bool). NumbersGiven g numbers.numbers kind cs) tests.1 (c.numbers_of-numbers_read.ensures cs t);
       note = refl;
     })
 
-unread-requires-3 : tie.Need-unread-requires-3
+unread-requires-3 : tie.Need-unread-requires-2
 unread-requires-3 c κs = search rules
 
-returns-4 : tie.Need-returns-4
+returns-4 : tie.Need-returns
 returns-4 c = λ cs css q.
-    let at_job = c.before.before.before.before.before in
-    let at_member = at_job.before.before in
-    let at_numbers = at_member.before.before in
-    let numbers = at_numbers.Numbers-of.result in
-    let at_x = at_numbers.before.before in
-    let at_kind = at_x.before.before in
-    let kind = at_x.kind.given.0.0 in
-    let at_ten = at_kind.before.before in
-    let tests = refuted _ c.before.if2.false (passed at_member.name-at.result.good at_job.name-at2.result.good numbers.good) in
-    seen_none at_ten.before.before.cells_at.ensures cs css q c.unread3.result c.unread3.ensures
+    let numbers = c.numbers_of-numbers_read.result in
+    let kind = c.in-Known.kind in
+    let tests = refuted _ c.if-member_read-job_read.false (passed c.name_at-member_read.result.good c.name_at-job_read.result.good numbers.good) in
+    seen_none c.cells_at-cells.ensures cs css q c.unread-2.result c.unread-2.ensures
     (λ n t b f.
-    let m = cell_good t 0 _ (lit< tt) at_member.before.cell2.ensures at_member.name-at.result at_member.name-at.ensures b.keyed.key.member (member_is f) in
-    let j = cell_good t 1 _ (lit< tt) at_job.before.cell3.ensures at_job.name-at2.result at_job.name-at2.ensures b.keyed.key.job (job_is f) in
-    let e = cell_kind t 2 _ (lit< tt) at_kind.before.cell.ensures kind (subst (KindAt _) at_x.kind.given.1 at_kind.kind_at.ensures) in
-    let g = numbers_good kind cs e numbers.good numbers.numbers (at_numbers.Numbers-of.ensures cs t) b f in
+    let m = cell_good t 0 _ (lit< tt) c.cell-2.ensures c.name_at-member_read.result c.name_at-member_read.ensures b.keyed.key.member (member_is f) in
+    let j = cell_good t 1 _ (lit< tt) c.cell-3.ensures c.name_at-job_read.result c.name_at-job_read.ensures b.keyed.key.job (job_is f) in
+    let e = cell_kind t 2 _ (lit< tt) c.cell.ensures kind (subst (KindAt _) c.in-Known.is c.kind_at.ensures) in
+    let g = numbers_good kind cs e numbers.good numbers.numbers (c.numbers_of-numbers_read.ensures cs t) b f in
     tests ((m, j), g))
 
 pub read_row_spec : {M : Type 1} → statement M
-read_row_spec =
-    tie.close
-    (tie.spec
-    cells-at-requires
-    unread-requires
-    returns
-    cell-requires
-    kind-at-requires
-    enum-known-kind
-    enum_told
-    unread-requires-2
-    returns-2
-    numbers-of-requires
-    cell-requires-2
-    name-at-requires
-    cell-requires-3
-    name-at-requires-2
-    returns-3
-    unread-requires-3
-    returns-4)
+read_row_spec = tie.close (tie.spec cells-at-requires unread-requires returns cell-requires kind-at-requires enum-known-kind enum_told unread-requires-2 returns-2 numbers-of-requires cell-requires-2 name-at-requires cell-requires-3 name-at-requires-2 returns-3 unread-requires-3 returns-4)

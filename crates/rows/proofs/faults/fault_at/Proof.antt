@@ -43,110 +43,90 @@ row_told l named worked written (wrong e first) = column e l first
 
 -- what the columns passed hold, and that none of them is wrong
 module _ (cs : List Cell) (css : List (List Cell)) where
-  abbrev Read : tie.After-cells-at → Type 0
-  Read c = File (drop c.before.before.args.start c.before.before.args.s.now) (cs ∷ css)
+  abbrev Read : tie.After-cells_at-cells → Type 0
+  Read c = File (drop c.args.start c.args.s.now) (cs ∷ css)
 
-  ten : (c : tie.Else1) → Read c.before → Standing 10 c.before.before.before.args.s.now c.before.cells_at.result cs
-  ten c q = standing c.before.cells_at.ensures cs css q (lit≤ tt) c.if1.false
+  ten : (c : tie.Else-count-ne10) → Read c.before → Standing 10 c.args.s.now c.cells_at-cells.result cs
+  ten c q = standing c.cells_at-cells.ensures cs css q (lit≤ tt) c.if-count-ne10.false
 
-  member_named : (c : tie.Else2) → Read c.before.before.before.before.before → NameOf (content cs 0) c.before.before.name-at.result.name
-  member_named c q = cell_name (ten c.before.before.before.before q) 0 _ (lit< tt) c.before.before.before.cell.ensures c.before.before.name-at.result (not-false _ c.if2.false) c.before.before.name-at.ensures
+  member_named : (c : tie.Else-not-member) → Read c.before.before.before.before.before → NameOf (content cs 0) c.name_at-member.result.name
+  member_named c q = cell_name (ten c.before.before.before.before q) 0 _ (lit< tt) c.cell.ensures c.name_at-member.result (not-false _ c.if-not-member.false) c.name_at-member.ensures
 
-  clear_2 : (c : tie.Else2) → Read c.before.before.before.before.before → Clear cs 2
+  clear_2 : (c : tie.Else-not-member) → Read c.before.before.before.before.before → Clear cs 2
   clear_2 c q = clear_next 1 clear_first (right_member _ (member_named c q))
 
-  job_named : (c : tie.Else3) → Read c.before.before.before.before.before.before.before.before.before → NameOf (content cs 1) c.before.before.name-at2.result.name
-  job_named c q = cell_name (ten c.before.before.before.before.before.before.before.before q) 1 _ (lit< tt) c.before.before.before.cell2.ensures c.before.before.name-at2.result (not-false _ c.if3.false) c.before.before.name-at2.ensures
+  job_named : (c : tie.Else-not-job) → Read c.before.before.before.before.before.before.before.before.before → NameOf (content cs 1) c.name_at-job.result.name
+  job_named c q = cell_name (ten c.before.before.before.before.before.before.before.before q) 1 _ (lit< tt) c.cell-2.ensures c.name_at-job.result (not-false _ c.if-not-job.false) c.name_at-job.ensures
 
-  clear_3 : (c : tie.Else3) → Read c.before.before.before.before.before.before.before.before.before → Clear cs 3
+  clear_3 : (c : tie.Else-not-job) → Read c.before.before.before.before.before.before.before.before.before → Clear cs 3
   clear_3 c q = clear_next 2 (clear_2 c.before.before.before.before q) (right_job _ (job_named c q))
 
-  kind_written : (c : tie.After-kind) → Read c.before.before.before.before.before.before.before.before.before.before.before.before.before → content cs 2 ≡ letters c.kind.given.0.0
-  kind_written c q = cell_kind (ten c.before.before.before.before.before.before.before.before.before.before.before.before q) 2 _ (lit< tt) c.before.before.before.cell3.ensures c.kind.given.0.0 (subst (KindAt _) c.kind.given.1 c.before.before.kind_at.ensures)
+  kind_written : (c : tie.In-Known) → Read c.before.before.before.before.before.before.before.before.before.before.before.before → content cs 2 ≡ letters c.in-Known.kind
+  kind_written c q = cell_kind (ten c.before.before.before.before.before.before.before.before.before.before.before q) 2 _ (lit< tt) c.cell-3.ensures c.in-Known.kind (subst (KindAt _) c.in-Known.is c.kind_at.ensures)
 
-  clear_4 : (c : tie.After-kind) → Read c.before.before.before.before.before.before.before.before.before.before.before.before.before → Clear cs 4
-  clear_4 c q = clear_next 3 (clear_3 c.before.before.before.before q) (right_kind c.kind.given.0.0 (kind_written c q))
+  clear_4 : (c : tie.In-Known) → Read c.before.before.before.before.before.before.before.before.before.before.before.before → Clear cs 4
+  clear_4 c q = clear_next 3 (clear_3 c.before.before.before q) (right_kind c.in-Known.kind (kind_written c q))
 
-cells-at-requires : tie.Need-cells-at-requires
+cells-at-requires : tie.Need-cells_at-cells-requires
 cells-at-requires c κs = search rules
 
-returns : tie.Need-returns
+returns : tie.Need-returns-then-count-ne10
 returns c = λ cs css q.
-    let n = (c.before.cells_at.ensures cs css q).count in
-    count (ap fault.Count n) (λ e. c.if1.true (n ∙ e))
+    let n = (c.cells_at-cells.ensures cs css q).count in
+    count (ap fault.Count n) (λ e. c.if-count-ne10.true (n ∙ e))
 
 cell-requires : tie.Need-cell-requires
 cell-requires c κs = search rules
 
-name-at-requires : tie.Need-name-at-requires
+name-at-requires : tie.Need-name_at-member-requires
 name-at-requires c κs = search rules
 
-returns-2 : tie.Need-returns-2
+returns-2 : tie.Need-returns-then-not-member
 returns-2 c = λ cs css q.
     let t = ten cs css c.before.before.before.before q in
     column refl t.so_many
     (first_wrong clear_first
-    (member refl (λ n is. not_both (cell_good t 0 _ (lit< tt) c.before.before.before.cell.ensures c.before.before.name-at.result c.before.before.name-at.ensures n is) (not-true _ c.if2.true))))
+    (member refl (λ n is. not_both (cell_good t 0 _ (lit< tt) c.cell.ensures c.name_at-member.result c.name_at-member.ensures n is) (not-true _ c.if-not-member.true))))
 
 cell-requires-2 : tie.Need-cell-requires-2
 cell-requires-2 c κs = search rules
 
-name-at-requires-2 : tie.Need-name-at-requires-2
+name-at-requires-2 : tie.Need-name_at-job-requires
 name-at-requires-2 c κs = search rules
 
-returns-3 : tie.Need-returns-3
+returns-3 : tie.Need-returns-then-not-job
 returns-3 c = λ cs css q.
     let t = ten cs css c.before.before.before.before.before.before.before.before q in
     column refl t.so_many
     (first_wrong (clear_2 cs css c.before.before.before.before q)
-    (job refl (λ n is. not_both (cell_good t 1 _ (lit< tt) c.before.before.before.cell2.ensures c.before.before.name-at2.result c.before.before.name-at2.ensures n is) (not-true _ c.if3.true))))
+    (job refl (λ n is. not_both (cell_good t 1 _ (lit< tt) c.cell-2.ensures c.name_at-job.result c.name_at-job.ensures n is) (not-true _ c.if-not-job.true))))
 
 cell-requires-3 : tie.Need-cell-requires-3
 cell-requires-3 c κs = search rules
 
-kind-at-requires : tie.Need-kind-at-requires
+kind-at-requires : tie.Need-kind_at-requires
 kind-at-requires c κs = search rules
 
-enum-known-kind : tie.Need-enum-known-kind
+enum-known-kind : tie.Need-enum_known-kind
 enum-known-kind c = search rules
 
-enum_told : tie.Need-enum-told
+enum_told : tie.Need-enum_told-1
 enum_told c = search rules
 
-returns-4 : tie.Need-returns-4
+returns-4 : tie.Need-returns-in_default
 returns-4 c = λ cs css q.
-    let t = ten cs css c.before.before.before.before.before.before.before.before.before.before.before.before q in
+    let t = ten cs css c.before.before.before.before.before.before.before.before.before.before.before q in
     column refl t.so_many
-    (first_wrong (clear_3 cs css c.before.before.before.before q) (kind refl (cell_no_kind t 2 _ (lit< tt) c.before.before.before.cell3.ensures (subst (KindAt _) c.enum_told.given.1 c.before.before.kind_at.ensures))))
+    (first_wrong (clear_3 cs css c.before.before.before q) (kind refl (cell_no_kind t 2 _ (lit< tt) c.cell-3.ensures (subst (KindAt _) c.in_default.is c.kind_at.ensures))))
 
-numbers-fault-requires : tie.Need-numbers-fault-requires
+numbers-fault-requires : tie.Need-numbers_fault-requires
 numbers-fault-requires c κs = search rules
 
-returns-5 : tie.Need-returns-5
+returns-5 : tie.Need-returns
 returns-5 c = λ cs css q.
-    let at_kind = c.before.before in
-    let at_job = at_kind.before.before.before.before in
-    let at_member = at_job.before.before.before.before in
-    let t = ten cs css at_member.before.before.before.before q in
-    let written = kind_written cs css at_kind q in
-    row_told t.so_many (member_named cs css at_member q) (job_named cs css at_job q) written (c.numbers-fault.ensures cs t written (clear_4 cs css at_kind q))
+    let t = ten cs css c.before.before.before.before.before.before.before.before.before.before.before.before q in
+    let written = kind_written cs css c.before q in
+    row_told t.so_many (member_named cs css c.before.before.before.before.before.before.before.before q) (job_named cs css c.before.before.before.before q) written (c.numbers_fault.ensures cs t written (clear_4 cs css c.before q))
 
 pub fault_at_spec : {M : Type 1} → statement M
-fault_at_spec =
-    tie.close
-    (tie.spec
-    cells-at-requires
-    returns
-    cell-requires
-    name-at-requires
-    returns-2
-    cell-requires-2
-    name-at-requires-2
-    returns-3
-    cell-requires-3
-    kind-at-requires
-    enum-known-kind
-    enum_told
-    returns-4
-    numbers-fault-requires
-    returns-5)
+fault_at_spec = tie.close (tie.spec cells-at-requires returns cell-requires name-at-requires returns-2 cell-requires-2 name-at-requires-2 returns-3 cell-requires-3 kind-at-requires enum-known-kind enum_told returns-4 numbers-fault-requires returns-5)

@@ -4,16 +4,16 @@ use borrow.Author.Rules.{rules}
 use Rattle.rows.proofs.keys.blank_row.Statement.{statement}
 use Rattle.rows.proofs.keys.blank_row.Tie as tie
 
-blank-name-requires : tie.Need-blank-name-requires
+blank-name-requires : tie.Need-blank_name-name-requires
 blank-name-requires c κs = search rules
 
-blank-entry-requires : tie.Need-blank-entry-requires
+blank-entry-requires : tie.Need-blank_entry-none-requires
 blank-entry-requires c κs = search rules
 
 returns : tie.Need-returns
 returns c =
-    let m = c.before.blank-name.ensures in
-    let e = c.blank-entry.ensures in
+    let m = c.blank_name-name.ensures in
+    let e = c.blank_entry-none.ensures in
     λ i. record {
       key = record { member = m i; job = m i };
       row = record { kind = B; numbers = record { n1 = e i; n2 = e i; n3 = e i; n4 = e i; n5 = e i; n6 = e i } };

@@ -12,10 +12,10 @@ use Rattle.rows.proofs.keys.Same.{SameLetters, same_letters, same_letters_decide
 use Rattle.rows.proofs.keys.same_key.Statement.{statement}
 use Rattle.rows.proofs.keys.same_key.Tie as tie
 
-abbrev invariant-loop : tie.invariant-loop
+abbrev invariant-loop : tie.invariant-loop-i
 invariant-loop a b member other-member job other-job i₀ i = (i ≤ 12) × ((p : ℕ) → p < i → SameLetters a b p)
 
-abbrev decreases-loop : tie.decreases-loop
+abbrev decreases-loop : tie.decreases-loop-i
 decreases-loop a b member other-member job other-job i₀ i = 12 - i
 
 -- all four names have twelve bytes
@@ -32,63 +32,45 @@ module _ (c : tie.Start invariant-loop decreases-loop) where
   other_job_length : length c.args.b.job.bytes ≡ 12
   other_job_length = search rules
 
-loop-holds : tie.Need-loop-init invariant-loop decreases-loop
+loop-holds : tie.Need-loop-i-init invariant-loop decreases-loop
 loop-holds c = (omega arith, λ p h. absurd (omega arith))
 
-array-read-if1 : tie.Need-array-read-if1 invariant-loop decreases-loop
+array-read-if1 : tie.Need-bounds-member-i invariant-loop decreases-loop
 array-read-if1 c = search rules
 
-array-read-if1-2 : tie.Need-array-read-if1-2 invariant-loop decreases-loop
+array-read-if1-2 : tie.Need-bounds-other_member-i invariant-loop decreases-loop
 array-read-if1-2 c = search rules
 
-array-read-if1-3 : tie.Need-array-read-if1-3 invariant-loop decreases-loop
+array-read-if1-3 : tie.Need-bounds-job-i invariant-loop decreases-loop
 array-read-if1-3 c = search rules
 
-array-read-if1-4 : tie.Need-array-read-if1-4 invariant-loop decreases-loop
+array-read-if1-4 : tie.Need-bounds-other_job-i invariant-loop decreases-loop
 array-read-if1-4 c = search rules
 
-add-i : tie.Need-overflow-add-i invariant-loop decreases-loop
+add-i : tie.Need-overflow_add-i invariant-loop decreases-loop
 add-i c = search rules
 
-loop-less : tie.Need-loop-smaller invariant-loop decreases-loop
+loop-less : tie.Need-loop-i-smaller invariant-loop decreases-loop
 loop-less c = search rules
 
-loop-again : tie.Need-loop-preserved invariant-loop decreases-loop
+loop-again : tie.Need-loop-i-preserved invariant-loop decreases-loop
 loop-again c =
-    let at_loop = c.before.before in
-    let args = at_loop.before.before.before.before.before.args in
-    let i = at_loop.loop.i in
-    (omega arith, below_more _ _ at_loop.loop.invariant.1 (decided (same_letters args.a args.b i) c.if1.true (same_letters_decides args.a args.b i)))
+    let args = c.args in
+    let i = c.loop-i.i in
+    (omega arith, below_more _ _ c.loop-i.invariant.1 (decided (same_letters args.a args.b i) c.if-member-i.true (same_letters_decides args.a args.b i)))
 
-returns : tie.Need-returns invariant-loop decreases-loop
+returns : tie.Need-returns-else-member-i invariant-loop decreases-loop
 returns c =
-    let at_loop = c.before.before in
-    let args = at_loop.before.before.before.before.before.args in
-    let i = at_loop.loop.i in
-    λ e. refuted (same_letters args.a args.b i) c.if1.false (same_letters_decides args.a args.b i) (same_letters_of args.a args.b i e)
+    let args = c.args in
+    let i = c.loop-i.i in
+    λ e. refuted (same_letters args.a args.b i) c.if-member-i.false (same_letters_decides args.a args.b i) (same_letters_of args.a args.b i e)
 
-returns-2 : tie.Need-returns-2 invariant-loop decreases-loop
+returns-2 : tie.Need-returns invariant-loop decreases-loop
 returns-2 c =
-    let at_end = c.before.before.before.before in
-    let inv = at_end.before.loop.invariant in
-    let start = at_end.before.before.before.before.before.before in
-    key_decides start.args.a start.args.b
-    (ext_get_or 0 _ _ (member_length start ∙ sym (other_member_length start)) (λ p h. let l = member_length start in (inv.1 p (omega arith)).0))
-    (ext_get_or 0 _ _ (job_length start ∙ sym (other_job_length start)) (λ p h. let l = job_length start in (inv.1 p (omega arith)).1))
+    let inv = c.loop-i.invariant in
+    key_decides c.args.a c.args.b
+    (ext_get_or 0 _ _ (member_length c.before.before.before.before.before.before.before.before.before.before ∙ sym (other_member_length c.before.before.before.before.before.before.before.before.before.before)) (λ p h. let l = member_length c.before.before.before.before.before.before.before.before.before.before in (inv.1 p (omega arith)).0))
+    (ext_get_or 0 _ _ (job_length c.before.before.before.before.before.before.before.before.before.before ∙ sym (other_job_length c.before.before.before.before.before.before.before.before.before.before)) (λ p h. let l = job_length c.before.before.before.before.before.before.before.before.before.before in (inv.1 p (omega arith)).1))
 
 pub same_key_spec : {M : Type 1} → statement M
-same_key_spec =
-    tie.close
-    (tie.spec
-    invariant-loop
-    decreases-loop
-    loop-holds
-    array-read-if1
-    array-read-if1-2
-    array-read-if1-3
-    array-read-if1-4
-    add-i
-    loop-less
-    loop-again
-    returns
-    returns-2)
+same_key_spec = tie.close (tie.spec invariant-loop decreases-loop loop-holds array-read-if1 array-read-if1-2 array-read-if1-3 array-read-if1-4 add-i loop-less loop-again returns returns-2)
