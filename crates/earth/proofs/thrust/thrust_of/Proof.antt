@@ -13,13 +13,13 @@ high c = mul-le-mul c.requires.1 c.requires.1
 heavy : (c : tie.Start) → c.args.k * (c.args.height * c.args.height) ≤ 40000 * (15000 * 15000)
 heavy c = mul-le-mul c.requires.0 (high c)
 
-mul-up : tie.Need-overflow-mul-up
+mul-up : tie.Need-overflow_mul-height
 mul-up c = record { fits = lt_of_le_of_lt (high c) (lit< tt) }
 
-mul-up-2 : tie.Need-overflow-mul-up-2
+mul-up-2 : tie.Need-overflow_mul-k
 mul-up-2 c = record { fits = lt_of_le_of_lt (heavy c) (lit< tt) }
 
-mul-up-3 : tie.Need-overflow-mul-up-3
+mul-up-3 : tie.Need-overflow_mul-k-2
 mul-up-3 c = record { fits = lt_of_le_of_lt (mul-le-mul (heavy c) c.requires.2) (lit< tt) }
 
 up-requires : tie.Need-up-requires
