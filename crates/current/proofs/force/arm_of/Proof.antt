@@ -4,17 +4,17 @@ use Rattle.current.proofs.force.Fractions.{thirds}
 use Rattle.current.proofs.force.arm_of.Statement.{statement}
 use Rattle.current.proofs.force.arm_of.Tie as tie
 
-mul-up : tie.Need-overflow-mul-up
+mul-up : tie.Need-overflow_mul-upper
 mul-up c = search rules
 
-add-up : tie.Need-overflow-add-up
+add-up : tie.Need-overflow_add-upper
 add-up c = search rules
 
 up-requires : tie.Need-up-requires
 up-requires c κs = search rules
 
 returns : tie.Need-returns
-returns c = rw (thirds c.before.args.upper c.before.args.lower c.before.requires.1) c.up.ensures.rounded
+returns c = rw (thirds c.args.upper c.args.lower c.requires.1) c.up.ensures.rounded
 
 pub arm_of_spec : {M : Type 1} → statement M
 arm_of_spec = tie.close (tie.spec mul-up add-up up-requires returns)

@@ -16,16 +16,16 @@ broad c = mul-le-mul c.requires.0 c.requires.1
 fast : {u v : ℕ} → u ≤ 6000 → v ≤ 6000 → u * v ≤ 6000 * 6000
 fast h k = mul-le-mul h k
 
-mul-up : tie.Need-overflow-mul-up
+mul-up : tie.Need-overflow_mul-k
 mul-up c = record { fits = lt_of_le_of_lt (broad c) (lit< tt) }
 
-mul-up-2 : tie.Need-overflow-mul-up-2
+mul-up-2 : tie.Need-overflow_mul-velocity
 mul-up-2 c = record { fits = lt_of_le_of_lt (fast (omega arith) (omega arith)) (lit< tt) }
 
-mul-up-3 : tie.Need-overflow-mul-up-3
+mul-up-3 : tie.Need-overflow_mul-k-2
 mul-up-3 c = record { fits = lt_of_le_of_lt (mul-le-mul (broad c) (fast (omega arith) (omega arith))) (lit< tt) }
 
-mul-up-4 : tie.Need-overflow-mul-up-4
+mul-up-4 : tie.Need-overflow_mul-k-3
 mul-up-4 c = record { fits = lt_of_le_of_lt (mul-le-mul (mul-le-mul (broad c) (fast (omega arith) (omega arith))) (le_refl _)) (lit< tt) }
 
 up-requires : tie.Need-up-requires
@@ -33,7 +33,7 @@ up-requires c κs = search rules
 
 returns : tie.Need-returns
 returns c =
-    let a = c.before.args in
+    let a = c.args in
     rw (square a.velocity) (five_times (a.k * a.area * (a.velocity * a.velocity)) c.up.result.value c.up.ensures.rounded)
 
 pub force_of_spec : {M : Type 1} → statement M
