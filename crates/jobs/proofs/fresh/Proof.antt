@@ -4,14 +4,13 @@ use borrow.Author.Rules.{rules}
 use Rattle.jobs.proofs.fresh.Statement.{statement}
 use Rattle.jobs.proofs.fresh.Tie as tie
 
-blank-row-requires : tie.Need-blank-row-requires
+blank-row-requires : tie.Need-blank_row-none-requires
 blank-row-requires c κs = search rules
 
 returns : tie.Need-returns
 returns c =
-    let at_blank = c.before.before in
-    let e = at_blank.blank-row.ensures in
-    let args = at_blank.before.before.before.args in
+    let e = c.blank_row-none.ensures in
+    let args = c.args in
     λ i. record {
       stage = args.stage;
       key = args.row.key;

@@ -18,6 +18,7 @@ use Rattle.jobs.specs.declared.Job.{Job}
 use borrow.Author.Rules.{rules}
 use Rattle.jobs.proofs.joined.Statement.{statement}
 use Rattle.jobs.proofs.joined.Tie as tie
+use Rattle.jobs.proofs.joined.Lts.{in-Scour, in-Clearance, in-Base}
 
 -- what is neither an S row's nor a C row's role is a load row's, where it is no B row's
 bears : (x : Role) → (x ≡ Base → ⊥) → OneOf (0 ∷ 3 ∷ []) (tag_of the_type x) → x ≡ Load
@@ -46,39 +47,34 @@ module _ (c : tie.Start) where
   same : {s t : Stage} {a f b g : Numbers} {n m : ℕ} {l k : List Row} → s ≡ t → a ≡ f → b ≡ g → n ≡ m → l ≡ k → other s a b n l ≡ other t f g m k
   same p q r u v = λ i. other (p i) (q i) (r i) (u i) (v i)
 
-enum_told : tie.Need-enum-told
+enum_told : tie.Need-enum_told-1
 enum_told c = search rules
 
-enum-told-2 : tie.Need-enum-told-2
+enum-told-2 : tie.Need-enum_told-in-Clearance
 enum-told-2 c = search rules
 
 -- a load row has room
-module _ (c : tie.After-load) where
-  room : c.before.before.before.before.before.args.job.count < 16
+module _ (c : tie.After-load-1) where
+  room : c.args.job.count < 16
   room =
-      let start = c.before.before.before.before.before in
-      start.requires.1 (bears start.args.role start.requires.0 c.before.match.keys3)
+      c.requires.1 (bears c.args.role c.requires.0 c.in-Base.in-Base-own.keys3)
 
-mul-loads : tie.Need-overflow-mul-loads
+mul-loads : tie.Need-offset_bounds-loads-count
 mul-loads c = let few = room c in search rules
 
-array-set-from-loads : tie.Need-array-set-from-loads
+array-set-from-loads : tie.Need-bounds-loads-count
 array-set-from-loads c = let few = room c in search rules
 
-add-count : tie.Need-overflow-add-count
+add-count : tie.Need-overflow_add-count
 add-count c = let few = room c in search rules
 
 returns : tie.Need-returns
 returns c =
-    let at_match = c.before.before in
-    let start = at_match.before.before.before.before in
-    ⊎_elim
-    (λ w. by_role start {x = Scour} w.1.given.1 (same start w.3 w.4 w.5 w.6 w.7))
-    (⊎_elim
-    (λ w. by_role start {x = Clearance} w.1.given.1 (same start w.3 w.4 w.5 w.6 w.7))
-    (λ w. by_role start {x = Load} (bears start.args.role start.requires.0 w.0.keys3) (same start w.2 w.3 w.4 w.5 w.6)))
-    at_match.match.branch
+    elim c.match-role.branch [
+      in-Scour w ↦ by_role c.before.before.before.before.before.before {x = Scour} w.in-Scour.is (same c.before.before.before.before.before.before w.stage-is w.scour-is w.clearance-is w.count-is w.loads-is)
+    | in-Clearance w ↦ by_role c.before.before.before.before.before.before {x = Clearance} w.in-Clearance.is (same c.before.before.before.before.before.before w.stage-is w.scour-is w.clearance-is w.count-is w.loads-is)
+    | in-Base w ↦ by_role c.before.before.before.before.before.before {x = Load} (bears c.args.role c.requires.0 w.in-Base.in-Base-own.keys3) (same c.before.before.before.before.before.before w.stage-is w.scour-is w.clearance-is w.count-is w.loads-is)
+    ]
 
 pub joined_spec : {M : Type 1} → statement M
-joined_spec =
-    tie.close (tie.spec enum_told enum-told-2 mul-loads array-set-from-loads add-count returns)
+joined_spec = tie.close (tie.spec enum_told enum-told-2 mul-loads array-set-from-loads add-count returns)

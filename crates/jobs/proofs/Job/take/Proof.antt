@@ -30,77 +30,55 @@ joins Scour h = (λ e. impossible cc, refl)
 joins Clearance h = (λ e. impossible cc, refl)
 joins Load h = (λ e. impossible cc, refl)
 
-role-of-requires : tie.Need-role-of-requires
+role-of-requires : tie.Need-role_of-role-requires
 role-of-requires c κs = search rules
 
-same-key-requires : tie.Need-same-key-requires
+same-key-requires : tie.Need-same_key-same-requires
 same-key-requires c κs = search rules
 
-fits-requires : tie.Need-fits-requires
+fits-requires : tie.Need-fits-good-requires
 fits-requires c κs = search rules
 
-enum_told : tie.Need-enum-told
+enum_told : tie.Need-enum_told-1
 enum_told c = search rules
 
 fresh-requires : tie.Need-fresh-requires
 fresh-requires c κs = search rules
 
 -- a row in place is taken up, by its role
-module _ (c : tie.Then1) where
+module _ (c : tie.Then-good) where
   abbrev own : Role
-  own = c.before.before.before.before.before.role-of.result
+  own = c.role_of-role.result
 
   abbrev self : Job
-  self = c.before.before.before.before.before.before.before.args.self
+  self = c.args.self
 
   abbrev row : Keyed
-  row = c.before.before.before.before.before.before.before.args.row
+  row = c.args.row
 
   in_place : (a : Took) (next : Job) → a ≡ answer_to own → next ≡ with_row own self row → TakeSays self row (take_told a) next
   in_place =
-      let at_fits = c.before in
-      let at_same = at_fits.before in
-      let at_role = at_same.before.before.before in
-      taken self row own at_role.role-of.ensures at_same.same_key.result at_same.same_key.ensures (decided at_fits.fits2.result c.if1.true at_fits.fits2.ensures)
+      taken self row own c.role_of-role.ensures c.same_key-same.result c.same_key-same.ensures (decided c.fits-good.result c.if-good.true c.fits-good.ensures)
 
 joined-requires : tie.Need-joined-requires
-joined-requires c κs =
-    let at_if = c.before in
-    let at_fits = at_if.before in (
-      (joins (own at_if) c.match.keys2).0,
-      bears_few (own at_if) (self at_if).stage (self at_if).count (at_fits.before.same_key.result ≡ true) (decided at_fits.fits2.result at_if.if1.true at_fits.fits2.ensures),
-    )
+joined-requires c κs = (
+  (joins (own c.before) c.in-Scour.in-Scour-own.keys2).0,
+  bears_few (own c.before) (self c.before).stage (self c.before).count (c.same_key-same.result ≡ true) (decided c.fits-good.result c.if-good.true c.fits-good.ensures),
+)
 
-returns : tie.Need-returns
+returns : tie.Need-returns-in-Base
 returns c =
-    let at_arm = c.before in
-    let at_if = at_arm.before.before in
-    let q = sym at_arm.enum_told.given.1 in
-    in_place at_if Started c.fresh.result (ap answer_to q) (c.fresh.ensures ∙ ap (λ (x : Role). with_row x (self at_if) (row at_if)) q)
+    let q = sym c.in-Base.is in
+    in_place c.before.before Started c.fresh.result (ap answer_to q) (c.fresh.ensures ∙ ap (λ (x : Role). with_row x (self c.before.before) (row c.before.before)) q)
 
-returns-2 : tie.Need-returns-2
+returns-2 : tie.Need-returns-in-Scour
 returns-2 c =
-    let at_if = c.before.before in
-    in_place at_if Joined c.joined.result (joins (own at_if) c.before.match.keys2).1 c.joined.ensures
+    in_place c.before.before Joined c.joined.result (joins (own c.before.before) c.in-Scour.in-Scour-own.keys2).1 c.joined.ensures
 
-returns-3 : tie.Need-returns-3
+returns-3 : tie.Need-returns-else-good
 returns-3 c =
-    let at_fits = c.before in
-    let at_same = at_fits.before in
-    let at_role = at_same.before.before.before in
-    let args = at_role.before.before.args in
-    (refl, out_of_place args.self args.row at_role.role-of.result at_role.role-of.ensures at_same.same_key.result at_same.same_key.ensures (refuted at_fits.fits2.result c.if1.false at_fits.fits2.ensures), refl)
+    let args = c.args in
+    (refl, out_of_place args.self args.row c.role_of-role.result c.role_of-role.ensures c.same_key-same.result c.same_key-same.ensures (refuted c.fits-good.result c.if-good.false c.fits-good.ensures), refl)
 
 pub take_spec : {M : Type 1} → statement M
-take_spec =
-    tie.close
-    (tie.spec
-    role-of-requires
-    same-key-requires
-    fits-requires
-    enum_told
-    fresh-requires
-    joined-requires
-    returns
-    returns-2
-    returns-3)
+take_spec = tie.close (tie.spec role-of-requires same-key-requires fits-requires enum_told fresh-requires joined-requires returns returns-2 returns-3)

@@ -32,76 +32,54 @@ begun Dry h e = impossible cc
 begun Scoured h e = impossible cc
 begun Crossed h e = impossible cc
 
-enum_told : tie.Need-enum-told
+enum_told : tie.Need-enum_told-1
 enum_told c = search rules
 
-enum-told-2 : tie.Need-enum-told-2
+enum-told-2 : tie.Need-enum_told-in-Unbegun
 enum-told-2 c = search rules
 
-returns : tie.Need-returns
+returns : tie.Need-returns-then-count-eq0
 returns c =
-    let at_stage = c.before in
-    let told = at_stage.before in
-    let args = told.before.before.args in
-    base_short args.role args.stage args.count (args.same ≡ true) told.enum_told.given.1 (begun args.stage at_stage.match2.keys2) (let few = c.if1.true in omega arith)
+    let args = c.args in
+    base_short args.role args.stage args.count (args.same ≡ true) c.in-Base.is (begun args.stage c.in-Dry.in-Dry-own.keys2) (let few = c.if-count-eq0.true in omega arith)
 
-enum-told-3 : tie.Need-enum-told-3
+enum-told-3 : tie.Need-enum_told-in-Unbegun-stage
 enum-told-3 c = search rules
 
-later-rule-requires : tie.Need-later-rule-requires
+later-rule-requires : tie.Need-later_rule-requires
 later-rule-requires c κs =
-    let at_stage = c.before in
-    let at_role = at_stage.before in
-    let args = at_role.before.args in
-    (other args.role at_role.match.keys2, begun args.stage at_stage.match3.keys2)
+    let args = c.args in
+    (other args.role c.in-Scour.in-Scour-own.keys2, begun args.stage c.in-Dry-stage.in-Dry-stage-own.keys2)
 
-returns-2 : tie.Need-returns-2
+returns-2 : tie.Need-returns-then-same
 returns-2 c =
-    let at_if = c.before in
-    let args = at_if.before.before.before.args in
-    let taken = at_if.if2.true in
+    let args = c.args in
+    let taken = c.if-same.true in
     let same : args.same ≡ true = cc in
-    placing_map (Holds args.role args.stage args.count (Unit {0})) (Holds args.role args.stage args.count (args.same ≡ true)) c.later-rule.result
+    placing_map (Holds args.role args.stage args.count (Unit {0})) (Holds args.role args.stage args.count (args.same ≡ true)) c.later_rule.result
     (holds_map args.role args.stage args.count (Unit {0}) (args.same ≡ true) (λ e. tt))
-    (holds_map args.role args.stage args.count (args.same ≡ true) (Unit {0}) (λ u. same)) c.later-rule.ensures
+    (holds_map args.role args.stage args.count (args.same ≡ true) (Unit {0}) (λ u. same)) c.later_rule.ensures
 
-returns-3 : tie.Need-returns-3
+returns-3 : tie.Need-returns-in-Unbegun
 returns-3 c =
-    let told = c.before.before in
-    let args = told.before.before.args in
-    base_in_place args.role args.stage args.count (args.same ≡ true) told.enum_told.given.1 (λ b z. b c.enum-told2.given.1)
+    let args = c.args in
+    base_in_place args.role args.stage args.count (args.same ≡ true) c.in-Base.is (λ b z. b c.in-Unbegun.is)
 
-returns-4 : tie.Need-returns-4
+returns-4 : tie.Need-returns-else-count-eq0
 returns-4 c =
-    let told = c.before.before in
-    let args = told.before.before.args in
-    base_in_place args.role args.stage args.count (args.same ≡ true) told.enum_told.given.1 (λ b z. let many = c.if1.false in many (omega arith))
+    let args = c.args in
+    base_in_place args.role args.stage args.count (args.same ≡ true) c.in-Base.is (λ b z. let many = c.if-count-eq0.false in many (omega arith))
 
-returns-5 : tie.Need-returns-5
+returns-5 : tie.Need-returns-in-Unbegun-stage
 returns-5 c =
-    let at_role = c.before.before in
-    let args = at_role.before.args in
-    unbegun args.role args.stage args.count (args.same ≡ true) (other args.role at_role.match.keys2) c.enum-told3.given.1
+    let args = c.args in
+    unbegun args.role args.stage args.count (args.same ≡ true) (other args.role c.in-Scour.in-Scour-own.keys2) c.in-Unbegun-stage.is
 
-returns-6 : tie.Need-returns-6
+returns-6 : tie.Need-returns-else-same
 returns-6 c =
-    let at_stage = c.before in
-    let at_role = at_stage.before in
-    let args = at_role.before.args in
-    let left = c.if2.false in
-    other_key args.role args.stage args.count (args.same ≡ true) (other args.role at_role.match.keys2) (begun args.stage at_stage.match3.keys2) (λ e. impossible cc)
+    let args = c.args in
+    let left = c.if-same.false in
+    other_key args.role args.stage args.count (args.same ≡ true) (other args.role c.in-Scour.in-Scour-own.keys2) (begun args.stage c.in-Dry-stage.in-Dry-stage-own.keys2) (λ e. impossible cc)
 
 pub first_rule_spec : {M : Type 1} → statement M
-first_rule_spec =
-    tie.close
-    (tie.spec
-    enum_told
-    enum-told-2
-    returns
-    enum-told-3
-    later-rule-requires
-    returns-2
-    returns-3
-    returns-4
-    returns-5
-    returns-6)
+first_rule_spec = tie.close (tie.spec enum_told enum-told-2 returns enum-told-3 later-rule-requires returns-2 returns-3 returns-4 returns-5 returns-6)

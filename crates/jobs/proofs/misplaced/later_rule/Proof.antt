@@ -24,106 +24,71 @@ bears Clearance n h = absurd (⊎_elim (λ e. omega arith) (λ e. omega arith) h
 bears Load n h = refl
 
 -- an S row that is the job's first
-dry : (c : tie.Else1) → HasScour c.before.before.before.before.args.stage → ⊥
-dry c = refuted c.before.has-scour.result c.if1.false c.before.has-scour.ensures
+dry : (c : tie.Else-has_scour) → HasScour c.args.stage → ⊥
+dry c = refuted c.has_scour.result c.if-has_scour.false c.has_scour.ensures
 
 -- a C row behind an S row, and one that is the job's first
-scoured : (c : tie.Else3) → HasScour c.before.before.before.before.args.stage
-scoured c = decided c.before.has-scour2.result (not-false c.before.has-scour2.result c.if3.false) c.before.has-scour2.ensures
+scoured : (c : tie.Else-not-has_scour) → HasScour c.args.stage
+scoured c = decided c.has_scour-in-Clearance.result c.if-not-has_scour.false c.has_scour-in-Clearance.ensures
 
-uncrossed : (c : tie.Else4) → HasClearance c.before.before.before.before.before.before.args.stage → ⊥
-uncrossed c = refuted c.before.has-clearance.result c.if4.false c.before.has-clearance.ensures
+uncrossed : (c : tie.Else-has_clearance) → HasClearance c.args.stage → ⊥
+uncrossed c = refuted c.has_clearance.result c.if-has_clearance.false c.has_clearance.ensures
 
-enum_told : tie.Need-enum-told
+enum_told : tie.Need-enum_told-1
 enum_told c = search rules
 
-has-scour-requires : tie.Need-has-scour-requires
+has-scour-requires : tie.Need-has_scour-requires
 has-scour-requires c κs = search rules
 
-returns : tie.Need-returns
+returns : tie.Need-returns-then-has_scour
 returns c =
-    let told = c.before.before in
-    let start = told.before.before in
-    second_scour start.args.role start.args.stage start.args.count (Unit {0}) start.requires.0 start.requires.1 tt told.enum_told.given.1
-    (decided c.before.has-scour.result c.if1.true c.before.has-scour.ensures)
+    second_scour c.args.role c.args.stage c.args.count (Unit {0}) c.requires.0 c.requires.1 tt c.in-Scour.is
+    (decided c.has_scour.result c.if-has_scour.true c.has_scour.ensures)
 
-returns-2 : tie.Need-returns-2
+returns-2 : tie.Need-returns-then-count-gt0
 returns-2 c =
-    let told = c.before.before.before in
-    let start = told.before.before in
-    late_scour start.args.role start.args.stage start.args.count (Unit {0}) start.requires.0 start.requires.1 tt told.enum_told.given.1 (dry c.before) (let late = c.if2.true in omega arith)
+    late_scour c.args.role c.args.stage c.args.count (Unit {0}) c.requires.0 c.requires.1 tt c.in-Scour.is (dry c.before) (let late = c.if-count-gt0.true in omega arith)
 
-enum-told-2 : tie.Need-enum-told-2
+enum-told-2 : tie.Need-enum_told-in-Clearance
 enum-told-2 c = search rules
 
-has-scour-requires-2 : tie.Need-has-scour-requires-2
+has-scour-requires-2 : tie.Need-has_scour-requires-in-Clearance
 has-scour-requires-2 c κs = search rules
 
-returns-3 : tie.Need-returns-3
+returns-3 : tie.Need-returns-then-not-has_scour
 returns-3 c =
-    let told = c.before.before in
-    let start = told.before.before in
-    no_scour start.args.role start.args.stage start.args.count (Unit {0}) start.requires.0 start.requires.1 tt told.enum-told2.given.1
-    (refuted c.before.has-scour2.result (not-true c.before.has-scour2.result c.if3.true) c.before.has-scour2.ensures)
+    no_scour c.args.role c.args.stage c.args.count (Unit {0}) c.requires.0 c.requires.1 tt c.in-Clearance.is
+    (refuted c.has_scour-in-Clearance.result c.if-not-has_scour.true c.has_scour-in-Clearance.ensures)
 
-has-clearance-requires : tie.Need-has-clearance-requires
+has-clearance-requires : tie.Need-has_clearance-requires
 has-clearance-requires c κs = search rules
 
-returns-4 : tie.Need-returns-4
+returns-4 : tie.Need-returns-then-has_clearance
 returns-4 c =
-    let at_river = c.before.before in
-    let told = at_river.before.before in
-    let start = told.before.before in
-    second_clearance start.args.role start.args.stage start.args.count (Unit {0}) start.requires.0 start.requires.1 tt told.enum-told2.given.1 (scoured at_river)
-    (decided c.before.has-clearance.result c.if4.true c.before.has-clearance.ensures)
+    second_clearance c.args.role c.args.stage c.args.count (Unit {0}) c.requires.0 c.requires.1 tt c.in-Clearance.is (scoured c.before.before)
+    (decided c.has_clearance.result c.if-has_clearance.true c.has_clearance.ensures)
 
-returns-5 : tie.Need-returns-5
+returns-5 : tie.Need-returns-then-count-gt0-2
 returns-5 c =
-    let at_river = c.before.before.before in
-    let told = at_river.before.before in
-    let start = told.before.before in
-    late_clearance start.args.role start.args.stage start.args.count (Unit {0}) start.requires.0 start.requires.1 tt told.enum-told2.given.1 (scoured at_river) (uncrossed c.before) (let late = c.if5.true in omega arith)
+    late_clearance c.args.role c.args.stage c.args.count (Unit {0}) c.requires.0 c.requires.1 tt c.in-Clearance.is (scoured c.before.before.before) (uncrossed c.before) (let late = c.if-count-gt0-2.true in omega arith)
 
-returns-6 : tie.Need-returns-6
+returns-6 : tie.Need-returns-then-count-ge16
 returns-6 c =
-    let start = c.before.before in
-    surplus_load start.args.role start.args.stage start.args.count (Unit {0}) start.requires.0 start.requires.1 tt (bears start.args.role start.requires.0 c.before.match.keys3) (let many = c.if6.true in omega arith)
+    surplus_load c.args.role c.args.stage c.args.count (Unit {0}) c.requires.0 c.requires.1 tt (bears c.args.role c.requires.0 c.in-Base.in-Base-own.keys3) (let many = c.if-count-ge16.true in omega arith)
 
-returns-7 : tie.Need-returns-7
+returns-7 : tie.Need-returns-else-count-gt0
 returns-7 c =
-    let told = c.before.before.before in
-    let start = told.before.before in
-    let few = c.if2.false in
-    scour_in_place start.args.role start.args.stage start.args.count (Unit {0}) start.requires.0 start.requires.1 tt told.enum_told.given.1 (dry c.before) (omega arith)
+    let few = c.if-count-gt0.false in
+    scour_in_place c.args.role c.args.stage c.args.count (Unit {0}) c.requires.0 c.requires.1 tt c.in-Scour.is (dry c.before) (omega arith)
 
-returns-8 : tie.Need-returns-8
+returns-8 : tie.Need-returns-else-count-gt0-2
 returns-8 c =
-    let at_river = c.before.before.before in
-    let told = at_river.before.before in
-    let start = told.before.before in
-    let few = c.if5.false in
-    clearance_in_place start.args.role start.args.stage start.args.count (Unit {0}) start.requires.0 start.requires.1 tt told.enum-told2.given.1 (scoured at_river) (uncrossed c.before) (omega arith)
+    let few = c.if-count-gt0-2.false in
+    clearance_in_place c.args.role c.args.stage c.args.count (Unit {0}) c.requires.0 c.requires.1 tt c.in-Clearance.is (scoured c.before.before.before) (uncrossed c.before) (omega arith)
 
-returns-9 : tie.Need-returns-9
+returns-9 : tie.Need-returns-else-count-ge16
 returns-9 c =
-    let start = c.before.before in
-    load_in_place start.args.role start.args.stage start.args.count (Unit {0}) start.requires.0 start.requires.1 tt (bears start.args.role start.requires.0 c.before.match.keys3) (let few = c.if6.false in omega arith)
+    load_in_place c.args.role c.args.stage c.args.count (Unit {0}) c.requires.0 c.requires.1 tt (bears c.args.role c.requires.0 c.in-Base.in-Base-own.keys3) (let few = c.if-count-ge16.false in omega arith)
 
 pub later_rule_spec : {M : Type 1} → statement M
-later_rule_spec =
-    tie.close
-    (tie.spec
-    enum_told
-    has-scour-requires
-    returns
-    returns-2
-    enum-told-2
-    has-scour-requires-2
-    returns-3
-    has-clearance-requires
-    returns-4
-    returns-5
-    returns-6
-    returns-7
-    returns-8
-    returns-9)
+later_rule_spec = tie.close (tie.spec enum_told has-scour-requires returns returns-2 enum-told-2 has-scour-requires-2 returns-3 has-clearance-requires returns-4 returns-5 returns-6 returns-7 returns-8 returns-9)

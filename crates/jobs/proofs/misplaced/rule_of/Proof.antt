@@ -15,25 +15,24 @@ set_by : {P : Type 0} (b : Bool) → Decides b P → P → b ≡ true
 set_by true d p = refl
 set_by false d p = absurd (d p)
 
-role-of-requires : tie.Need-role-of-requires
+role-of-requires : tie.Need-role_of-role-requires
 role-of-requires c κs = search rules
 
-same-key-requires : tie.Need-same-key-requires
+same-key-requires : tie.Need-same_key-same-requires
 same-key-requires c κs = search rules
 
-first-rule-requires : tie.Need-first-rule-requires
+first-rule-requires : tie.Need-first_rule-requires
 first-rule-requires c κs = search rules
 
 returns : tie.Need-returns
 returns c =
-    let keys = c.before.same_key in
-    let at_role = c.before.before.before.before in
-    let own = at_role.role-of.result in
-    let job = at_role.before.before.args.job in
-    let row = at_role.before.before.args.row in
+    let keys = c.same_key-same in
+    let own = c.role_of-role.result in
+    let job = c.args.job in
+    let row = c.args.row in
     let same : (keys.result ≡ true) → job.key ≡ row.key = λ e. decided keys.result e keys.ensures in
     let set : job.key ≡ row.key → keys.result ≡ true = set_by keys.result keys.ensures in
-    subst (λ (x : Role). PlacingSays (Holds x job.stage job.count (job.key ≡ row.key)) c.first_rule.result) at_role.role-of.ensures
+    subst (λ (x : Role). PlacingSays (Holds x job.stage job.count (job.key ≡ row.key)) c.first_rule.result) c.role_of-role.ensures
     (placing_map (Holds own job.stage job.count (keys.result ≡ true)) (Holds own job.stage job.count (job.key ≡ row.key)) c.first_rule.result
     (holds_map own job.stage job.count (keys.result ≡ true) (job.key ≡ row.key) set)
     (holds_map own job.stage job.count (job.key ≡ row.key) (keys.result ≡ true) same) c.first_rule.ensures)
