@@ -4,11 +4,11 @@ use Rattle.weighing.proofs.bounds.Bounding.{later_first, later_second}
 use Rattle.weighing.proofs.bounds.later.Statement.{statement}
 use Rattle.weighing.proofs.bounds.later.Tie as tie
 
-returns : tie.Need-returns
-returns c = sym (later_second _ _ c.if1.true)
+returns : tie.Need-returns-then-a-b
+returns c = sym (later_second _ _ c.if-a-b.true)
 
-returns-2 : tie.Need-returns-2
-returns-2 c = sym (later_first _ _ c.if1.false)
+returns-2 : tie.Need-returns-else-a-b
+returns-2 c = sym (later_first _ _ c.if-a-b.false)
 
 pub later_spec : {M : Type 1} → statement M
 later_spec = tie.close (tie.spec returns returns-2)

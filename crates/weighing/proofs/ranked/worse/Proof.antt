@@ -9,42 +9,37 @@ use Rattle.weighing.proofs.ranked.Weights.{weight_rank, weight_tie_order, worse_
 use Rattle.weighing.proofs.ranked.worse.Statement.{statement}
 use Rattle.weighing.proofs.ranked.worse.Tie as tie
 
-returns : tie.Need-returns
+returns : tie.Need-returns-then-rank-worst
 unfolding weight_of
 returns c =
-    let e = c.before.before in
-    worse_of_new _ _ _ (weight_rank _ _ _ _ c.if1.true e.requires.1 e.requires.2)
+    worse_of_new _ _ _ (weight_rank _ _ _ _ c.if-rank-worst.true c.requires.1 c.requires.2)
 
-tie-order-requires : tie.Need-tie-order-requires
+tie-order-requires : tie.Need-tie_order-requires
 tie-order-requires c κs = search rules
 
-tie-order-requires-2 : tie.Need-tie-order-requires-2
+tie-order-requires-2 : tie.Need-tie_order-requires-then-rank-worst-2
 tie-order-requires-2 c κs = search rules
 
 -- of equal ranks
-returns-2 : tie.Need-returns-2
+returns-2 : tie.Need-returns-then-tie_order
 unfolding weight_of
 returns-2 c =
-    let t = c.before.before in
-    let a = t.before.before.before.before.before.args in
-    let first : order_of_ties a.set < order_of_ties a.worst.set = omega (arith, t.order_of_ties.ensures, c.before.tie-order2.ensures, c.if3.true) in
-    worse_of_new _ _ _ (weight_tie_order _ _ _ _ t.before.if2.true (le_of_lt first))
+    let a = c.args in
+    let first : order_of_ties a.set < order_of_ties a.worst.set = omega (arith, c.tie_order.ensures, c.tie_order-then-rank-worst-2.ensures, c.if-tie_order.true) in
+    worse_of_new _ _ _ (weight_tie_order _ _ _ _ c.if-rank-worst-2.true (le_of_lt first))
 
-returns-3 : tie.Need-returns-3
+returns-3 : tie.Need-returns-else-tie_order
 unfolding weight_of
 returns-3 c =
-    let t = c.before.before in
-    let a = t.before.before.before.before.before.args in
-    let later : order_of_ties a.worst.set ≤ order_of_ties a.set = omega (arith, t.order_of_ties.ensures, c.before.tie-order2.ensures, c.if3.false) in
-    worse_of_old _ _ _ (weight_tie_order _ _ _ _ (sym t.before.if2.true) later)
+    let a = c.args in
+    let later : order_of_ties a.worst.set ≤ order_of_ties a.set = omega (arith, c.tie_order.ensures, c.tie_order-then-rank-worst-2.ensures, c.if-tie_order.false) in
+    worse_of_old _ _ _ (weight_tie_order _ _ _ _ (sym c.if-rank-worst-2.true) later)
 
 -- of a higher rank
-returns-4 : tie.Need-returns-4
+returns-4 : tie.Need-returns-else-rank-worst-2
 unfolding weight_of
 returns-4 c =
-    let e = c.before.before.before.before in
-    worse_of_old _ _ _ (weight_rank _ _ _ _ (omega (arith, c.if2.false, c.before.before.if1.false)) e.requires.2 e.requires.1)
+    worse_of_old _ _ _ (weight_rank _ _ _ _ (omega (arith, c.if-rank-worst-2.false, c.if-rank-worst.false)) c.requires.2 c.requires.1)
 
 pub worse_spec : {M : Type 1} → statement M
-worse_spec =
-    tie.close (tie.spec returns tie-order-requires tie-order-requires-2 returns-2 returns-3 returns-4)
+worse_spec = tie.close (tie.spec returns tie-order-requires tie-order-requires-2 returns-2 returns-3 returns-4)
