@@ -16,28 +16,28 @@ less c = mul-le-mul c.requires.3 c.requires.3
 quick : (c : tie.Start) → c.args.velocity * c.args.velocity ≤ 10000 * 10000
 quick c = mul-le-mul c.requires.0 c.requires.0
 
-mul-whole-squared : tie.Need-overflow-mul-whole-squared
+mul-whole-squared : tie.Need-overflow_mul-whole_squared
 mul-whole-squared c = omega (arith, whole c)
 
-mul-left-squared : tie.Need-overflow-mul-left-squared
+mul-left-squared : tie.Need-overflow_mul-left_squared
 mul-left-squared c = omega (arith, whole c, less c)
 
-mul-up : tie.Need-overflow-mul-up
+mul-up : tie.Need-overflow_mul-velocity
 mul-up c = omega (arith, quick c)
 
-mul-up-2 : tie.Need-overflow-mul-up-2
+mul-up-2 : tie.Need-overflow_mul-velocity-2
 mul-up-2 c = omega (arith, quick c)
 
-add-up : tie.Need-overflow-add-up
+add-up : tie.Need-overflow_add-velocity
 add-up c = omega (arith, quick c)
 
-sub-up : tie.Need-overflow-sub-up
+sub-up : tie.Need-overflow_sub-whole_squared
 sub-up c = less c
 
-mul-up-3 : tie.Need-overflow-mul-up-3
+mul-up-3 : tie.Need-overflow_mul-velocity-3
 mul-up-3 c = record { fits = lt_of_le_of_lt (mul-le-mul {n₂ = 1002724912} (omega (arith, quick c)) (le_trans (sub-le _ _) (whole c))) (lit< tt) }
 
-mul-up-4 : tie.Need-overflow-mul-up-4
+mul-up-4 : tie.Need-overflow_mul-left_squared-2
 mul-up-4 c = omega (arith, whole c, less c)
 
 up-requires : tie.Need-up-requires
@@ -47,16 +47,4 @@ returns : tie.Need-returns
 returns c = simp square c.up.ensures
 
 pub afflux_spec : {M : Type 1} → statement M
-afflux_spec =
-    tie.close
-    (tie.spec
-    mul-whole-squared
-    mul-left-squared
-    mul-up
-    mul-up-2
-    add-up
-    sub-up
-    mul-up-3
-    mul-up-4
-    up-requires
-    returns)
+afflux_spec = tie.close (tie.spec mul-whole-squared mul-left-squared mul-up mul-up-2 add-up sub-up mul-up-3 mul-up-4 up-requires returns)
