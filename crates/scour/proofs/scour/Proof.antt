@@ -10,25 +10,25 @@ use Rattle.scour.specs.ScourRow.{scour_told, out_of_range, in_range}
 use Rattle.scour.proofs.scour.Statement.{statement}
 use Rattle.scour.proofs.scour.Tie as tie
 
-ranged : (c : tie.Then1) → Ranged S c.before.before.args.row
-ranged c = decided c.before.is-ranged.result c.if1.taken c.before.is-ranged.ensures
+ranged : (c : tie.Then-is_ranged) → Ranged S c.args.row
+ranged c = decided c.is_ranged.result c.if-is_ranged.true c.is_ranged.ensures
 
-is-ranged-requires : tie.Need-is-ranged-requires
+is-ranged-requires : tie.Need-is_ranged-requires
 is-ranged-requires c κs = search rules
 
-waterway-of-requires : tie.Need-waterway-of-requires
+waterway-of-requires : tie.Need-waterway_of-requires
 waterway-of-requires c κs = search rules
 
-scour-of-requires : tie.Need-scour-of-requires
+scour-of-requires : tie.Need-scour_of-requires
 scour-of-requires c κs =
     let r = ranged c.before in
-    rw c.waterway_in.ensures (r.n1.to, r.n3.from, r.n3.to, r.n4.from, r.n4.to, r.n5.from, r.n5.to)
+    rw c.waterway_of.ensures (r.n1.to, r.n3.from, r.n3.to, r.n4.from, r.n4.to, r.n5.from, r.n5.to)
 
-returns : tie.Need-returns
-returns c = in_range (ranged c.before.before) (subst (λ (row : Waterway). ScourRule row (scour_told c.scour_of.result)) c.before.waterway_in.ensures c.scour_of.ensures)
+returns : tie.Need-returns-then-is_ranged
+returns c = in_range (ranged c.before.before) (subst (λ (row : Waterway). ScourRule row (scour_told c.scour_of.result)) c.waterway_of.ensures c.scour_of.ensures)
 
-returns-2 : tie.Need-returns-2
-returns-2 c = out_of_range (refuted c.before.is-ranged.result c.if1.left c.before.is-ranged.ensures)
+returns-2 : tie.Need-returns
+returns-2 c = out_of_range (refuted c.is_ranged.result c.if-is_ranged.false c.is_ranged.ensures)
 
 pub scour_spec : {M : Type 1} → statement M
 scour_spec = tie.close (tie.spec is-ranged-requires waterway-of-requires scour-of-requires returns returns-2)

@@ -11,13 +11,13 @@ use Rattle.scour.proofs.lacey.meets_regime.Tie as tie
 wide : (c : tie.Start) → c.args.w * c.args.w ≤ 1300000 * 1300000
 wide c = mul-le-mul c.requires.1 c.requires.1
 
-mul-result : tie.Need-overflow-mul-result
+mul-result : tie.Need-overflow_mul-result
 mul-result c = search rules
 
-mul-result-2 : tie.Need-overflow-mul-result-2
+mul-result-2 : tie.Need-overflow_mul-result-2
 mul-result-2 c = omega (arith, wide c)
 
-mul-result-3 : tie.Need-overflow-mul-result-3
+mul-result-3 : tie.Need-overflow_mul-result-3
 mul-result-3 c = omega (arith, wide c)
 
 returns : tie.Need-returns
