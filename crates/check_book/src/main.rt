@@ -4,69 +4,65 @@
 // to its end is told, and no job is printed.
 #![tactic(auto)]
 
-use libc::{STDERR_FILENO, STDIN_FILENO, STDOUT_FILENO};
+use std::rt::{Env, Files};
 
 // Prints the lines of a book; where they cannot be written, that is told.
-fn print_lines(book: &[u8], own: &[u8], common: &[u8]) {
+fn print_lines(rt: &impl Print, err: &impl Print, book: &[u8], own: &[u8], common: &[u8]) {
     let mut lines = [0u8; 131072];
     let len = debtarush::book_lines(book, own, common, &mut lines);
-    if !io::write_all(STDOUT_FILENO, &lines[0..len]) {
-        io::write_all(
-            STDERR_FILENO,
-            b"check_book: the lines could not be written\n",
-        );
+    if !files::put(rt, &lines[0..len]) {
+        files::put(err, b"check_book: the lines could not be written\n");
     }
 }
 
 // The book on standard input, with these fill books.
-fn check(own: &[u8], common: &[u8]) {
+fn check(rt: &(impl Input + Print), err: &impl Print, own: &[u8], common: &[u8]) {
     let mut text = [0u8; 65537];
-    let got = files::read_open(STDIN_FILENO, &mut text);
+    let mut input = rt.reader();
+    let got = files::read_open(&mut input, &mut text);
     if !got.all {
-        io::write_all(
-            STDERR_FILENO,
-            b"check_book: the book could not be read to its end\n",
-        );
+        files::put(err, b"check_book: the book could not be read to its end\n");
         return;
     }
     let len = got.len;
-    print_lines(&text[..len], own, common);
+    print_lines(rt, err, &text[..len], own, common);
 }
 
 // With this own book, and the common book that the second argument names, or Table 2.
-fn check_with(own: &[u8], count: usize) {
+fn check_with(rt: &(impl Env + Files + Input + Print), err: &impl Print, own: &[u8], count: usize) {
     if count < 3 {
         let table2 = fills::table2_book::bytes();
-        check(own, &table2);
+        check(rt, err, own, &table2);
         return;
     }
     let mut text = [0u8; 65537];
-    let got = files::read_argument(b"check_book", 2, &mut text);
+    let got = files::read_argument(rt, err, b"check_book", 2, &mut text);
     if !got.all {
         return;
     }
     let len = got.len;
-    check(own, &text[..len]);
+    check(rt, err, own, &text[..len]);
 }
 
-fn main() {
-    let count = os::arg_count();
+fn main(rt: HostRuntime) {
+    let err = rt.stderr();
+    let count = files::arg_count(&rt);
     if 3 < count {
-        io::write_all(
-            STDERR_FILENO,
+        files::put(
+            &err,
             b"check_book: it takes at most two arguments, the files of the own and the common fill book, and reads a book from standard input\n",
         );
         return;
     }
     let mut text = [0u8; 65537];
     if count < 2 {
-        check_with(&text[..0], count);
+        check_with(&rt, &err, &text[..0], count);
         return;
     }
-    let got = files::read_argument(b"check_book", 1, &mut text);
+    let got = files::read_argument(&rt, &err, b"check_book", 1, &mut text);
     if !got.all {
         return;
     }
     let len = got.len;
-    check_with(&text[..len], count);
+    check_with(&rt, &err, &text[..len], count);
 }

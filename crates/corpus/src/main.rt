@@ -11,38 +11,39 @@
 // CL; docs/DECISIONS.md works them out. A file that cannot be read to its end is told, and has no lines.
 #![tactic(auto)]
 
-use libc::{STDERR_FILENO, STDOUT_FILENO};
+use std::rt::{Env, Files};
 
 // Prints the lines of a book; where they cannot be written, that is told.
-fn print_lines(book: &[u8]) {
+fn print_lines(rt: &impl Print, err: &impl Print, book: &[u8]) {
     let mut lines = [0u8; 131072];
     let table2 = fills::table2_book::bytes();
     let len = debtarush::book_lines(book, b"", &table2, &mut lines);
-    if !io::write_all(STDOUT_FILENO, &lines[0..len]) {
-        io::write_all(STDERR_FILENO, b"corpus: the lines could not be written\n");
+    if !files::put(rt, &lines[0..len]) {
+        files::put(err, b"corpus: the lines could not be written\n");
     }
 }
 
 // The book that an argument names.
-fn print_named(i: usize) {
-    let mut name = io::buffer();
+fn print_named(rt: &(impl Env + Files + Print), err: &impl Print, i: usize) {
+    let mut name = [0u8; 4096];
     let mut text = [0u8; 65537];
-    let read = files::read_argument(b"corpus", i, &mut text);
+    let read = files::read_argument(rt, err, b"corpus", i, &mut text);
     if !read.all {
         return;
     }
     let got = read.len;
-    let len = os::arg(i, &mut name);
-    io::write_all(STDOUT_FILENO, &name[..len]);
-    io::write_all(STDOUT_FILENO, b"\r\n");
-    print_lines(&text[..got]);
+    let len = files::argument(rt, i, &mut name);
+    files::put(rt, &name[..len]);
+    files::put(rt, b"\r\n");
+    print_lines(rt, err, &text[..got]);
 }
 
-fn main() {
-    let count = os::arg_count();
+fn main(rt: HostRuntime) {
+    let err = rt.stderr();
+    let count = files::arg_count(&rt);
     let mut i: usize = 1;
     while i < count {
-        print_named(i);
+        print_named(&rt, &err, i);
         i += 1;
     }
 }

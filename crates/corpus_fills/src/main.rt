@@ -6,59 +6,63 @@
 
 ghost use Rattle.std.specs.Prelude.{◌+◌, ◌<◌, ◌^◌};
 
-use libc::{STDERR_FILENO, STDOUT_FILENO};
+use std::rt::{Env, Files};
 
 // Prints the lines of a book; where they cannot be written, that is told.
-fn print_lines(book: &[u8], own: &[u8], common: &[u8]) {
+fn print_lines(rt: &impl Print, err: &impl Print, book: &[u8], own: &[u8], common: &[u8]) {
     let mut lines = [0u8; 131072];
     let len = debtarush::book_lines(book, own, common, &mut lines);
-    if !io::write_all(STDOUT_FILENO, &lines[0..len]) {
-        io::write_all(
-            STDERR_FILENO,
-            b"corpus_fills: the lines could not be written\n",
-        );
+    if !files::put(rt, &lines[0..len]) {
+        files::put(err, b"corpus_fills: the lines could not be written\n");
     }
 }
 
 // The book that an argument names, with these fill books.
-fn print_named(i: usize, own: &[u8], common: &[u8]) {
-    let mut name = io::buffer();
+fn print_named(
+    rt: &(impl Env + Files + Print),
+    err: &impl Print,
+    i: usize,
+    own: &[u8],
+    common: &[u8],
+) {
+    let mut name = [0u8; 4096];
     let mut text = [0u8; 65537];
-    let read = files::read_argument(b"corpus_fills", i, &mut text);
+    let read = files::read_argument(rt, err, b"corpus_fills", i, &mut text);
     if !read.all {
         return;
     }
     let got = read.len;
-    let len = os::arg(i, &mut name);
-    io::write_all(STDOUT_FILENO, &name[..len]);
-    io::write_all(STDOUT_FILENO, b"\r\n");
-    print_lines(&text[..got], own, common);
+    let len = files::argument(rt, i, &mut name);
+    files::put(rt, &name[..len]);
+    files::put(rt, b"\r\n");
+    print_lines(rt, err, &text[..got], own, common);
 }
 
 // The fill books that an argument and the next one name, and the book that the one behind them does.
-fn print_with(i: usize)
+fn print_with(rt: &(impl Env + Files + Print), err: &impl Print, i: usize)
     requires { i + 2 < 2 ^ 64 }
 {
     let mut own = [0u8; 65537];
     let mut common = [0u8; 65537];
-    let own_read = files::read_argument(b"corpus_fills", i, &mut own);
+    let own_read = files::read_argument(rt, err, b"corpus_fills", i, &mut own);
     if !own_read.all {
         return;
     }
     let owns = own_read.len;
-    let common_read = files::read_argument(b"corpus_fills", i + 1, &mut common);
+    let common_read = files::read_argument(rt, err, b"corpus_fills", i + 1, &mut common);
     if !common_read.all {
         return;
     }
     let commons = common_read.len;
-    print_named(i + 2, &own[..owns], &common[..commons]);
+    print_named(rt, err, i + 2, &own[..owns], &common[..commons]);
 }
 
-fn main() {
-    let count = os::arg_count();
+fn main(rt: HostRuntime) {
+    let err = rt.stderr();
+    let count = files::arg_count(&rt);
     if count % 3 != 1 {
-        io::write_all(
-            STDERR_FILENO,
+        files::put(
+            &err,
             b"corpus_fills: its arguments come in threes, the own fill book, the common one and the book\n",
         );
         return;
@@ -66,7 +70,7 @@ fn main() {
     let books = count / 3;
     let mut n: usize = 0;
     while n < books {
-        print_with(3 * n + 1);
+        print_with(&rt, &err, 3 * n + 1);
         n += 1;
     }
 }

@@ -4,26 +4,27 @@
 #![tactic(auto)]
 
 use book::counted::Count;
-use libc::STDOUT_FILENO;
+use std::rt::{Env, Files};
 
 // Two figures, each behind its name, and the line's end.
-fn show_figures(first: &[u8], a: u64, second: &[u8], b: u64) {
-    io::write_all(STDOUT_FILENO, first);
-    io::print_decimal(STDOUT_FILENO, a);
-    io::write_all(STDOUT_FILENO, second);
-    io::print_decimal(STDOUT_FILENO, b);
-    io::write_all(STDOUT_FILENO, b"\n");
+fn show_figures(rt: &impl Print, first: &[u8], a: u64, second: &[u8], b: u64) {
+    files::put(rt, first);
+    files::put_number(rt, a);
+    files::put(rt, second);
+    files::put_number(rt, b);
+    files::put(rt, b"\n");
 }
 
-fn show(text: &[u8]) {
+fn show(rt: &impl Print, text: &[u8]) {
     let count = book::count_jobs(text);
     match count {
         Count::Given(n) => {
             let note = book::note_of(text, 1);
-            show_figures(b" jobs ", n as u64, b" note ", note.len() as u64);
+            show_figures(rt, b" jobs ", n as u64, b" note ", note.len() as u64);
         }
         Count::Refused(why, row) => {
             show_figures(
+                rt,
                 b" refused ",
                 rows::refusals::number_of(why) as u64,
                 b" row ",
@@ -34,24 +35,25 @@ fn show(text: &[u8]) {
 }
 
 // The book that an argument names.
-fn show_book(i: usize) {
-    let mut name = io::buffer();
+fn show_book(rt: &(impl Env + Files + Print), err: &impl Print, i: usize) {
+    let mut name = [0u8; 4096];
     let mut text = [0u8; 65537];
-    let read = files::read_argument(b"count_books", i, &mut text);
+    let read = files::read_argument(rt, err, b"count_books", i, &mut text);
     if !read.all {
         return;
     }
     let got = read.len;
-    let len = os::arg(i, &mut name);
-    io::write_all(STDOUT_FILENO, &name[..len]);
-    show(&text[..got]);
+    let len = files::argument(rt, i, &mut name);
+    files::put(rt, &name[..len]);
+    show(rt, &text[..got]);
 }
 
-fn main() {
-    let count = os::arg_count();
+fn main(rt: HostRuntime) {
+    let err = rt.stderr();
+    let count = files::arg_count(&rt);
     let mut i: usize = 1;
     while i < count {
-        show_book(i);
+        show_book(&rt, &err, i);
         i += 1;
     }
 }

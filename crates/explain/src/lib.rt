@@ -1,7 +1,7 @@
 // A refusal in plain words: the row, the line of the text, the column, what stands there and what would be right; and what is odd in jobs that are not
 // refused.
 //
-// Where a refusal lies, and the figures that were compared, are values that other rooms prove; here they become words, on standard output. Which
+// Where a refusal lies, and the figures that were compared, are values that other rooms prove; here they become words, printed to what is lent. Which
 // words these are no contract says: they are tried on stored books.
 #![tactic(auto)]
 
@@ -50,30 +50,30 @@ fn refused_jobs(jobs: [Job; 64], n: usize, values: &[[[u32; 5]; 5]; 64]) -> u64 
 }
 
 // The one line of a book that is not refused.
-fn tell_unrefused(n: usize, refused: u64) {
-    say(b"the book is not refused: ");
-    words::number(n as u64);
+fn tell_unrefused(out: &impl Print, n: usize, refused: u64) {
+    say(out, b"the book is not refused: ");
+    words::number(out, n as u64);
     if n == 1 {
-        say(b" job, ");
+        say(out, b" job, ");
     } else {
-        say(b" jobs, ");
+        say(out, b" jobs, ");
     }
     if refused == 0 {
-        say(b"none refused\n");
+        say(out, b"none refused\n");
         return;
     }
-    words::number(refused);
-    say(b" refused\n");
+    words::number(out, refused);
+    say(out, b" refused\n");
 }
 
 // A job, of which the B row is this row of the book: where its refusal lies, or what is odd in it.
-fn tell_job(book: &[u8], first: usize, held: [[u32; 5]; 5], job: Job) {
+fn tell_job(out: &impl Print, book: &[u8], first: usize, held: [[u32; 5]; 5], job: Job) {
     let fault = job_faults::job_fault(held, job);
     if let JobFault::Sound = fault {
-        warning_words::tell(book, first, job, answer::answer_of(held, job));
+        warning_words::tell(out, book, first, job, answer::answer_of(held, job));
         return;
     }
-    job_words::tell(book, first, job, fault);
+    job_words::tell(out, book, first, job, fault);
 }
 
 // The row behind so many rows from a row on; a book has at most 65,536.
@@ -88,8 +88,14 @@ fn behind(first: usize, rows: usize) -> usize {
 }
 
 // The jobs of a book, with what is held of fills for each.
-fn tell_jobs(book: &[u8], jobs: [Job; 64], n: usize, values: &[[[u32; 5]; 5]; 64]) {
-    tell_unrefused(n, refused_jobs(jobs, n, values));
+fn tell_jobs(
+    out: &impl Print,
+    book: &[u8],
+    jobs: [Job; 64],
+    n: usize,
+    values: &[[[u32; 5]; 5]; 64],
+) {
+    tell_unrefused(out, n, refused_jobs(jobs, n, values));
     let mut first: usize = 1;
     let mut i: usize = 0;
     while i < n {
@@ -98,7 +104,7 @@ fn tell_jobs(book: &[u8], jobs: [Job; 64], n: usize, values: &[[[u32; 5]; 5]; 64
         }
         let held = values[i];
         let job = jobs[i];
-        tell_job(book, first, held, job);
+        tell_job(out, book, first, held, job);
         first = behind(first, job_faults::row_count(job));
         i += 1;
     }
@@ -119,11 +125,11 @@ fn members_of(jobs: [Job; 64]) -> [Name; 64] {
 }
 
 // A book that is not refused: the fill books, own before common, then its jobs.
-fn explain_jobs(book: &[u8], own: &[u8], common: &[u8]) {
-    if fill_words::tell(own, Whose::Own) {
+fn explain_jobs(out: &impl Print, book: &[u8], own: &[u8], common: &[u8]) {
+    if fill_words::tell(out, own, Whose::Own) {
         return;
     }
-    if fill_words::tell(common, Whose::Common) {
+    if fill_words::tell(out, common, Whose::Common) {
         return;
     }
     let read = book::read_book(book);
@@ -136,24 +142,24 @@ fn explain_jobs(book: &[u8], own: &[u8], common: &[u8]) {
     let jobs = read.jobs;
     let members = members_of(jobs);
     fills::values_for(own, common, members, n, &mut values);
-    tell_jobs(book, jobs, n, &values);
+    tell_jobs(out, book, jobs, n, &values);
 }
 
 // A book, with the members' own fill book and the common one: where its refusal lies, or those of its jobs; with `all` every bad row of a book that
 // is RFC 4180.
-pub fn explain(book: &[u8], own: &[u8], common: &[u8], all: bool) {
+pub fn explain(out: &impl Print, book: &[u8], own: &[u8], common: &[u8], all: bool) {
     let fault = book::faults::book_fault(book);
     match fault {
-        BookFault::Sound => explain_jobs(book, own, common),
-        BookFault::TooLong | BookFault::Text(_) => book_words::tell(book, fault),
+        BookFault::Sound => explain_jobs(out, book, own, common),
+        BookFault::TooLong | BookFault::Text(_) => book_words::tell(out, book, fault),
         BookFault::Row(_, _)
         | BookFault::Misplaced(_, _)
         | BookFault::TooManyJobs(_)
         | BookFault::UsedKey(_, _) => {
             if all {
-                all_rows::tell(book);
+                all_rows::tell(out, book);
             } else {
-                book_words::tell(book, fault);
+                book_words::tell(out, book, fault);
             }
         }
     }

@@ -1,67 +1,66 @@
-// What is told, piece by piece, on standard output: words, numbers, a field's bytes, and where a row stands.
+// What is told, piece by piece, to what is lent for printing: words, numbers, a field's bytes, and where a row stands.
 //
 // A field is shown as it lies in the book, and safely: a byte that is not printable by its number, and a long field by its first bytes.
-use libc::STDOUT_FILENO;
 
 // How many bytes of a field are shown.
 const SHOWN: usize = 60;
 
 // Words.
-pub(crate) fn say(words: &[u8]) {
-    io::write_all(STDOUT_FILENO, words);
+pub(crate) fn say(out: &impl Print, words: &[u8]) {
+    files::put(out, words);
 }
 
 // Three digits of a number, behind those before them.
-fn group(n: u64) {
-    say(b",");
+fn group(out: &impl Print, n: u64) {
+    say(out, b",");
     if n < 100 {
-        say(b"0");
+        say(out, b"0");
     }
     if n < 10 {
-        say(b"0");
+        say(out, b"0");
     }
-    io::print_decimal(STDOUT_FILENO, n);
+    files::put_number(out, n);
 }
 
 // A number, its digits in threes.
-pub(crate) fn number(n: u64) {
+pub(crate) fn number(out: &impl Print, n: u64) {
     let thousands = n / 1000;
     let millions = n / 1000000;
     if 0 < millions {
-        io::print_decimal(STDOUT_FILENO, millions);
-        group(thousands % 1000);
-        group(n % 1000);
+        files::put_number(out, millions);
+        group(out, thousands % 1000);
+        group(out, n % 1000);
         return;
     }
     if 0 < thousands {
-        io::print_decimal(STDOUT_FILENO, thousands);
-        group(n % 1000);
+        files::put_number(out, thousands);
+        group(out, n % 1000);
         return;
     }
-    io::print_decimal(STDOUT_FILENO, n);
+    files::put_number(out, n);
 }
 
 // A byte as it is, or by its number where it is not printable.
-pub(crate) fn byte(b: u8) {
+pub(crate) fn byte(out: &impl Print, b: u8) {
     if (0x20 <= b) & (b <= 0x7E) {
         let one = [b; 1];
-        say(&one);
+        say(out, &one);
         return;
     }
-    say(b"<");
-    number(b as u64);
-    say(b">");
+    say(out, b"<");
+    number(out, b as u64);
+    say(out, b">");
 }
 
 // The first bytes of a stretch.
-pub(crate) fn bytes(raw: &[u8]) {
+pub(crate) fn bytes(out: &impl Print, raw: &[u8]) {
     let mut i: usize = 0;
     while i < raw.len() {
         if SHOWN <= i {
-            say(b"..");
+            say(out, b"..");
             return;
         }
-        byte(raw[i]);
+        byte(out, raw[i]);
         i += 1;
     }
 }
@@ -75,71 +74,71 @@ fn is_quoted(raw: &[u8]) -> bool {
 }
 
 // A field as it lies in the book, between quotes: its own, where it has them.
-pub(crate) fn field(raw: &[u8]) {
+pub(crate) fn field(out: &impl Print, raw: &[u8]) {
     if is_quoted(raw) {
-        bytes(raw);
+        bytes(out, raw);
         return;
     }
-    say(b"\"");
-    bytes(raw);
-    say(b"\"");
+    say(out, b"\"");
+    bytes(out, raw);
+    say(out, b"\"");
 }
 
 // What a field of good form says, without its quotes.
-fn content(raw: &[u8]) {
+fn content(out: &impl Print, raw: &[u8]) {
     if raw.len() < 2 {
-        bytes(raw);
+        bytes(out, raw);
         return;
     }
     if raw[0] == 0x22 {
         let end = raw.len() - 1;
-        bytes(&raw[1..end]);
+        bytes(out, &raw[1..end]);
         return;
     }
-    bytes(raw);
+    bytes(out, raw);
 }
 
 // A row as a sheet counts it, and the line on which it begins as an editor counts it.
-pub(crate) fn row(book: &[u8], n: usize) {
+pub(crate) fn row(out: &impl Print, book: &[u8], n: usize) {
     let start = csv_text::places::start_of(book, n);
-    say(b"row ");
-    number(n as u64);
-    say(b" (line ");
-    number(csv_text::places::line_of(book, start) as u64);
-    say(b" of the text)");
+    say(out, b"row ");
+    number(out, n as u64);
+    say(out, b" (line ");
+    number(out, csv_text::places::line_of(book, start) as u64);
+    say(out, b" of the text)");
 }
 
 // Member and job of a row of good form.
-pub(crate) fn key(book: &[u8], n: usize) {
-    content(csv_text::places::cell_of(book, n, 1));
-    say(b",");
-    content(csv_text::places::cell_of(book, n, 2));
+pub(crate) fn key(out: &impl Print, book: &[u8], n: usize) {
+    content(out, csv_text::places::cell_of(book, n, 1));
+    say(out, b",");
+    content(out, csv_text::places::cell_of(book, n, 2));
 }
 
 // A row with its kind and key.
-pub(crate) fn keyed_row(book: &[u8], n: usize) {
-    row(book, n);
-    say(b", ");
-    content(csv_text::places::cell_of(book, n, 3));
-    say(b" of ");
-    key(book, n);
-    say(b"\n");
+pub(crate) fn keyed_row(out: &impl Print, book: &[u8], n: usize) {
+    row(out, book, n);
+    say(out, b", ");
+    content(out, csv_text::places::cell_of(book, n, 3));
+    say(out, b" of ");
+    key(out, book, n);
+    say(out, b"\n");
 }
 
 // How many fields a row has.
-pub(crate) fn fields(count: usize) {
-    say(b" has ");
-    number(count as u64);
+pub(crate) fn fields(out: &impl Print, count: usize) {
+    say(out, b" has ");
+    number(out, count as u64);
     if count == 1 {
-        say(b" field\n");
+        say(out, b" field\n");
         return;
     }
-    say(b" fields\n");
+    say(out, b" fields\n");
 }
 
 // The number of a refusal, behind what is told of it.
-pub(crate) fn refusal(n: u64) {
-    say(b"   [refusal ");
-    number(n);
-    say(b"]\n");
+pub(crate) fn refusal(out: &impl Print, n: u64) {
+    say(out, b"   [refusal ");
+    number(out, n);
+    say(out, b"]\n");
 }

@@ -3,65 +3,81 @@
 // is the common book. With --all it tells every bad row of a book that is RFC 4180. What it says is put into words by `explain`, from proved values.
 #![tactic(auto)]
 
-use libc::{STDERR_FILENO, STDIN_FILENO};
+use std::rt::{Env, Files};
 
 // The book on standard input, with these fill books.
-fn explain_with(own: &[u8], common: &[u8], all: bool) {
+fn explain_with(rt: &(impl Input + Print), err: &impl Print, own: &[u8], common: &[u8], all: bool) {
     let mut text = [0u8; 65537];
-    let got = files::read_open(STDIN_FILENO, &mut text);
+    let mut input = rt.reader();
+    let got = files::read_open(&mut input, &mut text);
     if !got.all {
-        io::write_all(
-            STDERR_FILENO,
+        files::put(
+            err,
             b"explain_book: the book could not be read to its end\n",
         );
         return;
     }
     let len = got.len;
-    explain::explain(&text[..len], own, common, all);
+    explain::explain(rt, &text[..len], own, common, all);
 }
 
 // With this own book, and the common book that an argument names, or Table 2.
-fn with_own(own: &[u8], common: usize, count: usize, all: bool) {
+fn with_own(
+    rt: &(impl Env + Files + Input + Print),
+    err: &impl Print,
+    own: &[u8],
+    common: usize,
+    count: usize,
+    all: bool,
+) {
     if count <= common {
         let table2 = fills::table2_book::bytes();
-        explain_with(own, &table2, all);
+        explain_with(rt, err, own, &table2, all);
         return;
     }
     let mut text = [0u8; 65537];
-    let got = files::read_argument(b"explain_book", common, &mut text);
+    let got = files::read_argument(rt, err, b"explain_book", common, &mut text);
     if !got.all {
         return;
     }
     let len = got.len;
-    explain_with(own, &text[..len], all);
+    explain_with(rt, err, own, &text[..len], all);
 }
 
 // With the fill books that the arguments at these places name, where there are so many arguments; one more than these is too many.
-fn with_books(own: usize, common: usize, most: usize, count: usize, all: bool) {
+fn with_books(
+    rt: &(impl Env + Files + Input + Print),
+    err: &impl Print,
+    own: usize,
+    common: usize,
+    most: usize,
+    count: usize,
+    all: bool,
+) {
     if most < count {
-        io::write_all(
-            STDERR_FILENO,
+        files::put(
+            err,
             b"explain_book: it takes --all, and at most two files, the own and the common fill book, and reads a book from standard input\n",
         );
         return;
     }
     let mut text = [0u8; 65537];
     if count <= own {
-        with_own(&text[..0], common, count, all);
+        with_own(rt, err, &text[..0], common, count, all);
         return;
     }
-    let got = files::read_argument(b"explain_book", own, &mut text);
+    let got = files::read_argument(rt, err, b"explain_book", own, &mut text);
     if !got.all {
         return;
     }
     let len = got.len;
-    with_own(&text[..len], common, count, all);
+    with_own(rt, err, &text[..len], common, count, all);
 }
 
 // Whether the first argument is --all.
-fn wants_all() -> bool {
-    let mut text = io::buffer();
-    let len = os::arg(1, &mut text);
+fn wants_all(rt: &impl Env) -> bool {
+    let mut text = [0u8; 4096];
+    let len = files::argument(rt, 1, &mut text);
     if len != 5 {
         return false;
     }
@@ -72,13 +88,14 @@ fn wants_all() -> bool {
         & (text[4] == b'l')
 }
 
-fn main() {
-    let count = os::arg_count();
+fn main(rt: HostRuntime) {
+    let err = rt.stderr();
+    let count = files::arg_count(&rt);
     if 1 < count {
-        if wants_all() {
-            with_books(2, 3, 4, count, true);
+        if wants_all(&rt) {
+            with_books(&rt, &err, 2, 3, 4, count, true);
             return;
         }
     }
-    with_books(1, 2, 3, count, false);
+    with_books(&rt, &err, 1, 2, 3, count, false);
 }

@@ -4,12 +4,10 @@
 ghost use Rattle.std.specs.Prelude.{◌≡◌};
 ghost use Rattle.figures_run.specs.steps.Asked.{agreeing};
 
-use libc::STDOUT_FILENO;
-
 // Words, and the number that they end with.
-pub(crate) fn write(words: &[u8], number: u64) {
-    io::write_all(STDOUT_FILENO, words);
-    io::print_decimal(STDOUT_FILENO, number);
+pub(crate) fn write(rt: &impl Print, words: &[u8], number: u64) {
+    files::put(rt, words);
+    files::put_number(rt, number);
 }
 
 // How many figures agree, with one more where what came is what it should be.
@@ -23,26 +21,48 @@ pub(crate) fn counted(agree: u64, came: u64, says: u64) -> u64
 }
 
 // The line of a figure, by the words and the number that ask for it, and by the words of who says what it should be.
-fn told(agree: u64, words: &[u8], number: u64, came: u64, whose: &[u8], says: u64) -> u64
+fn told(
+    rt: &impl Print,
+    agree: u64,
+    words: &[u8],
+    number: u64,
+    came: u64,
+    whose: &[u8],
+    says: u64,
+) -> u64
     ensures { result ≡ agreeing agree came says }
 {
-    write(words, number);
-    write(b" came ", came);
-    write(whose, says);
-    io::write_all(STDOUT_FILENO, b"\n");
+    write(rt, words, number);
+    write(rt, b" came ", came);
+    write(rt, whose, says);
+    files::put(rt, b"\n");
     counted(agree, came, says)
 }
 
 // The line of a figure of 01.
-pub(crate) fn figure(agree: u64, words: &[u8], number: u64, came: u64, says: u64) -> u64
+pub(crate) fn figure(
+    rt: &impl Print,
+    agree: u64,
+    words: &[u8],
+    number: u64,
+    came: u64,
+    says: u64,
+) -> u64
     ensures { result ≡ agreeing agree came says }
 {
-    told(agree, words, number, came, b", 01 says ", says)
+    told(rt, agree, words, number, came, b", 01 says ", says)
 }
 
 // The line of a figure of 02, which docs/DECISIONS.md works out by hand.
-pub(crate) fn worked(agree: u64, words: &[u8], number: u64, came: u64, says: u64) -> u64
+pub(crate) fn worked(
+    rt: &impl Print,
+    agree: u64,
+    words: &[u8],
+    number: u64,
+    came: u64,
+    says: u64,
+) -> u64
     ensures { result ≡ agreeing agree came says }
 {
-    told(agree, words, number, came, b", by hand ", says)
+    told(rt, agree, words, number, came, b", by hand ", says)
 }

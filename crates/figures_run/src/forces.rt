@@ -40,18 +40,19 @@ fn row(a: u32, b: u32, c: u32, d: u32) -> Numbers {
 }
 
 // The thrust and the height of a fill of soil a, level; no line where it is refused.
-fn pushed(agree: u64) -> u64 {
+fn pushed(rt: &impl Print, agree: u64) -> u64 {
     match earth::pressure(TABLE2, row(1, 1, 6000, 8000)) {
         EarthAnswer::OutOfRange | EarthAnswer::NoCoefficient => agree,
         EarthAnswer::Push { thrust, arm } => {
             let next = crate::asked::figure(
+                rt,
                 agree,
                 b"H of soil a, level, 6000 by ",
                 8000,
                 thrust,
                 664,
             );
-            crate::asked::figure(next, b"y of the same, 6000 by ", 8000, arm, 2000)
+            crate::asked::figure(rt, next, b"y of the same, 6000 by ", 8000, arm, 2000)
         }
     }
 }
@@ -99,9 +100,10 @@ fn figure_of_row(check: Check, numbers: Numbers) -> u64 {
     figure_number(checks::set_figures::figure_of(check, example_base(), loads, 1))
 }
 
-fn overturning(agree: u64, y: u32, says: u64) -> u64 {
+fn overturning(rt: &impl Print, agree: u64, y: u32, says: u64) -> u64 {
     let came = figure_of_row(Check::OP, row(1000, 0, 100, y));
     crate::asked::figure(
+        rt,
         agree,
         b"OP on B 4000 of V 1000, x 0, H 100, y ",
         y as u64,
@@ -111,16 +113,21 @@ fn overturning(agree: u64, y: u32, says: u64) -> u64 {
 }
 
 // PR on that base of a row of V, and of an H at 1,000 mm that makes M.
-fn pressed(agree: u64, words: &[u8], v: u32, h: u32, says: u64) -> u64 {
+fn pressed(rt: &impl Print, agree: u64, words: &[u8], v: u32, h: u32, says: u64) -> u64 {
     let numbers = row(v, 0, h, 1000);
     let totals = sums::set_sums::totals_of(4000, loads_of_row(numbers), 1);
     let came = figure_of_row(Check::PR, numbers);
-    crate::asked::figure(agree, words, totals.m.size, came, says)
+    crate::asked::figure(rt, agree, words, totals.m.size, came, says)
 }
 
 // Earth pressure, OP and PR, figure by figure: how many agree.
-pub(crate) fn borne(agree: u64) -> u64 {
-    let a = overturning(overturning(pushed(agree), 10_000, 200), 10_001, 199);
-    let b = pressed(a, b"PR on B 4000, L 8000 of N 1000, M ", 1000, 1000, 84);
-    pressed(b, b"PR on the same of N 900, M ", 900, 600, 57)
+pub(crate) fn borne(rt: &impl Print, agree: u64) -> u64 {
+    let a = overturning(
+        rt,
+        overturning(rt, pushed(rt, agree), 10_000, 200),
+        10_001,
+        199,
+    );
+    let b = pressed(rt, a, b"PR on B 4000, L 8000 of N 1000, M ", 1000, 1000, 84);
+    pressed(rt, b, b"PR on the same of N 900, M ", 900, 600, 57)
 }

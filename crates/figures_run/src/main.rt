@@ -11,18 +11,17 @@ mod surcharges;
 ghost use Rattle.std.specs.Prelude.{◌≤◌};
 
 use kinds::Numbers;
-use libc::{STDERR_FILENO, STDOUT_FILENO};
 use scour::ScourAnswer;
 
-fn discharged(agree: u64, catchment: u64, says: u64) -> u64
+fn discharged(rt: &impl Print, agree: u64, catchment: u64, says: u64) -> u64
     requires { catchment ≤ 25000 }
 {
     let came = scour::discharge::foundation_discharge(1_000_000, catchment);
-    asked::figure(agree, b"Qf of Q 1000000, Z ", catchment, came, says)
+    asked::figure(rt, agree, b"Qf of Q 1000000, Z ", catchment, came, says)
 }
 
 // The number of an S row's refusal, and 0 where it is not refused.
-fn catchment_refused(agree: u64, catchment: u32, says: u64) -> u64 {
+fn catchment_refused(rt: &impl Print, agree: u64, catchment: u32, says: u64) -> u64 {
     let answer = scour::scour(Numbers {
         n1: forces::filled(1_000_000),
         n2: forces::filled(catchment),
@@ -38,6 +37,7 @@ fn catchment_refused(agree: u64, catchment: u32, says: u64) -> u64 {
         ScourAnswer::Needed(_) => 0,
     };
     asked::figure(
+        rt,
         agree,
         b"refusal of Q 1000000, Z ",
         catchment as u64,
@@ -47,12 +47,13 @@ fn catchment_refused(agree: u64, catchment: u32, says: u64) -> u64 {
 }
 
 // 1 where the regime width is met, and 0 where it is not.
-fn wide(agree: u64, waterway: u64, says: u64) -> u64
+fn wide(rt: &impl Print, agree: u64, waterway: u64, says: u64) -> u64
     requires { waterway ≤ 1300000 }
 {
     let met = scour::lacey::meets_regime(1_000_000, waterway);
     let came = if met { 1 } else { 0 };
     asked::figure(
+        rt,
         agree,
         b"regime width of Q 1000000, met (1) or not (0), W ",
         waterway,
@@ -61,25 +62,33 @@ fn wide(agree: u64, waterway: u64, says: u64) -> u64
     )
 }
 
-fn regime(agree: u64) -> u64 {
+fn regime(rt: &impl Print, agree: u64) -> u64 {
     let depth = scour::lacey::regime_depth(1_300_000, 1000).value;
-    let next = asked::figure(agree, b"D of Qf 1300000, f ", 1000, depth, 5163);
+    let next = asked::figure(rt, agree, b"D of Qf 1300000, f ", 1000, depth, 5163);
     let needed = scour::lacey::depth_needed(depth, 4).value;
-    asked::figure(next, b"depth needed of that D, reach ", 4, needed, 13_734)
+    asked::figure(
+        rt,
+        next,
+        b"depth needed of that D, reach ",
+        4,
+        needed,
+        13_734,
+    )
 }
 
-fn constricted(agree: u64, q: u64, says: u64) -> u64
+fn constricted(rt: &impl Print, agree: u64, q: u64, says: u64) -> u64
     requires { q ≤ 50000 }
 {
     let came = scour::lacey::constricted_depth(q, 1000).value;
-    asked::figure(agree, b"D of f 1000, q ", q, came, says)
+    asked::figure(rt, agree, b"D of f 1000, q ", q, came, says)
 }
 
-fn raised(agree: u64, obstructed: u64, says: u64) -> u64
+fn raised(rt: &impl Print, agree: u64, obstructed: u64, says: u64) -> u64
     requires { (1 ≤ obstructed) × (obstructed ≤ 1200) }
 {
     let came = clearance::afflux::afflux(3000, 1200, obstructed).value;
     asked::figure(
+        rt,
         agree,
         b"afflux of v 3000, A 1200, a ",
         obstructed,
@@ -88,27 +97,35 @@ fn raised(agree: u64, obstructed: u64, says: u64) -> u64
     )
 }
 
-fn cleared(agree: u64, q: u64, says: u64) -> u64 {
+fn cleared(rt: &impl Print, agree: u64, q: u64, says: u64) -> u64 {
     let came = clearance::afflux::clearance_needed(q);
-    asked::figure(agree, b"clearance needed of Q ", q, came, says)
+    asked::figure(rt, agree, b"clearance needed of Q ", q, came, says)
 }
 
-fn scoured() -> u64 {
-    let a = discharged(0, 500, 1_300_000);
-    let b = discharged(a, 5000, 1_200_000);
-    let c = catchment_refused(discharged(b, 25_000, 1_100_000), 25_001, 12);
-    let d = wide(wide(c, 152_908, 1), 152_907, 0);
-    constricted(constricted(regime(d), 8000, 5352), 8001, 5353)
+fn scoured(rt: &impl Print) -> u64 {
+    let a = discharged(rt, 0, 500, 1_300_000);
+    let b = discharged(rt, a, 5000, 1_200_000);
+    let c = catchment_refused(rt, discharged(rt, b, 25_000, 1_100_000), 25_001, 12);
+    let d = wide(rt, wide(rt, c, 152_908, 1), 152_907, 0);
+    constricted(rt, constricted(rt, regime(rt, d), 8000, 5352), 8001, 5353)
 }
 
-fn main() {
-    if os::arg_count() > 1 {
-        io::write_all(STDERR_FILENO, b"figures_run: it takes no argument\n");
+fn main(rt: HostRuntime) {
+    if files::arg_count(&rt) > 1 {
+        files::put(&rt.stderr(), b"figures_run: it takes no argument\n");
         return;
     }
-    let a = forces::borne(raised(raised(scoured(), 1000, 229), 1200, 0));
-    let b = cleared(cleared(cleared(a, 30_000, 600), 30_001, 601), 300_001, 1500);
-    let c = surcharges::laden(currents::washed(b));
-    io::print_decimal(STDOUT_FILENO, c);
-    io::write_all(STDOUT_FILENO, b" of 68 figures agree\n");
+    let a = forces::borne(
+        &rt,
+        raised(&rt, raised(&rt, scoured(&rt), 1000, 229), 1200, 0),
+    );
+    let b = cleared(
+        &rt,
+        cleared(&rt, cleared(&rt, a, 30_000, 600), 30_001, 601),
+        300_001,
+        1500,
+    );
+    let c = surcharges::laden(&rt, currents::washed(&rt, b));
+    files::put_number(&rt, c);
+    files::put(&rt, b" of 68 figures agree\n");
 }

@@ -5,7 +5,6 @@ ghost use Rattle.std.specs.Prelude.{◌<◌};
 
 use crate::{asked, forces};
 use kinds::Numbers;
-use libc::STDOUT_FILENO;
 use surcharge::{Part, Parts, SurchargeAnswer};
 
 // How many rows there are.
@@ -105,29 +104,29 @@ fn by_hand(i: usize) -> Parts
 }
 
 // Words, and the four figures of a row behind them.
-fn write_parts(words: &[u8], parts: Parts) {
+fn write_parts(rt: &impl Print, words: &[u8], parts: Parts) {
     let first = parts.first;
     let second = parts.second;
-    asked::write(words, first.force);
-    asked::write(b" ", first.arm);
-    asked::write(b" ", second.force);
-    asked::write(b" ", second.arm);
+    asked::write(rt, words, first.force);
+    asked::write(rt, b" ", first.arm);
+    asked::write(rt, b" ", second.force);
+    asked::write(rt, b" ", second.arm);
 }
 
 // The line of a row: how many agree, with one more where all four figures are what they should be.
-fn told(agree: u64, i: usize) -> u64
+fn told(rt: &impl Print, agree: u64, i: usize) -> u64
     requires { i < 30 }
 {
-    asked::write(b"G ", number(i, 0) as u64);
-    asked::write(b" ", number(i, 1) as u64);
-    asked::write(b" ", number(i, 2) as u64);
-    asked::write(b" ", number(i, 3) as u64);
-    asked::write(b" ", number(i, 4) as u64);
+    asked::write(rt, b"G ", number(i, 0) as u64);
+    asked::write(rt, b" ", number(i, 1) as u64);
+    asked::write(rt, b" ", number(i, 2) as u64);
+    asked::write(rt, b" ", number(i, 3) as u64);
+    asked::write(rt, b" ", number(i, 4) as u64);
     let parts = came(i);
     let hand = by_hand(i);
-    write_parts(b" came ", parts);
-    write_parts(b", by hand ", hand);
-    io::write_all(STDOUT_FILENO, b"\n");
+    write_parts(rt, b" came ", parts);
+    write_parts(rt, b", by hand ", hand);
+    files::put(rt, b"\n");
     let first = parts.first;
     let second = parts.second;
     let one = hand.first;
@@ -139,11 +138,11 @@ fn told(agree: u64, i: usize) -> u64
 }
 
 // Surcharge, row by row: how many agree.
-pub(crate) fn laden(agree: u64) -> u64 {
+pub(crate) fn laden(rt: &impl Print, agree: u64) -> u64 {
     let mut count = agree;
     let mut i: usize = 0;
     while i < COUNT {
-        count = told(count, i);
+        count = told(rt, count, i);
         i = i + 1;
     }
     count

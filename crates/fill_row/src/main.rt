@@ -6,7 +6,7 @@
 
 use fields::Entered;
 use fills::lookup::Place;
-use libc::{STDERR_FILENO, STDOUT_FILENO};
+use std::rt::{Env, Files};
 
 // Whether both fill books are accepted.
 fn are_accepted(own: &[u8], common: &[u8]) -> bool {
@@ -18,32 +18,40 @@ fn are_accepted(own: &[u8], common: &[u8]) -> bool {
 }
 
 // Prints the row that counts, behind the book that it lies in.
-fn print_row<'a>(own: &'a [u8], common: &'a [u8], member: &[u8], soil: u32, slope: u32) {
+fn print_row<'a>(
+    rt: &impl Print,
+    err: &impl Print,
+    own: &'a [u8],
+    common: &'a [u8],
+    member: &[u8],
+    soil: u32,
+    slope: u32,
+) {
     if !are_accepted(own, common) {
-        io::write_all(STDERR_FILENO, b"fill_row: a fill book is refused (8)\n");
+        files::put(err, b"fill_row: a fill book is refused (8)\n");
         return;
     }
     let place = fills::lookup::place_of(own, common, member, soil, slope);
     match place {
         Place::Own { from: _, to: _ } => {
-            io::write_all(STDOUT_FILENO, b"own: ");
+            files::put(rt, b"own: ");
         }
         Place::Common { from: _, to: _ } => {
-            io::write_all(STDOUT_FILENO, b"common: ");
+            files::put(rt, b"common: ");
         }
         Place::Nowhere => {
-            io::write_all(STDOUT_FILENO, b"none");
+            files::put(rt, b"none");
         }
     }
     let row = fills::lookup::row_of(own, common, member, soil, slope);
-    io::write_all(STDOUT_FILENO, row);
-    io::write_all(STDOUT_FILENO, b"\r\n");
+    files::put(rt, row);
+    files::put(rt, b"\r\n");
 }
 
 // The soil or slope that an argument is; or 0, where it is none.
-fn number_of(i: usize) -> u32 {
-    let mut text = io::buffer();
-    let len = os::arg(i, &mut text);
+fn number_of(rt: &impl Env, i: usize) -> u32 {
+    let mut text = [0u8; 4096];
+    let len = files::argument(rt, i, &mut text);
     let Entered::Is(entry) = fields::number_at(&text[..len]) else {
         return 0;
     };
@@ -54,55 +62,56 @@ fn number_of(i: usize) -> u32 {
 }
 
 // The row of what the first three arguments name, in these books.
-fn look_up<'a>(own: &'a [u8], common: &'a [u8]) {
-    let soil = number_of(2);
-    let slope = number_of(3);
+fn look_up<'a>(rt: &(impl Env + Print), err: &impl Print, own: &'a [u8], common: &'a [u8]) {
+    let soil = number_of(rt, 2);
+    let slope = number_of(rt, 3);
     if (soil == 0) | (slope == 0) {
-        io::write_all(
-            STDERR_FILENO,
+        files::put(
+            err,
             b"fill_row: soil and slope are whole numbers from 1 to 5\n",
         );
         return;
     }
-    let mut member = io::buffer();
-    let len = os::arg(1, &mut member);
-    print_row(own, common, &member[..len], soil, slope);
+    let mut member = [0u8; 4096];
+    let len = files::argument(rt, 1, &mut member);
+    print_row(rt, err, own, common, &member[..len], soil, slope);
 }
 
 // With this own book, and the common book that the fifth argument names, or Table 2.
-fn look_up_with(own: &[u8], count: usize) {
+fn look_up_with(rt: &(impl Env + Files + Print), err: &impl Print, own: &[u8], count: usize) {
     if count < 6 {
         let table2 = fills::table2_book::bytes();
-        look_up(own, &table2);
+        look_up(rt, err, own, &table2);
         return;
     }
     let mut text = [0u8; 65537];
-    let got = files::read_argument(b"fill_row", 5, &mut text);
+    let got = files::read_argument(rt, err, b"fill_row", 5, &mut text);
     if !got.all {
         return;
     }
     let len = got.len;
-    look_up(own, &text[..len]);
+    look_up(rt, err, own, &text[..len]);
 }
 
-fn main() {
-    let count = os::arg_count();
+fn main(rt: HostRuntime) {
+    let err = rt.stderr();
+    let count = files::arg_count(&rt);
     if (count < 4) | (6 < count) {
-        io::write_all(
-            STDERR_FILENO,
+        files::put(
+            &err,
             b"fill_row: it takes a member, a soil and a slope, and then, if there are any, the files of the own and the common fill book\n",
         );
         return;
     }
     let mut text = [0u8; 65537];
     if count < 5 {
-        look_up_with(&text[..0], count);
+        look_up_with(&rt, &err, &text[..0], count);
         return;
     }
-    let got = files::read_argument(b"fill_row", 4, &mut text);
+    let got = files::read_argument(&rt, &err, b"fill_row", 4, &mut text);
     if !got.all {
         return;
     }
     let len = got.len;
-    look_up_with(&text[..len], count);
+    look_up_with(&rt, &err, &text[..len], count);
 }

@@ -6,7 +6,6 @@
 use csv_text::cells::Cells;
 use fields::Entered;
 use fills::lookup::Place;
-use libc::{STDERR_FILENO, STDIN_FILENO, STDOUT_FILENO};
 
 // The number that a field is; or one that is no soil and no slope.
 fn number_of(raw: &[u8]) -> u32 {
@@ -20,34 +19,41 @@ fn number_of(raw: &[u8]) -> u32 {
 }
 
 // The book that holds the row, and where the row starts in it.
-fn put_place(book: &[u8], from: usize) {
-    io::write_all(STDOUT_FILENO, book);
-    io::write_all(STDOUT_FILENO, b",");
-    io::print_decimal(STDOUT_FILENO, from as u64);
-    io::write_all(STDOUT_FILENO, b",");
+fn put_place(rt: &impl Print, book: &[u8], from: usize) {
+    files::put(rt, book);
+    files::put(rt, b",");
+    files::put_number(rt, from as u64);
+    files::put(rt, b",");
 }
 
 // The row in hex. A book that is read has at most 65,536 bytes, and so has a row.
-fn put_row(row: &[u8]) {
+fn put_row(rt: &impl Print, row: &[u8]) {
     let mut digits = [0u8; 131072];
     let len = hex_text::encode(row, &mut digits);
-    io::write_all(STDOUT_FILENO, &digits[..len]);
+    files::put(rt, &digits[..len]);
 }
 
 // One lookup.
-fn look_up<'a>(own: &'a [u8], common: &'a [u8], member: &[u8], soil: u32, slope: u32) {
+fn look_up<'a>(
+    rt: &impl Print,
+    own: &'a [u8],
+    common: &'a [u8],
+    member: &[u8],
+    soil: u32,
+    slope: u32,
+) {
     let place = fills::lookup::place_of(own, common, member, soil, slope);
     match place {
-        Place::Own { from, to: _ } => put_place(b"own", from),
-        Place::Common { from, to: _ } => put_place(b"common", from),
-        Place::Nowhere => put_place(b"none", 0),
+        Place::Own { from, to: _ } => put_place(rt, b"own", from),
+        Place::Common { from, to: _ } => put_place(rt, b"common", from),
+        Place::Nowhere => put_place(rt, b"none", 0),
     }
-    put_row(fills::lookup::row_of(own, common, member, soil, slope));
-    io::write_all(STDOUT_FILENO, b"\r\n");
+    put_row(rt, fills::lookup::row_of(own, common, member, soil, slope));
+    files::put(rt, b"\r\n");
 }
 
 // The lookup of a row.
-fn look_up_row(s: &[u8], cells: Cells) {
+fn look_up_row(rt: &impl Print, s: &[u8], cells: Cells) {
     let mut own = [0u8; 65537];
     let mut common = [0u8; 65537];
     let owns = hex_text::decode(csv_text::cells::cell(s, cells, 0), &mut own);
@@ -55,28 +61,27 @@ fn look_up_row(s: &[u8], cells: Cells) {
     let soil = number_of(csv_text::cells::cell(s, cells, 3));
     let slope = number_of(csv_text::cells::cell(s, cells, 4));
     let member = csv_text::cells::cell(s, cells, 2);
-    look_up(&own[0..owns], &common[0..commons], member, soil, slope);
+    look_up(rt, &own[0..owns], &common[0..commons], member, soil, slope);
 }
 
 // Each row of a comma-separated text.
-fn look_up_all(s: &[u8]) {
+fn look_up_all(rt: &impl Print, err: &impl Print, s: &[u8]) {
     if !csv_text::is_csv(s) {
-        io::write_all(
-            STDERR_FILENO,
-            b"lookup_run: the list is not comma-separated\n",
-        );
+        files::put(err, b"lookup_run: the list is not comma-separated\n");
         return;
     }
     let mut at: usize = 0;
     while at < s.len() {
         let cells = csv_text::cells::cells_at(s, at);
-        look_up_row(s, cells);
+        look_up_row(rt, s, cells);
         at = cells.next;
     }
 }
 
-fn main() {
+fn main(rt: HostRuntime) {
+    let err = rt.stderr();
     let mut list = [0u8; 262144];
-    let len = io::read_full(STDIN_FILENO, &mut list);
-    look_up_all(&list[..len]);
+    let mut input = rt.reader();
+    let len = files::read_full(&mut input, &mut list);
+    look_up_all(&rt, &err, &list[..len]);
 }

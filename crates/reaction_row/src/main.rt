@@ -3,8 +3,8 @@
 // arguments that are missing or too many, and an input that cannot be read to its end. Nothing is printed then.
 #![tactic(auto)]
 
-use libc::{STDERR_FILENO, STDIN_FILENO, STDOUT_FILENO};
 use reactions::RowWritten;
+use std::rt::Env;
 
 // A phase that no row has.
 const NO_PHASE: u32 = 255;
@@ -24,65 +24,78 @@ fn phase_of(text: &[u8]) -> u32 {
 }
 
 // Tells a refusal.
-fn refuse(words: &[u8]) {
-    io::write_all(STDERR_FILENO, b"reaction_row: refused ");
-    io::write_all(STDERR_FILENO, words);
+fn refuse(err: &impl Print, words: &[u8]) {
+    files::put(err, b"reaction_row: refused ");
+    files::put(err, words);
 }
 
 // Tells what is wrong with what is asked, the record or its numbers.
-fn tell(written: RowWritten) {
+fn tell(err: &impl Print, written: RowWritten) {
     match written {
         RowWritten::Length(_) => {}
         RowWritten::NoRow => refuse(
+            err,
             b"(26): member and job are 1 to 12 of A-Z, 0-9 and hyphen, the kind is DL, EP, LL, WC, BU, TM, EX, WL or SF, and the phase is 0, 1 or 2\n",
         ),
         RowWritten::NoRecord => refuse(
+            err,
             b"(21): standard input is not exactly one record of 40 to 72 bytes, or a load has an unknown case\n",
         ),
         RowWritten::NotFinite => {
-            refuse(b"(22): a number, or the product of a load, is not finite\n")
+            refuse(
+                err,
+                b"(22): a number, or the product of a load, is not finite\n",
+            )
         }
         RowWritten::OutOfRange => refuse(
+            err,
             b"(23): V or H is outside -50,000 to 50,000 kN, x outside -30,000 to 30,000 mm, or y outside 0 to 60,000 mm, after rounding\n",
         ),
-        RowWritten::TooShort => refuse(b"(27): the buffer is shorter than the row\n"),
+        RowWritten::TooShort => refuse(err, b"(27): the buffer is shorter than the row\n"),
     }
 }
 
 // Prints a row; where it cannot be written, that is told.
-fn print_row(row: &[u8]) {
-    if !io::write_all(STDOUT_FILENO, row) {
-        io::write_all(
-            STDERR_FILENO,
-            b"reaction_row: the row could not be written\n",
-        );
+fn print_row(rt: &impl Print, err: &impl Print, row: &[u8]) {
+    if !files::put(rt, row) {
+        files::put(err, b"reaction_row: the row could not be written\n");
     }
 }
 
 // Prints the row of a record, or tells the refusal.
-fn react(member: &[u8], job: &[u8], kind: &[u8], phase: u32, sent: &[u8]) {
+fn react(
+    rt: &impl Print,
+    err: &impl Print,
+    member: &[u8],
+    job: &[u8],
+    kind: &[u8],
+    phase: u32,
+    sent: &[u8],
+) {
     // a row has at most 61 bytes
     let mut row = [0u8; 64];
     let written = reactions::reaction_row(member, job, kind, phase, sent, &mut row);
     if let RowWritten::Length(len) = written {
-        print_row(&row[..len]);
+        print_row(rt, err, &row[..len]);
         return;
     }
-    tell(written);
+    tell(err, written);
 }
 
 // The row of a record with what the arguments are. One that is longer than its buffer counts as empty, so that no name is cut.
-fn react_as_asked(sent: &[u8]) {
-    let mut member = io::buffer();
-    let members = os::arg(1, &mut member);
-    let mut job = io::buffer();
-    let jobs = os::arg(2, &mut job);
-    let mut kind = io::buffer();
-    let kinds = os::arg(3, &mut kind);
-    let mut phase = io::buffer();
-    let phases = os::arg(4, &mut phase);
+fn react_as_asked(rt: &(impl Env + Print), err: &impl Print, sent: &[u8]) {
+    let mut member = [0u8; 4096];
+    let members = files::argument(rt, 1, &mut member);
+    let mut job = [0u8; 4096];
+    let jobs = files::argument(rt, 2, &mut job);
+    let mut kind = [0u8; 4096];
+    let kinds = files::argument(rt, 3, &mut kind);
+    let mut phase = [0u8; 4096];
+    let phases = files::argument(rt, 4, &mut phase);
     let number = phase_of(&phase[..phases]);
     react(
+        rt,
+        err,
         &member[..members],
         &job[..jobs],
         &kind[..kinds],
@@ -91,23 +104,25 @@ fn react_as_asked(sent: &[u8]) {
     );
 }
 
-fn main() {
-    if os::arg_count() != 5 {
-        io::write_all(
-            STDERR_FILENO,
+fn main(rt: HostRuntime) {
+    let err = rt.stderr();
+    if files::arg_count(&rt) != 5 {
+        files::put(
+            &err,
             b"reaction_row: it takes a member, a job, a kind and a phase, and reads a record from standard input\n",
         );
         return;
     }
     let mut text = [0u8; 65537];
-    let got = files::read_open(STDIN_FILENO, &mut text);
+    let mut input = rt.reader();
+    let got = files::read_open(&mut input, &mut text);
     if !got.all {
-        io::write_all(
-            STDERR_FILENO,
+        files::put(
+            &err,
             b"reaction_row: the record could not be read to its end\n",
         );
         return;
     }
     let len = got.len;
-    react_as_asked(&text[..len]);
+    react_as_asked(&rt, &err, &text[..len]);
 }

@@ -6,7 +6,6 @@
 
 use csv_text::cells::Cells;
 use fields::Entered;
-use libc::{STDERR_FILENO, STDIN_FILENO, STDOUT_FILENO};
 use reactions::RowWritten;
 
 // What each byte of the buffer is before a call.
@@ -59,39 +58,47 @@ fn length_of(written: RowWritten) -> usize {
 }
 
 // Bytes in hex, of a buffer of at most 200.
-fn put_hex(bytes: &[u8]) {
+fn put_hex(rt: &impl Print, bytes: &[u8]) {
     let mut digits = [0u8; 400];
     let len = hex_text::encode(bytes, &mut digits);
-    io::write_all(STDOUT_FILENO, &digits[..len]);
+    files::put(rt, &digits[..len]);
 }
 
 // The bytes that were written, in hex; or that a byte behind them is another than it was.
-fn put_row(out: &[u8], len: usize) {
+fn put_row(rt: &impl Print, out: &[u8], len: usize) {
     if len <= out.len() {
         if is_untouched(out, len) {
-            put_hex(&out[..len]);
+            put_hex(rt, &out[..len]);
             return;
         }
     }
-    io::write_all(STDOUT_FILENO, b"touched");
+    files::put(rt, b"touched");
 }
 
 // What a call was told, and what it wrote to the buffer.
-fn put_written(written: RowWritten, out: &[u8]) {
-    io::print_decimal(STDOUT_FILENO, refusal_of(written));
-    io::write_all(STDOUT_FILENO, b",");
-    put_row(out, length_of(written));
-    io::write_all(STDOUT_FILENO, b"\r\n");
+fn put_written(rt: &impl Print, written: RowWritten, out: &[u8]) {
+    files::put_number(rt, refusal_of(written));
+    files::put(rt, b",");
+    put_row(rt, out, length_of(written));
+    files::put(rt, b"\r\n");
 }
 
 // A call with a lent buffer.
-fn run(member: &[u8], job: &[u8], kind: &[u8], phase: u32, sent: &[u8], out: &mut [u8]) {
+fn run(
+    rt: &impl Print,
+    member: &[u8],
+    job: &[u8],
+    kind: &[u8],
+    phase: u32,
+    sent: &[u8],
+    out: &mut [u8],
+) {
     let written = reactions::reaction_row(member, job, kind, phase, sent, out);
-    put_written(written, out);
+    put_written(rt, written, out);
 }
 
 // The call of a row of the list. A record of more than 512 bytes is cut there, and is none either way; a buffer has at most 200.
-fn run_row(s: &[u8], cells: Cells) {
+fn run_row(rt: &impl Print, s: &[u8], cells: Cells) {
     let member = csv_text::cells::cell(s, cells, 0);
     let job = csv_text::cells::cell(s, cells, 1);
     let kind = csv_text::cells::cell(s, cells, 2);
@@ -100,29 +107,28 @@ fn run_row(s: &[u8], cells: Cells) {
     let mut sent = [0u8; 512];
     let len = hex_text::decode(csv_text::cells::cell(s, cells, 5), &mut sent);
     let mut out = [UNTOUCHED; 200];
-    let room = io::count(length as isize, &out);
-    run(member, job, kind, phase, &sent[..len], &mut out[..room]);
+    let room = (length as usize).min(200);
+    run(rt, member, job, kind, phase, &sent[..len], &mut out[..room]);
 }
 
 // Each row of a comma-separated text.
-fn run_all(s: &[u8]) {
+fn run_all(rt: &impl Print, err: &impl Print, s: &[u8]) {
     if !csv_text::is_csv(s) {
-        io::write_all(
-            STDERR_FILENO,
-            b"records_run: the list is not comma-separated\n",
-        );
+        files::put(err, b"records_run: the list is not comma-separated\n");
         return;
     }
     let mut at: usize = 0;
     while at < s.len() {
         let cells = csv_text::cells::cells_at(s, at);
-        run_row(s, cells);
+        run_row(rt, s, cells);
         at = cells.next;
     }
 }
 
-fn main() {
+fn main(rt: HostRuntime) {
+    let err = rt.stderr();
     let mut list = [0u8; 262144];
-    let len = io::read_full(STDIN_FILENO, &mut list);
-    run_all(&list[..len]);
+    let mut input = rt.reader();
+    let len = files::read_full(&mut input, &mut list);
+    run_all(&rt, &err, &list[..len]);
 }
