@@ -107,7 +107,7 @@ fn row_of(fault: BookFault) -> usize {
 
 // Takes the rows from n to the next B row out of a text, and tells each that has no form; and how many bytes are left.
 fn take_lost(
-    out: &impl Print,
+    rt: &impl Print,
     book: &[u8],
     text: &mut [u8],
     numbers: &mut [usize],
@@ -131,7 +131,7 @@ fn take_lost(
         }
         let why = book::faults::form_fault(&text[0..left], n);
         if let RowFault::Sound = why {} else {
-            book_words::tell(out, book, BookFault::Row(number_at(numbers, n), why));
+            book_words::tell(rt, book, BookFault::Row(number_at(numbers, n), why));
         }
         left = take_row(text, numbers, left, n);
         k += 1;
@@ -142,7 +142,7 @@ fn take_lost(
 // One bad row more: it is told and taken out of the text, with the rows behind it where it is a B row; and how many bytes are left, or 0 where there
 // is nothing more to tell.
 fn tell_next(
-    out: &impl Print,
+    rt: &impl Print,
     book: &[u8],
     text: &mut [u8],
     numbers: &mut [usize],
@@ -156,14 +156,14 @@ fn tell_next(
     if n == 0 {
         return 0;
     }
-    book_words::tell(out, book, renumbered(numbers, fault));
+    book_words::tell(rt, book, renumbered(numbers, fault));
     if len <= csv_text::places::start_of(&text[0..len], n) {
         return 0;
     }
     let base = is_base(&text[0..len], n);
     let left = take_row(text, numbers, len, n);
     if base {
-        return take_lost(out, book, text, numbers, left, n);
+        return take_lost(rt, book, text, numbers, left, n);
     }
     left
 }
@@ -190,9 +190,9 @@ fn count_rows(numbers: &mut [usize]) {
 }
 
 // Every bad row of a book.
-pub(crate) fn tell(out: &impl Print, book: &[u8]) {
+pub(crate) fn tell(rt: &impl Print, book: &[u8]) {
     say(
-        out,
+        rt,
         b"Only the first of these is the refusal. The others are a help: each row is judged as if the bad rows before it were not there, and the rows behind a bad B row by their form alone.\n",
     );
     let mut text = [0u8; 65537];
@@ -202,7 +202,7 @@ pub(crate) fn tell(out: &impl Print, book: &[u8]) {
     let mut len = book.len();
     let mut k: usize = 0;
     while k < 65537 {
-        len = tell_next(out, book, &mut text, &mut numbers, len);
+        len = tell_next(rt, book, &mut text, &mut numbers, len);
         if len == 0 {
             return;
         }

@@ -20,58 +20,58 @@ fn is_empty(kind: Kind, column: usize) -> bool {
 }
 
 // A number's column that has not its form.
-fn tell_number(out: &impl Print, book: &[u8], n: usize, kind: Kind, column: usize) {
+fn tell_number(rt: &impl Print, book: &[u8], n: usize, kind: Kind, column: usize) {
     let raw = csv_text::places::cell_of(book, n, column);
-    columns::column(out, kind, column);
-    say(out, b": ");
-    words::field(out, raw);
+    columns::column(rt, kind, column);
+    say(rt, b": ");
+    words::field(rt, raw);
     if is_empty(kind, column) {
-        say(out, b"\n  has to stay empty.");
+        say(rt, b"\n  has to stay empty.");
         return;
     }
     if raw.len() == 0 {
-        say(out, b"\n  is empty: a whole number has to stand here.");
+        say(rt, b"\n  is empty: a whole number has to stand here.");
         return;
     }
     say(
-        out,
+        rt,
         b"\n  is no whole number: digits alone, 1 to 9 of them and no 0 in front, with a minus where it is below zero.",
     );
 }
 
 // A name, or the kind.
-fn tell_name(out: &impl Print, book: &[u8], n: usize, column: usize, name: &[u8]) {
-    say(out, name);
-    say(out, b": ");
-    words::field(out, csv_text::places::cell_of(book, n, column));
-    say(out, b"\n  is no ");
-    say(out, name);
+fn tell_name(rt: &impl Print, book: &[u8], n: usize, column: usize, name: &[u8]) {
+    say(rt, name);
+    say(rt, b": ");
+    words::field(rt, csv_text::places::cell_of(book, n, column));
+    say(rt, b"\n  is no ");
+    say(rt, name);
 }
 
 // The first column that has not its form.
-fn tell_column(out: &impl Print, book: &[u8], n: usize, column: usize) {
-    say(out, b", column ");
-    words::number(out, column as u64);
-    say(out, b", ");
+fn tell_column(rt: &impl Print, book: &[u8], n: usize, column: usize) {
+    say(rt, b", column ");
+    words::number(rt, column as u64);
+    say(rt, b", ");
     match column {
         1 => {
-            tell_name(out, book, n, 1, b"member");
+            tell_name(rt, book, n, 1, b"member");
             say(
-                out,
+                rt,
                 b" name: 1 to 12 capital letters A to Z, digits and hyphens.",
             );
         }
         2 => {
-            tell_name(out, book, n, 2, b"job");
+            tell_name(rt, book, n, 2, b"job");
             say(
-                out,
+                rt,
                 b" name: 1 to 12 capital letters A to Z, digits and hyphens.",
             );
         }
         3 => {
-            tell_name(out, book, n, 3, b"kind");
+            tell_name(rt, book, n, 3, b"kind");
             say(
-                out,
+                rt,
                 b". The kinds are B, S, C, E, W, G, DL, EP, LL, LF, CF, WC, BU, TM, EX, WL and SF.",
             );
         }
@@ -79,112 +79,112 @@ fn tell_column(out: &impl Print, book: &[u8], n: usize, column: usize) {
             if let KindRead::Known(kind) = kinds::letters::kind_at(csv_text::places::cell_of(
                 book, n, 3,
             )) {
-                tell_number(out, book, n, kind, column);
+                tell_number(rt, book, n, kind, column);
             }
         }
     }
 }
 
 // A row without a form.
-fn tell_form(out: &impl Print, book: &[u8], n: usize, fault: RowFault) {
-    words::row(out, book, n);
+fn tell_form(rt: &impl Print, book: &[u8], n: usize, fault: RowFault) {
+    words::row(rt, book, n);
     match fault {
         RowFault::Count(count) => {
-            words::fields(out, count);
+            words::fields(rt, count);
             say(
-                out,
+                rt,
                 b"  where a row has ten: member, job, kind, n1 to n6, note.",
             );
             if 10 < count {
                 say(
-                    out,
+                    rt,
                     b" A comma inside a field needs quotes around the field.",
                 );
             }
         }
-        RowFault::Column(column) => tell_column(out, book, n, column),
+        RowFault::Column(column) => tell_column(rt, book, n, column),
         RowFault::Sound => {}
     }
-    words::refusal(out, 3);
+    words::refusal(rt, 3);
 }
 
 // Why a row is out of place.
-fn tell_rule(out: &impl Print, why: Misplaced) {
+fn tell_rule(rt: &impl Print, why: Misplaced) {
     match why {
         Misplaced::NoBase => say(
-            out,
+            rt,
             b"  has no B row before it: a job begins with its B row.",
         ),
         Misplaced::NoLoad => say(
-            out,
+            rt,
             b"  begins a job while the job before it has no load row: each job has 1 to 16.",
         ),
         Misplaced::OtherKey => say(
-            out,
+            rt,
             b"  has not the key of its job: all rows of a job have the member and the job of its B row.",
         ),
-        Misplaced::SecondScour => say(out, b"  is a second S row: a job has at most one."),
+        Misplaced::SecondScour => say(rt, b"  is a second S row: a job has at most one."),
         Misplaced::LateScour => say(
-            out,
+            rt,
             b"  stands behind a load row: an S row stands right behind its B row.",
         ),
         Misplaced::NoScour => say(
-            out,
+            rt,
             b"  stands in a job without an S row: a C row stands right behind one.",
         ),
-        Misplaced::SecondClearance => say(out, b"  is a second C row: a job has at most one."),
+        Misplaced::SecondClearance => say(rt, b"  is a second C row: a job has at most one."),
         Misplaced::LateClearance => say(
-            out,
+            rt,
             b"  stands behind a load row: a C row stands right behind its S row.",
         ),
-        Misplaced::SurplusLoad => say(out, b"  is a 17th load row: a job has at most 16."),
+        Misplaced::SurplusLoad => say(rt, b"  is a 17th load row: a job has at most 16."),
     }
 }
 
 // A row out of place, or the end, where the last job has no load row.
-fn tell_misplaced(out: &impl Print, book: &[u8], n: usize, why: Misplaced) {
+fn tell_misplaced(rt: &impl Print, book: &[u8], n: usize, why: Misplaced) {
     if book.len() <= csv_text::places::start_of(book, n) {
-        say(out, b"the end of the book, where row ");
-        words::number(out, n as u64);
+        say(rt, b"the end of the book, where row ");
+        words::number(rt, n as u64);
         say(
-            out,
+            rt,
             b" would stand\n  The last job has no load row: each job has 1 to 16.",
         );
     } else {
-        words::keyed_row(out, book, n);
-        tell_rule(out, why);
+        words::keyed_row(rt, book, n);
+        tell_rule(rt, why);
     }
-    words::refusal(out, 4);
+    words::refusal(rt, 4);
 }
 
 // Where the refusal of a book lies.
-pub(crate) fn tell(out: &impl Print, book: &[u8], fault: BookFault) {
+pub(crate) fn tell(rt: &impl Print, book: &[u8], fault: BookFault) {
     match fault {
         BookFault::Sound => {}
         BookFault::TooLong => {
             say(
-                out,
+                rt,
                 b"the text has more than 65,536 bytes\n  and a book has at most 65,536: share the jobs out over several books.",
             );
-            words::refusal(out, 1);
+            words::refusal(rt, 1);
         }
         BookFault::Text(why) => {
-            text_words::tell(out, book, why);
-            words::refusal(out, 2);
+            text_words::tell(rt, book, why);
+            words::refusal(rt, 2);
         }
-        BookFault::Row(n, why) => tell_form(out, book, n, why),
-        BookFault::Misplaced(n, why) => tell_misplaced(out, book, n, why),
+        BookFault::Row(n, why) => tell_form(rt, book, n, why),
+        BookFault::Misplaced(n, why) => tell_misplaced(rt, book, n, why),
         BookFault::TooManyJobs(n) => {
-            words::keyed_row(out, book, n);
-            say(out, b"  begins a 65th job: a book has at most 64.");
-            words::refusal(out, 5);
+            words::keyed_row(rt, book, n);
+            say(rt, b"  begins a 65th job: a book has at most 64.");
+            words::refusal(rt, 5);
         }
         BookFault::UsedKey(n, earlier) => {
-            words::keyed_row(out, book, n);
-            say(out, b"  has the key of ");
-            words::row(out, book, earlier);
-            say(out, b": each job of a book has a key of its own.");
-            words::refusal(out, 6);
+            words::keyed_row(rt, book, n);
+            say(rt, b"  has the key of ");
+            words::row(rt, book, earlier);
+            say(rt, b": each job of a book has a key of its own.");
+            words::refusal(rt, 6);
         }
     }
 }

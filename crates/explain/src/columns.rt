@@ -159,26 +159,26 @@ fn is_blank(filled: [u8; 20], i: usize) -> bool {
 }
 
 // A table's entry without the blanks behind it: none has two blanks in it.
-fn entry(out: &impl Print, filled: [u8; 20]) {
+fn entry(rt: &impl Print, filled: [u8; 20]) {
     let mut i: usize = 0;
     while i < 20 {
         let here = is_blank(filled, i);
         let next = is_blank(filled, i + 1);
         if here & next {
-            say(out, &filled[0..i]);
+            say(rt, &filled[0..i]);
             return;
         }
         i += 1;
     }
-    say(out, &filled);
+    say(rt, &filled);
 }
 
 // How a kind is written.
-pub(crate) fn letters(out: &impl Print, kind: Kind) {
+pub(crate) fn letters(rt: &impl Print, kind: Kind) {
     let place = place_of(kind);
     if place < 17 {
         let written = LETTERS[place];
-        entry(out, written);
+        entry(rt, written);
     }
 }
 
@@ -205,7 +205,7 @@ fn columns_from(kind: Kind) -> usize {
 }
 
 // The column of a number, from 4 to 9, of a row of a kind: its name, the kind, its unit.
-pub(crate) fn column(out: &impl Print, kind: Kind, column: usize) {
+pub(crate) fn column(rt: &impl Print, kind: Kind, column: usize) {
     let from = columns_from(kind);
     if column < 4 {
         return;
@@ -220,8 +220,8 @@ pub(crate) fn column(out: &impl Print, kind: Kind, column: usize) {
     let place = from + behind;
     let name = NAMES[place];
     let unit = UNITS[place];
-    entry(out, name);
-    say(out, b" of ");
-    letters(out, kind);
-    entry(out, unit);
+    entry(rt, name);
+    say(rt, b" of ");
+    letters(rt, kind);
+    entry(rt, unit);
 }

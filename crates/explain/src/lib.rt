@@ -50,30 +50,30 @@ fn refused_jobs(jobs: [Job; 64], n: usize, values: &[[[u32; 5]; 5]; 64]) -> u64 
 }
 
 // The one line of a book that is not refused.
-fn tell_unrefused(out: &impl Print, n: usize, refused: u64) {
-    say(out, b"the book is not refused: ");
-    words::number(out, n as u64);
+fn tell_unrefused(rt: &impl Print, n: usize, refused: u64) {
+    say(rt, b"the book is not refused: ");
+    words::number(rt, n as u64);
     if n == 1 {
-        say(out, b" job, ");
+        say(rt, b" job, ");
     } else {
-        say(out, b" jobs, ");
+        say(rt, b" jobs, ");
     }
     if refused == 0 {
-        say(out, b"none refused\n");
+        say(rt, b"none refused\n");
         return;
     }
-    words::number(out, refused);
-    say(out, b" refused\n");
+    words::number(rt, refused);
+    say(rt, b" refused\n");
 }
 
 // A job, of which the B row is this row of the book: where its refusal lies, or what is odd in it.
-fn tell_job(out: &impl Print, book: &[u8], first: usize, held: [[u32; 5]; 5], job: Job) {
+fn tell_job(rt: &impl Print, book: &[u8], first: usize, held: [[u32; 5]; 5], job: Job) {
     let fault = job_faults::job_fault(held, job);
     if let JobFault::Sound = fault {
-        warning_words::tell(out, book, first, job, answer::answer_of(held, job));
+        warning_words::tell(rt, book, first, job, answer::answer_of(held, job));
         return;
     }
-    job_words::tell(out, book, first, job, fault);
+    job_words::tell(rt, book, first, job, fault);
 }
 
 // The row behind so many rows from a row on; a book has at most 65,536.
@@ -89,13 +89,13 @@ fn behind(first: usize, rows: usize) -> usize {
 
 // The jobs of a book, with what is held of fills for each.
 fn tell_jobs(
-    out: &impl Print,
+    rt: &impl Print,
     book: &[u8],
     jobs: [Job; 64],
     n: usize,
     values: &[[[u32; 5]; 5]; 64],
 ) {
-    tell_unrefused(out, n, refused_jobs(jobs, n, values));
+    tell_unrefused(rt, n, refused_jobs(jobs, n, values));
     let mut first: usize = 1;
     let mut i: usize = 0;
     while i < n {
@@ -104,7 +104,7 @@ fn tell_jobs(
         }
         let held = values[i];
         let job = jobs[i];
-        tell_job(out, book, first, held, job);
+        tell_job(rt, book, first, held, job);
         first = behind(first, job_faults::row_count(job));
         i += 1;
     }
@@ -125,11 +125,11 @@ fn members_of(jobs: [Job; 64]) -> [Name; 64] {
 }
 
 // A book that is not refused: the fill books, own before common, then its jobs.
-fn explain_jobs(out: &impl Print, book: &[u8], own: &[u8], common: &[u8]) {
-    if fill_words::tell(out, own, Whose::Own) {
+fn explain_jobs(rt: &impl Print, book: &[u8], own: &[u8], common: &[u8]) {
+    if fill_words::tell(rt, own, Whose::Own) {
         return;
     }
-    if fill_words::tell(out, common, Whose::Common) {
+    if fill_words::tell(rt, common, Whose::Common) {
         return;
     }
     let read = book::read_book(book);
@@ -142,24 +142,24 @@ fn explain_jobs(out: &impl Print, book: &[u8], own: &[u8], common: &[u8]) {
     let jobs = read.jobs;
     let members = members_of(jobs);
     fills::values_for(own, common, members, n, &mut values);
-    tell_jobs(out, book, jobs, n, &values);
+    tell_jobs(rt, book, jobs, n, &values);
 }
 
 // A book, with the members' own fill book and the common one: where its refusal lies, or those of its jobs; with `all` every bad row of a book that
 // is RFC 4180.
-pub fn explain(out: &impl Print, book: &[u8], own: &[u8], common: &[u8], all: bool) {
+pub fn explain(rt: &impl Print, book: &[u8], own: &[u8], common: &[u8], all: bool) {
     let fault = book::faults::book_fault(book);
     match fault {
-        BookFault::Sound => explain_jobs(out, book, own, common),
-        BookFault::TooLong | BookFault::Text(_) => book_words::tell(out, book, fault),
+        BookFault::Sound => explain_jobs(rt, book, own, common),
+        BookFault::TooLong | BookFault::Text(_) => book_words::tell(rt, book, fault),
         BookFault::Row(_, _)
         | BookFault::Misplaced(_, _)
         | BookFault::TooManyJobs(_)
         | BookFault::UsedKey(_, _) => {
             if all {
-                all_rows::tell(out, book);
+                all_rows::tell(rt, book);
             } else {
-                book_words::tell(out, book, fault);
+                book_words::tell(rt, book, fault);
             }
         }
     }

@@ -29,46 +29,40 @@ fn byte_in_line(s: &[u8], at: usize) -> usize {
 }
 
 // A byte by its line, as an editor counts it, and its place there.
-fn place(out: &impl Print, s: &[u8], at: usize) {
-    say(out, b"line ");
-    words::number(out, csv_text::places::line_of(s, at) as u64);
-    say(out, b" of the text, byte ");
-    words::number(out, byte_in_line(s, at) as u64);
-    say(out, b" of it: ");
+fn place(rt: &impl Print, s: &[u8], at: usize) {
+    say(rt, b"line ");
+    words::number(rt, csv_text::places::line_of(s, at) as u64);
+    say(rt, b" of the text, byte ");
+    words::number(rt, byte_in_line(s, at) as u64);
+    say(rt, b" of it: ");
 }
 
 // A CR alone, outside quotes.
-fn tell_return(out: &impl Print, s: &[u8], at: usize) {
-    place(out, s, at);
-    say(out, b"a CR (byte 13) with no LF (byte 10) behind it\n");
-    say(
-        out,
-        b"  stands outside quotes: a row ends with both, CR LF.",
-    );
+fn tell_return(rt: &impl Print, s: &[u8], at: usize) {
+    place(rt, s, at);
+    say(rt, b"a CR (byte 13) with no LF (byte 10) behind it\n");
+    say(rt, b"  stands outside quotes: a row ends with both, CR LF.");
 }
 
 // A byte that may stand in no plain field.
-fn tell_plain(out: &impl Print, b: u8) {
+fn tell_plain(rt: &impl Print, b: u8) {
     match b {
         0x0A => {
-            say(out, b"an LF (byte 10) with no CR (byte 13) before it\n");
-            say(
-                out,
-                b"  stands outside quotes: a row ends with both, CR LF.",
-            );
+            say(rt, b"an LF (byte 10) with no CR (byte 13) before it\n");
+            say(rt, b"  stands outside quotes: a row ends with both, CR LF.");
         }
         0x22 => {
-            say(out, b"a quote\n");
+            say(rt, b"a quote\n");
             say(
-                out,
+                rt,
                 b"  stands in a field that does not begin with one: then the whole field is put between quotes, and each quote in it is written twice.",
             );
         }
         _ => {
-            say(out, b"byte ");
-            words::number(out, b as u64);
+            say(rt, b"byte ");
+            words::number(rt, b as u64);
             say(
-                out,
+                rt,
                 b"\n  may stand in no field: only the bytes 32 to 126 may, and CR and LF between quotes.",
             );
         }
@@ -76,55 +70,55 @@ fn tell_plain(out: &impl Print, b: u8) {
 }
 
 // The first byte with which no text begins, by what stands before it.
-fn tell_stray(out: &impl Print, s: &[u8], at: usize, b: u8, spot: Spot) {
-    place(out, s, at);
+fn tell_stray(rt: &impl Print, s: &[u8], at: usize, b: u8, spot: Spot) {
+    place(rt, s, at);
     match spot {
         Spot::Inside => {
-            say(out, b"byte ");
-            words::number(out, b as u64);
+            say(rt, b"byte ");
+            words::number(rt, b as u64);
             say(
-                out,
+                rt,
                 b"\n  may not stand between quotes: only the bytes 32 to 126, CR and LF may.",
             );
         }
         Spot::Closed => {
             if b == 0x0A {
-                tell_plain(out, b);
+                tell_plain(rt, b);
                 return;
             }
             let one = [b; 1];
-            words::field(out, &one);
+            words::field(rt, &one);
             say(
-                out,
+                rt,
                 b"\n  stands behind the quote that closes its field: only a comma, CR LF or the end may. A quote inside a field is written twice.",
             );
         }
-        Spot::Start | Spot::Plain | Spot::Return => tell_plain(out, b),
+        Spot::Start | Spot::Plain | Spot::Return => tell_plain(rt, b),
     }
 }
 
 // Where a text stops being RFC 4180.
-pub(crate) fn tell(out: &impl Print, s: &[u8], fault: TextFault) {
+pub(crate) fn tell(rt: &impl Print, s: &[u8], fault: TextFault) {
     match fault {
         TextFault::Stray(at, spot) => {
             if let Spot::Return = spot {
                 if 0 < at {
-                    tell_return(out, s, at - 1);
+                    tell_return(rt, s, at - 1);
                 }
                 return;
             }
             if at < s.len() {
-                tell_stray(out, s, at, s[at], spot);
+                tell_stray(rt, s, at, s[at], spot);
             }
         }
         TextFault::Unclosed(at) => {
-            place(out, s, at);
+            place(rt, s, at);
             say(
-                out,
+                rt,
                 b"a quote\n  opens a field that no quote closes before the text ends.",
             );
         }
-        TextFault::Return(at) => tell_return(out, s, at),
+        TextFault::Return(at) => tell_return(rt, s, at),
         TextFault::Sound => {}
     }
 }

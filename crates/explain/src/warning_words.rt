@@ -7,20 +7,20 @@ use lines::Answer;
 use warnings::OneWay;
 
 // The end of a warning.
-fn warned(out: &impl Print) {
-    say(out, b"   [warning]\n");
+fn warned(rt: &impl Print) {
+    say(rt, b"   [warning]\n");
 }
 
 // A warning of a job as a whole.
-fn tell_job(out: &impl Print, book: &[u8], first: usize, words: &[u8]) {
-    job_words::tell_row(out, book, first);
-    say(out, words);
-    warned(out);
+fn tell_job(rt: &impl Print, book: &[u8], first: usize, words: &[u8]) {
+    job_words::tell_row(rt, book, first);
+    say(rt, words);
+    warned(rt);
 }
 
 // Forces that act one way only.
 fn tell_way(
-    out: &impl Print,
+    rt: &impl Print,
     book: &[u8],
     first: usize,
     way: OneWay,
@@ -29,37 +29,37 @@ fn tell_way(
 ) {
     match way {
         OneWay::Neither => {}
-        OneWay::Forward => tell_job(out, book, first, forward),
-        OneWay::Backward => tell_job(out, book, first, backward),
+        OneWay::Forward => tell_job(rt, book, first, forward),
+        OneWay::Backward => tell_job(rt, book, first, backward),
     }
 }
 
 // What is odd in a load row.
-fn tell_load(out: &impl Print, book: &[u8], n: usize, width: u32, row: Row) {
+fn tell_load(rt: &impl Print, book: &[u8], n: usize, width: u32, row: Row) {
     let odd = warnings::row_warnings(width, row);
     let kind = row.kind;
     if odd.outside {
-        job_words::tell_number(out, book, n, kind, 5);
+        job_words::tell_number(rt, book, n, kind, 5);
         say(
-            out,
+            rt,
             b"  V stands outside the base: x is measured from the middle of the base, which is ",
         );
-        words::number(out, width as u64);
-        say(out, b" mm wide.");
-        warned(out);
+        words::number(rt, width as u64);
+        say(rt, b" mm wide.");
+        warned(rt);
     }
     if odd.low {
-        job_words::tell_number(out, book, n, kind, 7);
+        job_words::tell_number(rt, book, n, kind, 7);
         say(
-            out,
+            rt,
             b"  is below 100 mm, and H is not 0: metres written for millimetres?",
         );
-        warned(out);
+        warned(rt);
     }
 }
 
 // What is odd in the load rows, of which the first stands at this row of the book.
-fn tell_loads(out: &impl Print, book: &[u8], from: usize, job: Job) {
+fn tell_loads(rt: &impl Print, book: &[u8], from: usize, job: Job) {
     let width = job.base.n1.size;
     let rows = job.loads;
     let mut n = from;
@@ -72,17 +72,17 @@ fn tell_loads(out: &impl Print, book: &[u8], from: usize, job: Job) {
             return;
         }
         let row = rows[i];
-        tell_load(out, book, n, width, row);
+        tell_load(rt, book, n, width, row);
         n += 1;
         i += 1;
     }
 }
 
 // What is odd in a job that is not refused, of which the B row is this row of the book.
-pub(crate) fn tell(out: &impl Print, book: &[u8], first: usize, job: Job, answer: Answer) {
+pub(crate) fn tell(rt: &impl Print, book: &[u8], first: usize, job: Job, answer: Answer) {
     if warnings::unserved(answer) {
         tell_job(
-            out,
+            rt,
             book,
             first,
             b"\n  No service combination was checked: no set of its load rows stands in I, II or III.",
@@ -91,11 +91,11 @@ pub(crate) fn tell(out: &impl Print, book: &[u8], first: usize, job: Job, answer
     let rows = job.loads;
     let odd = warnings::job_warnings(rows, job.count);
     if odd.no_dead {
-        tell_job(out, book, first, b"\n  The job has no DL row.");
+        tell_job(rt, book, first, b"\n  The job has no DL row.");
     }
     let wind = odd.wind;
     tell_way(
-        out,
+        rt,
         book,
         first,
         wind,
@@ -104,7 +104,7 @@ pub(crate) fn tell(out: &impl Print, book: &[u8], first: usize, job: Job, answer
     );
     let earthquake = odd.earthquake;
     tell_way(
-        out,
+        rt,
         book,
         first,
         earthquake,
@@ -123,5 +123,5 @@ pub(crate) fn tell(out: &impl Print, book: &[u8], first: usize, job: Job, answer
     if 65536 < first {
         return;
     }
-    tell_loads(out, book, first + before, job);
+    tell_loads(rt, book, first + before, job);
 }

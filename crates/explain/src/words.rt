@@ -6,61 +6,61 @@
 const SHOWN: usize = 60;
 
 // Words.
-pub(crate) fn say(out: &impl Print, words: &[u8]) {
-    files::put(out, words);
+pub(crate) fn say(rt: &impl Print, words: &[u8]) {
+    files::put(rt, words);
 }
 
 // Three digits of a number, behind those before them.
-fn group(out: &impl Print, n: u64) {
-    say(out, b",");
+fn group(rt: &impl Print, n: u64) {
+    say(rt, b",");
     if n < 100 {
-        say(out, b"0");
+        say(rt, b"0");
     }
     if n < 10 {
-        say(out, b"0");
+        say(rt, b"0");
     }
-    files::put_number(out, n);
+    files::put_number(rt, n);
 }
 
 // A number, its digits in threes.
-pub(crate) fn number(out: &impl Print, n: u64) {
+pub(crate) fn number(rt: &impl Print, n: u64) {
     let thousands = n / 1000;
     let millions = n / 1000000;
     if 0 < millions {
-        files::put_number(out, millions);
-        group(out, thousands % 1000);
-        group(out, n % 1000);
+        files::put_number(rt, millions);
+        group(rt, thousands % 1000);
+        group(rt, n % 1000);
         return;
     }
     if 0 < thousands {
-        files::put_number(out, thousands);
-        group(out, n % 1000);
+        files::put_number(rt, thousands);
+        group(rt, n % 1000);
         return;
     }
-    files::put_number(out, n);
+    files::put_number(rt, n);
 }
 
 // A byte as it is, or by its number where it is not printable.
-pub(crate) fn byte(out: &impl Print, b: u8) {
+pub(crate) fn byte(rt: &impl Print, b: u8) {
     if (0x20 <= b) & (b <= 0x7E) {
         let one = [b; 1];
-        say(out, &one);
+        say(rt, &one);
         return;
     }
-    say(out, b"<");
-    number(out, b as u64);
-    say(out, b">");
+    say(rt, b"<");
+    number(rt, b as u64);
+    say(rt, b">");
 }
 
 // The first bytes of a stretch.
-pub(crate) fn bytes(out: &impl Print, raw: &[u8]) {
+pub(crate) fn bytes(rt: &impl Print, raw: &[u8]) {
     let mut i: usize = 0;
     while i < raw.len() {
         if SHOWN <= i {
-            say(out, b"..");
+            say(rt, b"..");
             return;
         }
-        byte(out, raw[i]);
+        byte(rt, raw[i]);
         i += 1;
     }
 }
@@ -74,71 +74,71 @@ fn is_quoted(raw: &[u8]) -> bool {
 }
 
 // A field as it lies in the book, between quotes: its own, where it has them.
-pub(crate) fn field(out: &impl Print, raw: &[u8]) {
+pub(crate) fn field(rt: &impl Print, raw: &[u8]) {
     if is_quoted(raw) {
-        bytes(out, raw);
+        bytes(rt, raw);
         return;
     }
-    say(out, b"\"");
-    bytes(out, raw);
-    say(out, b"\"");
+    say(rt, b"\"");
+    bytes(rt, raw);
+    say(rt, b"\"");
 }
 
 // What a field of good form says, without its quotes.
-fn content(out: &impl Print, raw: &[u8]) {
+fn content(rt: &impl Print, raw: &[u8]) {
     if raw.len() < 2 {
-        bytes(out, raw);
+        bytes(rt, raw);
         return;
     }
     if raw[0] == 0x22 {
         let end = raw.len() - 1;
-        bytes(out, &raw[1..end]);
+        bytes(rt, &raw[1..end]);
         return;
     }
-    bytes(out, raw);
+    bytes(rt, raw);
 }
 
 // A row as a sheet counts it, and the line on which it begins as an editor counts it.
-pub(crate) fn row(out: &impl Print, book: &[u8], n: usize) {
+pub(crate) fn row(rt: &impl Print, book: &[u8], n: usize) {
     let start = csv_text::places::start_of(book, n);
-    say(out, b"row ");
-    number(out, n as u64);
-    say(out, b" (line ");
-    number(out, csv_text::places::line_of(book, start) as u64);
-    say(out, b" of the text)");
+    say(rt, b"row ");
+    number(rt, n as u64);
+    say(rt, b" (line ");
+    number(rt, csv_text::places::line_of(book, start) as u64);
+    say(rt, b" of the text)");
 }
 
 // Member and job of a row of good form.
-pub(crate) fn key(out: &impl Print, book: &[u8], n: usize) {
-    content(out, csv_text::places::cell_of(book, n, 1));
-    say(out, b",");
-    content(out, csv_text::places::cell_of(book, n, 2));
+pub(crate) fn key(rt: &impl Print, book: &[u8], n: usize) {
+    content(rt, csv_text::places::cell_of(book, n, 1));
+    say(rt, b",");
+    content(rt, csv_text::places::cell_of(book, n, 2));
 }
 
 // A row with its kind and key.
-pub(crate) fn keyed_row(out: &impl Print, book: &[u8], n: usize) {
-    row(out, book, n);
-    say(out, b", ");
-    content(out, csv_text::places::cell_of(book, n, 3));
-    say(out, b" of ");
-    key(out, book, n);
-    say(out, b"\n");
+pub(crate) fn keyed_row(rt: &impl Print, book: &[u8], n: usize) {
+    row(rt, book, n);
+    say(rt, b", ");
+    content(rt, csv_text::places::cell_of(book, n, 3));
+    say(rt, b" of ");
+    key(rt, book, n);
+    say(rt, b"\n");
 }
 
 // How many fields a row has.
-pub(crate) fn fields(out: &impl Print, count: usize) {
-    say(out, b" has ");
-    number(out, count as u64);
+pub(crate) fn fields(rt: &impl Print, count: usize) {
+    say(rt, b" has ");
+    number(rt, count as u64);
     if count == 1 {
-        say(out, b" field\n");
+        say(rt, b" field\n");
         return;
     }
-    say(out, b" fields\n");
+    say(rt, b" fields\n");
 }
 
 // The number of a refusal, behind what is told of it.
-pub(crate) fn refusal(out: &impl Print, n: u64) {
-    say(out, b"   [refusal ");
-    number(out, n);
-    say(out, b"]\n");
+pub(crate) fn refusal(rt: &impl Print, n: u64) {
+    say(rt, b"   [refusal ");
+    number(rt, n);
+    say(rt, b"]\n");
 }
