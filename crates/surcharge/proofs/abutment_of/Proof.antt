@@ -4,20 +4,20 @@ use borrow.Author.Rules.{rules}
 use Rattle.surcharge.proofs.abutment_of.Statement.{statement}
 use Rattle.surcharge.proofs.abutment_of.Tie as tie
 
-cast-t2 : tie.Need-overflow-cast-t2
+cast-t2 : tie.Need-overflow_cast-result
 cast-t2 c = search rules
 
-cast-t3 : tie.Need-overflow-cast-t3
+cast-t3 : tie.Need-overflow_cast-result-2
 cast-t3 c = search rules
 
-cast-t4 : tie.Need-overflow-cast-t4
+cast-t4 : tie.Need-overflow_cast-result-3
 cast-t4 c = search rules
 
-cast-t5 : tie.Need-overflow-cast-t5
+cast-t5 : tie.Need-overflow_cast-result-4
 cast-t5 c = search rules
 
-cast-t6 : tie.Need-overflow-cast-t6
-cast-t6 c = omega (arith, c.struct-known5.given)
+cast-t6 : tie.Need-overflow_cast-result-5
+cast-t6 c = omega (arith, c.struct_known-5-1.given)
 
 returns : tie.Need-returns
 returns c = search rules

@@ -4,17 +4,17 @@ use borrow.Author.Rules.{rules}
 use Rattle.surcharge.proofs.tables.surcharge_of.Statement.{statement}
 use Rattle.surcharge.proofs.tables.surcharge_of.Tie as tie
 
-sub-i : tie.Need-overflow-sub-i
+sub-i : tie.Need-overflow_sub-i
 sub-i c = search rules
 
-mul-result : tie.Need-overflow-mul-result
+mul-result : tie.Need-offset_bounds-i
 mul-result c = search rules
-
-array-read-result : tie.Need-array-read-result
-array-read-result c = search rules
 
 returns : tie.Need-returns
 returns c = refl
 
+added_bounds_i : tie.Need-bounds-i
+added_bounds_i c = search rules
+
 pub surcharge_of_spec : {M : Type 1} → statement M
-surcharge_of_spec = tie.close (tie.spec sub-i mul-result array-read-result returns)
+surcharge_of_spec = tie.close (tie.spec sub-i mul-result added_bounds_i returns)
