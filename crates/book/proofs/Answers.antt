@@ -117,7 +117,9 @@ record Beyond {A : Type 0} (os : List A) (x : A) (cs : List A) : Type 0 where
   are : cs ≡ os ++ x ∷ mid
 
 beyond : {A : Type 0} (os cs bs ds : List A) (x y : A) → os ++ x ∷ bs ≡ cs ++ y ∷ ds → length os < length cs → Beyond os x cs
+beyond [] [] bs ds x y e h = absurd (omega arith)
 beyond [] (c ∷ cs) bs ds x y e h = record { mid = cs; are = cc }
+beyond (a ∷ os) [] bs ds x y e h = absurd (omega arith)
 beyond (a ∷ os) (c ∷ cs) bs ds x y e h =
     let t : os ++ x ∷ bs ≡ cs ++ y ∷ ds = cc in
     let w = beyond os cs bs ds x y t (omega arith) in

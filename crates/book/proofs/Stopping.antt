@@ -24,8 +24,8 @@ use Rattle.book.specs.steps.Stop.{Reached, StopIs, through, formless, misplaced,
 use Rattle.book.specs.declared.counted.Count.{Count}
 use Rattle.book.specs.declared.counted.Count.TheVariants.{Given, Refused}
 use Rattle.book.specs.declared.counted.Book.{Book}
-use Rattle.book.specs.declared.walk.Ending.TheVariants as ending
-use Rattle.book.specs.declared.walk.Stop.{Stop}
+use Rattle.book.specs.declared.stops.Ending.TheVariants as ending
+use Rattle.book.specs.declared.stops.Stop.{Stop}
 use Rattle.book.proofs.Steps.{starts, extend, grows}
 use Rattle.book.proofs.Answers.{begins_book}
 use Rattle.book.proofs.Growing.{step_place}

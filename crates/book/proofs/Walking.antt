@@ -4,9 +4,10 @@ use native.Mathlib.Omega.{arith}
 use mathlib.Core.Path.{◌≡◌, refl, sym, ap, subst, ◌∙◌}
 use mathlib.Core.Bool.{Bool, true, false}
 use mathlib.Core.List.{List, [], ◌∷◌, ◌++◌}
-use lib.ListN.{length, set}
+use lib.ListN.{length, take, set}
+use lib.Seq.{take_at}
 use Rattle.arithmetic.proofs.Cases.{impossible}
-use Rattle.csv_text.specs.rfc4180.Rfc4180.{Cell, File, Readable}
+use Rattle.csv_text.specs.rfc4180.Rfc4180.{Cell, Readable}
 use Rattle.csv_text.proofs.notes.Reached.{RowReached, reached_start, reached_more, reached_last, reached_many}
 use Rattle.rows.specs.Form.{BookRow, Form}
 use Rattle.csv_text.specs.cells.Standing.{raw}
@@ -16,49 +17,70 @@ use Rattle.rows.specs.declared.RowRead.{RowRead}
 use Rattle.jobs.specs.Place.{InPlace, grown}
 use Rattle.jobs.specs.Taking as taking
 use Rattle.jobs.specs.declared.Job.{Job}
-use Rattle.kinds.specs.declared.Role.TheVariants.{Base}
-use Rattle.book.specs.JobBook.{IsA, Jobs, none, ◌and◌, job, dry, count, Forms, no_form, form, Different, no_key, new_key}
+use Rattle.book.specs.JobBook.{Jobs, none, ◌and◌, job, dry, count, Forms, no_form, form, JobBook, Different, no_key, new_key, Used}
 use Rattle.book.specs.Beginning.{no_job, Loaded, Begins}
 use Rattle.rows.specs.keys.Among.{Among}
 use Rattle.rows.specs.keys.Beginning as beginning
 use Rattle.rows.specs.declared.keys.Beginning.{Beginning}
 use Rattle.rows.specs.declared.keys.Beginning.TheVariants.{Allowed, Barred}
+use Rattle.book.specs.counted.Places.{places}
+use Rattle.book.specs.Values.{values}
 use Rattle.book.specs.steps.Kept.{last_value}
+use Rattle.book.specs.Says.{refused, formless, misplaced, surplus, reused, Bad, BookSays, bad_row, unfinished, book}
+use Rattle.book.specs.Reading.{book_told, jobs_told, BookIs}
+use Rattle.book.specs.steps.Ended.{EndedIs, missing, whole}
 use Rattle.rows.specs.refusals.Numbers.{refusal_number}
 use Rattle.rows.specs.declared.refusals.Refusal.{Refusal}
 use Rattle.rows.specs.declared.refusals.Refusal.TheVariants.{TooLong, NotCsv, NoForm, Misplaced, TooManyJobs, UsedKey}
-use Rattle.rows.proofs.refusals.Numbers.{number_one}
 use Rattle.book.specs.steps.Step.{RefusesRow}
-use Rattle.book.specs.steps.Stop.{refused_stop, Reached, StopIs, through, formless, misplaced, surplus, reused}
-use Rattle.book.specs.declared.walk.Ending.TheVariants.{Through}
-use Rattle.book.specs.declared.walk.Stop.{Stop}
-use Rattle.book.proofs.Steps.{GrowsBy, starts, scours, crosses, bears, extend}
-use Rattle.book.proofs.Growing.{Grown, place_grows}
-use Rattle.book.proofs.Keeping.{among_used, used_among, Standing, base_jobs, standing_starts, joins, standing_joins}
+use Rattle.book.specs.declared.counted.Count.{Count}
+use Rattle.book.specs.declared.counted.Count.TheVariants.{Given, Refused}
+use Rattle.book.specs.declared.counted.Book.{Book}
+use Rattle.book.proofs.Steps.{GrowsBy, starts, scours, crosses, bears, extend, grows}
+use Rattle.book.proofs.Answers.{begins_book}
+use Rattle.book.proofs.Growing.{Grown, place_grows, step_place}
+use Rattle.book.proofs.Keeping.{values_many, among_used, used_among, Standing, base_jobs, standing_starts, joins, standing_joins}
 
 forms_more : {css : List (List Cell)} {rs : List BookRow} {cs : List Cell} {r : BookRow} → Forms css rs → Form cs r → Forms (css ++ cs ∷ []) (rs ++ r ∷ [])
 forms_more no_form g = form g no_form
 forms_more (form f fs) g = form f (forms_more fs g)
 
--- behind a row there is a job
-some_job : {js ks : Jobs} {r : BookRow} → GrowsBy js r ks → 1 ≤ count ks
-some_job (starts l h) = omega arith
-some_job (scours h f) = omega arith
-some_job (crosses h f) = omega arith
-some_job (bears h f n) = omega arith
+-- behind a row the last job's value says whether a load row is missing
+lacks : {js ks : Jobs} {r : BookRow} → GrowsBy js r ks → (last_value ks).count ≡ 0 → Loaded ks → ⊥
+lacks (starts l h) e k = omega arith
+lacks (scours h f) e k = omega arith
+lacks (crosses h f) e k = omega arith
+lacks (bears h f n) e k = omega arith
 
--- and a B row finds a load row in the job before it
-base_loaded : {js ks : Jobs} {r : BookRow} → IsA Base r → GrowsBy js r ks → Loaded js
-base_loaded k (starts l h) = l
-base_loaded k (scours h e) = impossible cc
-base_loaded k (crosses h e) = impossible cc
-base_loaded k (bears h e n) = impossible cc
+has_load : {js ks : Jobs} {r : BookRow} → GrowsBy js r ks → ((last_value ks).count ≡ 0 → ⊥) → Loaded ks
+has_load (starts l h) n = absurd (n refl)
+has_load (scours h f) n = absurd (n refl)
+has_load (crosses h f) n = absurd (n refl)
+has_load (bears h f m) n = omega arith
+
+used_twice : {js : Jobs} {r : BookRow} → Used r js → Different (js and job r dry []) → ⊥
+used_twice u (new_key d n) = n u
 
 -- where a job begins, it is one of 64, and its key is new
 pub begun_new : {ks : List Key} {n : ℕ} {k : Key} {b : Beginning} → beginning.BeginningIs ks n k b → b ≡ Allowed → (n < 64) × (Among ks n k → ⊥)
 begun_new (beginning.surplus m e) f = let g = ap beginning.beginning_told f in impossible cc
 begun_new (beginning.reused m a e) f = let g = ap beginning.beginning_told f in impossible cc
 begun_new (beginning.unused m a e) f = (m, a)
+
+-- an answer, from what it is told
+pub refused_is : {s : List ℕ} (b : Book) (why : Refusal) (row : ℕ) → (b.count ≡ Refused why row) × (b.jobs ≡ places []) → BookSays s (refused (refusal_number why) row) → BookIs s b
+refused_is {s} b why row e p = record {
+  says = subst (λ (c : Count). BookSays s (book_told c b.jobs)) (sym e.0) p;
+  held = subst (λ (c : Count). b.jobs ≡ places (jobs_told (book_told c b.jobs))) (sym e.0) e.1;
+}
+
+given_is : {s : List ℕ} {js : Jobs} (b : Book) (n : ℕ) → b.count ≡ Given n → n ≡ count js → b.jobs ≡ places (values js) → JobBook s js → BookIs s b
+given_is {s} {js} b n c m e k =
+    let t : take n b.jobs ≡ values js = ap (take n) e ∙ take_at (values js) _ n (values_many js ∙ sym m) in
+    record {
+      says = subst (λ (x : Count). BookSays s (book_told x b.jobs)) (sym c) (book k (cc));
+      held = subst (λ (x : Count). b.jobs ≡ places (jobs_told (book_told x b.jobs))) (sym c) (e ∙ ap places (sym t));
+    }
 
 pub record Walk (s : List ℕ) (last : Job) (jobs : List Job) (keys : List Key) (n row at : ℕ) : Type 0 where
   pub size : length s ≤ 65536
@@ -90,30 +112,14 @@ module _ {s : List ℕ} {last : Job} {jobs : List Job} {keys : List Key} {n row 
   pub walk_on : r.next < length s → at < r.next
   walk_on k = seen.on k
 
-  -- where the walk stops at this row
-  abbrev stopped : Refusal → Job → Stop
-  stopped why left = refused_stop why row at left n jobs
-
-  abbrev stands_at : (why : Refusal) (left : Job) → Reached s (stopped why left)
-  stands_at why left =
+  first_bad : {why : ℕ} → Bad i.typed cs why → BookSays s (refused why row)
+  first_bad x =
       let w = i.reached in
-      record {
-        passed = i.passed;
-        this = cs;
-        behind = w.behind;
-        text = subst (File s) w.are w.reading;
-        here = w.here;
-        within = w.within;
-        number = w.number;
-        typed = i.typed;
-        written = i.written;
-        begins = i.begins;
-        many = i.stands.many;
-        held = i.stands.jobs;
-      }
+      bad_row i.size w.reading
+      (record { row = cs; at = record { before = i.passed; behind = w.behind; are = w.are; number = w.number }; typed = i.typed; jobs = i.written; begins = i.begins; bad = x }) refl
 
-  walk_formless : (left : Job) → r.good ≡ false → StopIs s (stopped NoForm left)
-  walk_formless left g = formless refl (stands_at NoForm left) (subst (λ (x : Bool). RowGiven x cs r.row) g seen.means).0
+  walk_formless : r.good ≡ false → BookSays s (refused 3 row)
+  walk_formless g = first_bad (formless (subst (λ (x : Bool). RowGiven x cs r.row) g seen.means).0)
 
   -- the row has a form
   module _ (g : r.good ≡ true) where
@@ -126,8 +132,9 @@ module _ {s : List ℕ} {last : Job} {jobs : List Job} {keys : List Key} {n row 
     placing : InPlace last r.row → InPlace (last_value i.written) r.row
     placing w = subst (λ (j : Job). InPlace j r.row) i.stands.job w
 
-    walk_misplaced : (left : Job) → left ≡ last → (InPlace last r.row → ⊥) → StopIs s (stopped Misplaced left)
-    walk_misplaced left e w = misplaced refl (stands_at Misplaced left) means (e ∙ i.stands.job) (λ p. w (subst (λ (j : Job). InPlace j r.row) e p))
+    walk_misplaced : (InPlace last r.row → ⊥) → BookSays s (refused 4 row)
+    walk_misplaced w =
+        first_bad (misplaced means (λ ks q. w (subst (λ (j : Job). InPlace j r.row) (sym i.stands.job) (step_place (grows i.begins.placed q)))))
 
     -- the jobs with this row more
     grows_by : {next : Job} → InPlace last r.row → next ≡ grown last r.row → Grown i.written this next
@@ -181,27 +188,27 @@ module _ {s : List ℕ} {last : Job} {jobs : List Job} {keys : List Key} {n row 
       key_is : next.key ≡ r.row.key
       key_is = ap (λ (j : Job). j.key) (sym holds)
 
-      loaded : Loaded i.written
-      loaded = base_loaded t.0 start
+      walk_surplus : 64 ≤ n → BookSays s (refused 5 row)
+      walk_surplus m =
+          let o = i.stands.many in
+          first_bad (surplus means (extend i.begins.placed start) (omega arith))
 
-      walk_surplus : 64 ≤ n → StopIs s (stopped TooManyJobs next)
-      walk_surplus m = surplus refl (stands_at TooManyJobs next) means t.0 loaded m
-
-      walk_reused : n < 64 → Among keys n next.key → StopIs s (stopped UsedKey next)
+      walk_reused : n < 64 → Among keys n next.key → BookSays s (refused 6 row)
       walk_reused m a =
-          let u = among_used i.written n keys i.stands.many i.stands.keys this (subst (Among keys n) key_is a) in
-          reused refl (stands_at UsedKey next) means t.0 loaded m u key_is
+          let o = i.stands.many in
+          let u = among_used i.written n keys o i.stands.keys this (subst (Among keys n) key_is a) in
+          first_bad (reused means (extend i.begins.placed start) (omega arith) (λ d. used_twice u d))
 
       -- a job that may not begin
-      pub walk_barred : {b : Beginning} (why : Refusal) → beginning.BeginningIs keys n next.key b → b ≡ Barred why → StopIs s (stopped why next)
+      pub walk_barred : {b : Beginning} (why : Refusal) → beginning.BeginningIs keys n next.key b → b ≡ Barred why → BookSays s (refused (refusal_number why) row)
       walk_barred why (beginning.surplus m e) f =
           let g = ap beginning.beginning_told f in
           let q : 5 ≡ refusal_number why = cc in
-          subst (λ (w : Refusal). StopIs s (stopped w next)) (number_one TooManyJobs why q) (walk_surplus m)
+          subst (λ (k : ℕ). BookSays s (refused k row)) q (walk_surplus m)
       walk_barred why (beginning.reused m a e) f =
           let g = ap beginning.beginning_told f in
           let q : 6 ≡ refusal_number why = cc in
-          subst (λ (w : Refusal). StopIs s (stopped w next)) (number_one UsedKey why q) (walk_reused m a)
+          subst (λ (k : ℕ). BookSays s (refused k row)) q (walk_reused m a)
       walk_barred why (beginning.unused m a e) f = let g = ap beginning.beginning_told f in impossible cc
 
       pub walk_started : n < 64 → (Among keys n next.key → ⊥) → After next (set jobs (n + 1 - 1) next) (set keys n next.key) (n + 1)
@@ -233,19 +240,21 @@ module _ {s : List ℕ} {last : Job} {jobs : List Job} {keys : List Key} {n row 
         all : Begins i.reached.rows (i.typed ++ this ∷ []) w.grew
         all = subst (λ (l : List (List Cell)). Begins l (i.typed ++ this ∷ []) w.grew) (sym (reached_last i.reached seen.rest k)) w.begins
 
-        pub walk_through : StopIs s (record { ending = Through; row = row; at = at; job = next; count = m; jobs = vs })
-        walk_through =
-            let few = i.reached.few in
-            let within = i.reached.within in
-            let size = i.size in
-            through refl i.reached.reading all (some_job w.step) (sym (reached_many i.reached seen.rest k)) (omega arith) w.stands.many w.stands.jobs w.stands.job
+        pub walk_end : (b : Book) → EndedIs vs m next.count row b → BookIs s b
+        walk_end b (missing e c v) =
+            let z = reached_many i.reached seen.rest k in
+            refused_is b Misplaced (row + 1) (c, v)
+            (unfinished i.size i.reached.reading (record { typed = _; jobs = w.grew; begins = all; missing = lacks w.step (sym (ap (λ (j : Job). j.count) w.stands.job) ∙ e) }) (ap (λ (m : ℕ). refused 4 (m + 1)) (sym z)))
+        walk_end b (whole e c v) =
+            given_is b m c w.stands.many (v ∙ w.stands.jobs)
+            (begins_book i.size i.reached.reading all (has_load w.step (λ z. e (ap (λ (j : Job). j.count) w.stands.job ∙ z))))
 
--- the walk stops at a row that is refused where it stands
+-- a row that is refused where it stands is the first bad one
 module _ {s : List ℕ} {last : Job} {jobs : List Job} {keys : List Key} {n row at : ℕ} (i : Walk s last jobs keys n row at) {r : RowRead} (h : SeenAt s at r) where
-  pub walk_refused : (why : Refusal) (left : Job) → left ≡ last → RefusesRow last r.good r.row why → StopIs s (stopped i h why left)
-  walk_refused TooLong left e w = absurd w
-  walk_refused NotCsv left e w = absurd w
-  walk_refused NoForm left e w = walk_formless i h left w
-  walk_refused Misplaced left e w = walk_misplaced i h w.0 left e w.1
-  walk_refused TooManyJobs left e w = absurd w
-  walk_refused UsedKey left e w = absurd w
+  pub walk_refused : (why : Refusal) → RefusesRow last r.good r.row why → BookSays s (refused (refusal_number why) row)
+  walk_refused TooLong w = absurd w
+  walk_refused NotCsv w = absurd w
+  walk_refused NoForm w = walk_formless i h w
+  walk_refused Misplaced w = walk_misplaced i h w.0 w.1
+  walk_refused TooManyJobs w = absurd w
+  walk_refused UsedKey w = absurd w

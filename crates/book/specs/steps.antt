@@ -1,4 +1,5 @@
 pub mod Step
+pub mod Ended
 pub mod Kept
 pub mod Stop
 pub mod Faulted

@@ -1,8 +1,8 @@
 // Where the refusal of a book lies (document 01, "Refusals of a book", 1 to 6; "where a refusal lies"): where the text stops being RFC 4180;
 // why a row has no form; which rule a row out of place breaks; the 65th job; the earlier B row with a key that is used again.
 //
-// What is told is stated of the book alone, and the number and row of it are those of the book's reading. The walk over the rows is the
-// reader's own, so that both stop at one row; what lies there is asked only then.
+// What is told is stated of the book alone, and the number and row of it are those of the book's reading. The walk over the rows goes as
+// the reader's does, so that both stop at one row; what lies there is asked only then.
 ghost use Rattle.std.specs.Prelude.{◌≡◌, ◌≤◌, length, drop};
 ghost use Rattle.csv_text.specs.rfc4180.Rfc4180.{Readable};
 ghost use Rattle.book.specs.faults.Rules.{UsedAt};
@@ -11,8 +11,8 @@ ghost use Rattle.book.specs.faults.FormAlone.{FormLies};
 ghost use Rattle.book.specs.steps.Stop.{StopIs};
 ghost use Rattle.book.specs.steps.Faulted.{RuleAt, rows_in_river, UsedAmong};
 
-use crate::walk;
-use crate::walk::{Ending, Stop};
+use crate::stops;
+use crate::stops::{Ending, Stop};
 use csv_text::strays::TextFault;
 use jobs::Job;
 use jobs::misplaced::{Misplaced, Placing};
@@ -121,7 +121,7 @@ pub fn book_fault(book: &[u8]) -> BookFault
     if !csv_text::is_csv(book) {
         return BookFault::Text(csv_text::strays::text_fault(book));
     }
-    stop_fault(book, walk::walk_rows(book))
+    stop_fault(book, stops::walk_rows(book))
 }
 
 // Why a row of a book has no form, whatever stands before it; nothing where there is no such row, or the text is not RFC 4180. The first row

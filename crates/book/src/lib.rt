@@ -8,6 +8,7 @@
 pub mod counted;
 pub mod faults;
 mod step;
+mod stops;
 mod walk;
 
 ghost use Rattle.book.specs.Reading.{BookIs, CountIs};

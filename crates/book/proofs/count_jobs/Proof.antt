@@ -3,11 +3,11 @@ use borrow.Author.Rules.{rules}
 use Rattle.book.proofs.count_jobs.Statement.{statement}
 use Rattle.book.proofs.count_jobs.Tie as tie
 
-read-book-requires : tie.Need-read-book-requires
+read-book-requires : tie.Need-read_book-read-requires
 read-book-requires c κs = search rules
 
 returns : tie.Need-returns
-returns c = record { jobs = c.read-book.result.jobs; says = c.read-book.ensures.says }
+returns c = record { jobs = c.read_book-read.result.jobs; says = c.read_book-read.ensures.says }
 
 pub count_jobs_spec : {M : Type 1} → statement M
 count_jobs_spec = tie.close (tie.spec read-book-requires returns)

@@ -121,7 +121,7 @@ module _ {css : List (List Cell)} {n m : ℕ} (b : Behind css n) (c : Behind css
       level b.at.before c.at.before b.at.behind c.at.behind b.row c.row (sym b.at.are ∙ c.at.are) (omega arith)
 
   same_jobs : b.jobs ≡ c.jobs
-  same_jobs = begins_one b.begins (subst (λ (l : List (List Cell)). Begins l c.type-inv c.jobs) (sym same_row.0) c.begins)
+  same_jobs = begins_one b.begins (subst (λ (l : List (List Cell)). Begins l c.typed c.jobs) (sym same_row.0) c.begins)
 
   same_form : {r q : BookRow} → Form b.row r → Form c.row q → r ≡ q
   same_form {q = q} f g = form_one f (subst (λ (l : List Cell). Form l q) (sym same_row.1) g)

@@ -36,6 +36,7 @@ key_of : (j : WrittenJob) → (job_value j).key ≡ (base j).keyed.key
 key_of (job b v ls) = refl
 
 not_none : {r : BookRow} (js : Jobs) → count js ≡ 0 → Used r js → ⊥
+not_none none e u = elim u [ ]
 not_none (js and j) e u = omega arith
 
 module _ {jobs : List Job} {n row : ℕ} {key : Key} (w : UsedAmong jobs n row key) where

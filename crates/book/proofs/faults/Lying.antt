@@ -34,8 +34,8 @@ use Rattle.book.specs.faults.Faults as lies
 use Rattle.book.specs.faults.Faults.{Behind, RowsLie, BookLies}
 use Rattle.book.specs.declared.faults.BookFault.{BookFault}
 use Rattle.book.specs.declared.faults.BookFault.TheVariants as fault
-use Rattle.book.specs.declared.walk.Ending.TheVariants as ending
-use Rattle.book.specs.declared.walk.Stop.{Stop}
+use Rattle.book.specs.declared.stops.Ending.TheVariants as ending
+use Rattle.book.specs.declared.stops.Stop.{Stop}
 use Rattle.book.proofs.Answers.{begins_book}
 use Rattle.book.proofs.Stopping.{lacks, has_load}
 use Rattle.book.proofs.faults.Ruling.{first_rule, base_unruled}

@@ -8,50 +8,37 @@ use borrow.Author.Rules.{rules}
 use Rattle.book.proofs.note_of.Statement.{statement}
 use Rattle.book.proofs.note_of.Tie as tie
 
-count-jobs-requires : tie.Need-count-jobs-requires
+count-jobs-requires : tie.Need-count_jobs-requires
 count-jobs-requires c κs = search rules
 
-enum_told : tie.Need-enum-told
+enum_told : tie.Need-enum_told-1
 enum_told c = search rules
 
-note-at-requires : tie.Need-note-at-requires
+note-at-requires : tie.Need-note_at-requires
 note-at-requires c κs =
-    let a = read_exactly.0 (subst (CountIs _) c.enum_told.given.1 c.before.before.count-jobs.ensures).says in
+    let a = read_exactly.0 (subst (CountIs _) c.in-Given.is c.count_jobs.ensures).says in
     record { rows = a.book.rows; reading = a.book.text }
 
-enum-told-2 : tie.Need-enum-told-2
+enum-told-2 : tie.Need-enum_told-in-Refused
 enum-told-2 c = search rules
 
-sub-result : tie.Need-overflow-sub-result
+sub-result : tie.Need-slice_bounds-result-count
 sub-result c = search rules
 
-part-result-start : tie.Need-slice-bounds-result-start
+part-result-start : tie.Need-slice_bounds-result-start
 part-result-start c = search rules
 
-part-result-end : tie.Need-slice-bounds-result-end
+part-result-end : tie.Need-slice_bounds-result-end
 part-result-end c = search rules
 
-returns : tie.Need-returns
+returns : tie.Need-returns-in-Given
 returns c =
-    let at_told = c.before in
-    let a = read_exactly.0 (subst (CountIs _) at_told.enum_told.given.1 at_told.before.before.count-jobs.ensures).says in
-    book_note a.book c.note-at.ensures
+    let a = read_exactly.0 (subst (CountIs _) c.in-Given.is c.count_jobs.ensures).says in
+    book_note a.book c.note_at.ensures
 
-returns-2 : tie.Need-returns-2
+returns-2 : tie.Need-returns-in-Refused
 returns-2 c =
-    let at_told = c.before in
-    no_book (refused_none (subst (CountIs _) at_told.enum-told2.given.1 at_told.before.before.count-jobs.ensures).says) refl
+    no_book (refused_none (subst (CountIs _) c.in-Refused.is c.count_jobs.ensures).says) refl
 
 pub note_of_spec : {M : Type 1} → statement M
-note_of_spec =
-    tie.close
-    (tie.spec
-    count-jobs-requires
-    enum_told
-    note-at-requires
-    enum-told-2
-    sub-result
-    part-result-start
-    part-result-end
-    returns
-    returns-2)
+note_of_spec = tie.close (tie.spec count-jobs-requires enum_told note-at-requires enum-told-2 sub-result part-result-start part-result-end returns returns-2)

@@ -12,8 +12,8 @@ use Rattle.book.specs.Beginning.{Loaded, Begins}
 use Rattle.book.specs.counted.Places.{places}
 use Rattle.book.specs.Values.{values}
 use Rattle.book.specs.steps.Kept.{last_value}
-use Rattle.book.specs.declared.walk.Ending.TheVariants.{Through, Refused}
-use Rattle.book.specs.declared.walk.Stop.{Stop}
+use Rattle.book.specs.declared.stops.Ending.TheVariants.{Through, Refused}
+use Rattle.book.specs.declared.stops.Stop.{Stop}
 
 -- at a row that is refused
 abbrev pub refused_stop : Refusal → ℕ → ℕ → Job → ℕ → List Job → Stop

@@ -9,38 +9,28 @@ use Rattle.book.specs.faults.Faults.{too_long, text}
 use Rattle.book.proofs.faults.book_fault.Statement.{statement}
 use Rattle.book.proofs.faults.book_fault.Tie as tie
 
-returns : tie.Need-returns
-returns c = too_long c.if1.true
+returns : tie.Need-returns-then-book-gt65536
+returns c = too_long c.if-book-gt65536.true
 
-is-csv-requires : tie.Need-is-csv-requires
+is-csv-requires : tie.Need-is_csv-requires
 is-csv-requires c κs = search rules
 
-text-fault-requires : tie.Need-text-fault-requires
+text-fault-requires : tie.Need-text_fault-requires
 text-fault-requires c κs = search rules
 
-returns-2 : tie.Need-returns-2
+returns-2 : tie.Need-returns-then-not-is_csv
 returns-2 c =
-    let at_csv = c.before.before in
-    text at_csv.before.if1.false c.text_fault.ensures
-    (λ e. refuted at_csv.is-csv.result (not-true _ c.before.if2.true) at_csv.is-csv.ensures (sound_readable (subst (TextSays _) e c.text_fault.ensures)))
+    text c.if-book-gt65536.false c.text_fault.ensures
+    (λ e. refuted c.is_csv.result c.if-not-is_csv.true c.is_csv.ensures (sound_readable (subst (TextSays _) e c.text_fault.ensures)))
 
-walk-rows-requires : tie.Need-walk-rows-requires
-walk-rows-requires c κs = (c.before.before.if1.false, decided c.before.is-csv.result (not-false _ c.if2.false) c.before.is-csv.ensures)
+walk-rows-requires : tie.Need-walk_rows-requires
+walk-rows-requires c κs = (c.if-book-gt65536.false, decided c.is_csv.result c.if-not-is_csv.false c.is_csv.ensures)
 
-stop-fault-requires : tie.Need-stop-fault-requires
+stop-fault-requires : tie.Need-stop_fault-requires
 stop-fault-requires c κs = search rules
 
-returns-3 : tie.Need-returns-3
+returns-3 : tie.Need-returns
 returns-3 c = search rules
 
 pub book_fault_spec : {M : Type 1} → statement M
-book_fault_spec =
-    tie.close
-    (tie.spec
-    returns
-    is-csv-requires
-    text-fault-requires
-    returns-2
-    walk-rows-requires
-    stop-fault-requires
-    returns-3)
+book_fault_spec = tie.close (tie.spec returns is-csv-requires text-fault-requires returns-2 walk-rows-requires stop-fault-requires returns-3)

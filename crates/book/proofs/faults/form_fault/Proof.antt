@@ -11,44 +11,34 @@ use Rattle.book.proofs.faults.Forming.{form_first, form_there, form_missing}
 use Rattle.book.proofs.faults.form_fault.Statement.{statement}
 use Rattle.book.proofs.faults.form_fault.Tie as tie
 
-readable : (c : tie.Else1) → Readable c.before.before.before.args.book.now
-readable c = decided c.before.is-csv.result (not-false _ c.if1.false) c.before.is-csv.ensures
+readable : (c : tie.Else-not-is_csv) → Readable c.args.book.now
+readable c = decided c.is_csv.result c.if-not-is_csv.false c.is_csv.ensures
 
-is-csv-requires : tie.Need-is-csv-requires
+is-csv-requires : tie.Need-is_csv-requires
 is-csv-requires c κs = search rules
 
-returns : tie.Need-returns
-returns c = no_text (refuted c.before.is-csv.result (not-true _ c.if1.true) c.before.is-csv.ensures) refl
+returns : tie.Need-returns-then-not-is_csv
+returns c = no_text (refuted c.is_csv.result c.if-not-is_csv.true c.is_csv.ensures) refl
 
-fault-at-requires : tie.Need-fault-at-requires
+fault-at-requires : tie.Need-fault_at-requires
 fault-at-requires c κs = (search rules, readable c.before)
 
-returns-2 : tie.Need-returns-2
-returns-2 c = form_first (readable c.before.before) c.before.if2.true c.fault-at.ensures
+returns-2 : tie.Need-returns-then-row-eq1
+returns-2 c = form_first (readable c.before.before) c.if-row-eq1.true c.fault_at.ensures
 
-start-of-requires : tie.Need-start-of-requires
+start-of-requires : tie.Need-start_of-start-requires
 start-of-requires c κs = search rules
 
-returns-3 : tie.Need-returns-3
-returns-3 c = form_missing (readable c.before.before.before) c.before.before.if2.false c.before.start_of_lem.ensures (let past = c.if3.true in omega arith) refl
+returns-3 : tie.Need-returns-then-book-start
+returns-3 c = form_missing (readable c.before.before.before) c.if-row-eq1.false c.start_of-start.ensures (let past = c.if-book-start.true in omega arith) refl
 
-fault-at-requires-2 : tie.Need-fault-at-requires-2
+fault-at-requires-2 : tie.Need-fault_at-requires-2
 fault-at-requires-2 c κs =
-    let there = started c.before.start_of_lem.ensures (let inside = c.if3.false in omega arith) in
+    let there = started c.start_of-start.ensures (let inside = c.if-book-start.false in omega arith) in
     (there.here.within, record { rows = _; reading = there.here.file })
 
-returns-4 : tie.Need-returns-4
-returns-4 c = form_there (started c.before.before.start_of_lem.ensures (let inside = c.before.if3.false in omega arith)) c.fault-at2.ensures
+returns-4 : tie.Need-returns
+returns-4 c = form_there (started c.start_of-start.ensures (let inside = c.if-book-start.false in omega arith)) c.fault_at-2.ensures
 
 pub form_fault_spec : {M : Type 1} → statement M
-form_fault_spec =
-    tie.close
-    (tie.spec
-    is-csv-requires
-    returns
-    fault-at-requires
-    returns-2
-    start-of-requires
-    returns-3
-    fault-at-requires-2
-    returns-4)
+form_fault_spec = tie.close (tie.spec is-csv-requires returns fault-at-requires returns-2 start-of-requires returns-3 fault-at-requires-2 returns-4)

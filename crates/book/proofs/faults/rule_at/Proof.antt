@@ -16,18 +16,17 @@ read_as : (good : Bool) {cs : List Cell} {k : Keyed} {r : BookRow} → RowGiven 
 read_as true g f = ap (λ (x : BookRow). x.keyed) (form_one g f)
 read_as false {r = r} g f = absurd (g.0 r f)
 
-read-row-requires : tie.Need-read-row-requires
+read-row-requires : tie.Need-read_row-read-requires
 read-row-requires c κs = search rules
 
-rule-of-requires : tie.Need-rule-of-requires
+rule-of-requires : tie.Need-rule_of-requires
 rule-of-requires c κs = search rules
 
 returns : tie.Need-returns
 returns c =
-    let read = c.before.before in
-    let job = read.before.before.args.job in
+    let job = c.args.job in
     λ cs css r file form.
-    subst (λ (k : Keyed). PlacingIs job k c.rule-of.result) (read_as read.read-row.result.good (read.read-row.ensures cs css file).means form) c.rule-of.ensures
+    subst (λ (k : Keyed). PlacingIs job k c.rule_of.result) (read_as c.read_row-read.result.good (c.read_row-read.ensures cs css file).means form) c.rule_of.ensures
 
 pub rule_at_spec : {M : Type 1} → statement M
 rule_at_spec = tie.close (tie.spec read-row-requires rule-of-requires returns)

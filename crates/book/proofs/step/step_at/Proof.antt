@@ -24,24 +24,22 @@ does j row e (Refused UsedKey) next t = unlike 6 4 refl t.0
 does j row e Joined next t = (e, t)
 does j row e Started next t = (e, t)
 
-read-row-requires : tie.Need-read-row-requires
+read-row-requires : tie.Need-read_row-r-requires
 read-row-requires c κs = search rules
 
-take-requires : tie.Need-take-requires
+take-requires : tie.Need-take-taken-requires
 take-requires c κs = search rules
 
-returns : tie.Need-returns
+returns : tie.Need-returns-then-r
 returns c =
-    let taken = c.before in
-    let row = taken.before.before.before in
-    let r = row.read-row in
-    let goes = does row.before.before.args.job r.result.row taken.before.before.if1.true taken.take.result.answer taken.take.result.job taken.take.ensures in
+    let r = c.read_row-r in
+    let goes = does c.args.job r.result.row c.if-r.true c.take-taken.result.answer c.take-taken.result.job c.take-taken.ensures in
     record { good = r.result.good; keyed = r.result.row; seen = r.ensures; goes = goes }
 
-returns-2 : tie.Need-returns-2
+returns-2 : tie.Need-returns-else-r
 returns-2 c =
-    let r = c.before.read-row in
-    record { good = r.result.good; keyed = r.result.row; seen = r.ensures; goes = (c.if1.false, refl) }
+    let r = c.read_row-r in
+    record { good = r.result.good; keyed = r.result.row; seen = r.ensures; goes = (c.if-r.false, refl) }
 
 pub step_at_spec : {M : Type 1} → statement M
 step_at_spec = tie.close (tie.spec read-row-requires take-requires returns returns-2)
