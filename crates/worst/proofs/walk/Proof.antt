@@ -42,24 +42,24 @@ none_words : Words unweighed
 unfolding none
 none_words check = subst⁻¹ (λ (m : RankedSet). m.rank ≤ 2 ^ 64 - 1) (none_yet check) (lit≤ tt)
 
-abbrev invariant-loop : tie.invariant-loop
+abbrev invariant-loop : tie.invariant-loop-way
 invariant-loop combination base loads serves leaders ways worst₀ way₀ worst way = (way ≤ ways) × Low worst × Words worst
     × (Sized base → Bounded loads → Led loads → Arises combination loads → LeadersIs combination loads loads.count leaders
     → SoFar combination base loads serves (GoneThrough combination loads leaders way) (record { rank = 2 ^ 64 - 1; set = 0 }) worst)
 
-abbrev decreases-loop : tie.decreases-loop
+abbrev decreases-loop : tie.decreases-loop-way
 decreases-loop combination base loads serves leaders ways worst₀ way₀ worst way = ways - way
 
-serves-requires : tie.Need-serves-requires invariant-loop decreases-loop
+serves-requires : tie.Need-serves-serves-requires invariant-loop decreases-loop
 serves-requires c κs = search rules
 
-leaders-of-requires : tie.Need-leaders-of-requires invariant-loop decreases-loop
-leaders-of-requires c κs = c.before.requires.1.0
+leaders-of-requires : tie.Need-leaders_of-leaders-requires invariant-loop decreases-loop
+leaders-of-requires c κs = c.requires.1.0
 
-ways-of-requires : tie.Need-ways-of-requires invariant-loop decreases-loop
+ways-of-requires : tie.Need-ways_of-ways-requires invariant-loop decreases-loop
 ways-of-requires c κs = search rules
 
-loop-holds : tie.Need-loop-init invariant-loop decreases-loop
+loop-holds : tie.Need-loop-way-init invariant-loop decreases-loop
 unfolding unweighed none
 loop-holds c = (
   omega arith,
@@ -68,60 +68,38 @@ loop-holds c = (
   λ sized bounded led arises is. nothing_passed _ _ _ sized bounded led arises _ is _ none unweighed refl none_yet,
 )
 
-present-in-requires : tie.Need-present-in-requires invariant-loop decreases-loop
+present-in-requires : tie.Need-present_in-requires invariant-loop decreases-loop
 present-in-requires c κs = search rules
 
-walk-choices-requires : tie.Need-walk-choices-requires invariant-loop decreases-loop
+walk-choices-requires : tie.Need-walk_choices-worst-requires invariant-loop decreases-loop
 walk-choices-requires c κs =
-    let at = c.before.before in
-    let e = at.before.before.before.before in
-    (e.requires.0, (e.requires.1.0, (at.loop.invariant.1, at.loop.invariant.2)))
+    (c.requires.0, (c.requires.1.0, (c.loop-way.invariant.1, c.loop-way.invariant.2)))
 
-add-way : tie.Need-overflow-add-way invariant-loop decreases-loop
-add-way c = omega (arith, c.before.before.loop-test.true)
+add-way : tie.Need-overflow_add-way invariant-loop decreases-loop
+add-way c = omega (arith, c.loop-way-test.true)
 
-loop-less : tie.Need-loop-smaller invariant-loop decreases-loop
-loop-less c = omega (arith, c.before.before.loop-test.true)
+loop-less : tie.Need-loop-way-smaller invariant-loop decreases-loop
+loop-less c = omega (arith, c.loop-way-test.true)
 
-loop-again : tie.Need-loop-preserved invariant-loop decreases-loop
+loop-again : tie.Need-loop-way-preserved invariant-loop decreases-loop
 unfolding none trains_in
 loop-again c =
-    let t = c.before.before in
-    let inv = t.before.loop.invariant in
-    let w = c.walk-choices.ensures in (
-      omega (arith, t.loop-test.true),
+    let inv = c.loop-way.invariant in
+    let w = c.walk_choices-worst.ensures in (
+      omega (arith, c.loop-way-test.true),
       w.low,
       w.words,
-      λ sized bounded led arises is. one_way _ _ _ sized bounded led arises _ is _ none _ (rw (← c.before.present-in.ensures) w) (inv.3 sized bounded led arises is),
+      λ sized bounded led arises is. one_way _ _ _ sized bounded led arises _ is _ none _ (rw (← c.present_in.ensures) w) (inv.3 sized bounded led arises is),
     )
 
 returns : tie.Need-returns invariant-loop decreases-loop
 unfolding none
 returns c =
-    let d = c.before in
-    let w = d.before in
-    let l = w.before in
-    let s = l.before in
-    let e = s.before in
-    let inv = d.loop.invariant in
-    let n : d.loop.way ≡ w.ways-of.result = omega (arith, inv.0, c.loop-test.false) in
-    all_found e.args.combination e.args.base e.args.loads e.requires.0 e.requires.1.0 e.requires.1.1.0 e.requires.1.1.1 _ l.leaders-of.ensures _ _ none _
-    (n ∙ w.ways-of.ensures) refl refl s.serves.ensures
-    (inv.3 e.requires.0 e.requires.1.0 e.requires.1.1.0 e.requires.1.1.1 l.leaders-of.ensures)
+    let inv = c.loop-way.invariant in
+    let n : c.loop-way.way ≡ c.ways_of-ways.result = omega (arith, inv.0, c.loop-way-test.false) in
+    all_found c.args.combination c.args.base c.args.loads c.requires.0 c.requires.1.0 c.requires.1.1.0 c.requires.1.1.1 _ c.leaders_of-leaders.ensures _ _ none _
+    (n ∙ c.ways_of-ways.ensures) refl refl c.serves-serves.ensures
+    (inv.3 c.requires.0 c.requires.1.0 c.requires.1.1.0 c.requires.1.1.1 c.leaders_of-leaders.ensures)
 
 pub walk_spec : {M : Type 1} → statement M
-walk_spec =
-    tie.close
-    (tie.spec
-    invariant-loop
-    decreases-loop
-    serves-requires
-    leaders-of-requires
-    ways-of-requires
-    loop-holds
-    present-in-requires
-    walk-choices-requires
-    add-way
-    loop-less
-    loop-again
-    returns)
+walk_spec = tie.close (tie.spec invariant-loop decreases-loop serves-requires leaders-of-requires ways-of-requires loop-holds present-in-requires walk-choices-requires add-way loop-less loop-again returns)

@@ -1,4 +1,4 @@
--- All sets up to the step where the walk stands are visited, for whatever loads and trains the table is filled from: these are not at hand in the loop.
+-- All sets up to the step where the walk stands are visited, for whatever loads and trains the table is from: these are not hand in the loop.
 use native.Mathlib.Omega.{arith}
 use native.Mathlib.Numerals.{add-one}
 use mathlib.Core.Path.{◌≡◌, refl, ◌∙◌, subst, subst⁻¹}
@@ -39,40 +39,37 @@ On combination serves base steps last first worst₀ step worst =
     → Visited combination serves base (carried_of combination base.width loads trains) 1 b worst₀
     → Visited combination serves base (carried_of combination base.width loads trains) (step + 1) b worst
 
-abbrev invariant-loop : tie.invariant-loop
+abbrev invariant-loop : tie.invariant-loop-standing
 invariant-loop combination serves base width steps last worst₀ standing₀ worst standing = (standing.step ≤ last) × Low worst × Words worst × (standing.carried ≡ reached steps standing₀.carried standing.step)
     × On combination serves base steps last standing₀.carried worst₀ standing.step worst
 
-abbrev decreases-loop : tie.decreases-loop
+abbrev decreases-loop : tie.decreases-loop-standing
 decreases-loop combination serves base width steps last worst₀ standing₀ worst standing = last - standing.step
 
-table-of-requires : tie.Need-table-of-requires invariant-loop decreases-loop
+table-of-requires : tie.Need-table_of-table-requires invariant-loop decreases-loop
 table-of-requires c κs = (c.requires.0.width, c.requires.1.0)
 
 -- ---- what the table tells
-module _ (c : tie.After-table-of invariant-loop decreases-loop) where
-  abbrev start : tie.Start invariant-loop decreases-loop
-  start = c.before
-
+module _ (c : tie.After-table_of-table invariant-loop decreases-loop) where
   abbrev table : StepTable
-  table = c.table_of.result
+  table = c.table_of-table.result
 
   few : table.last < 65536
   few =
-      let h : 2 ^ choosable (stance_at start.args.combination start.args.loads start.args.trains) start.args.loads.count ≤ 65536 =
-      pow_mono {j = 16} (omega (arith, choosable_room (stance_at start.args.combination start.args.loads start.args.trains) start.args.loads.count, start.pre.1.0.count)) in
-      omega (arith, h, c.table_of.ensures.last)
+      let h : 2 ^ choosable (stance_at c.args.combination c.args.loads c.args.trains) c.args.loads.count ≤ 65536 =
+      pow_mono {j = 16} (omega (arith, choosable_room (stance_at c.args.combination c.args.loads c.args.trains) c.args.loads.count, c.requires.1.0.count)) in
+      omega (arith, h, c.table_of-table.ensures.last)
 
   -- what is carried on the way is what the choices have, and all of it is small
-  all_there : (k : ℕ) → k ≤ table.last → reached table.steps table.first k ≡ carried_of start.args.combination start.args.base.width start.args.loads start.args.trains k
-  all_there k h = carried_there start.args.combination start.args.base start.args.loads start.args.trains start.pre.0 start.pre.1.0 table c.table_of.ensures k h
+  all_there : (k : ℕ) → k ≤ table.last → reached table.steps table.first k ≡ carried_of c.args.combination c.args.base.width c.args.loads c.args.trains k
+  all_there k h = carried_there c.args.combination c.args.base c.args.loads c.args.trains c.requires.0 c.requires.1.0 table c.table_of-table.ensures k h
 
   all_small : (k : ℕ) → k ≤ table.last → SmallCarried (reached table.steps table.first k)
-  all_small k h = subst⁻¹ SmallCarried (all_there k h) (small_at start.args.combination start.args.base start.args.loads start.args.trains start.pre.0 start.pre.1.0 k)
+  all_small k h = subst⁻¹ SmallCarried (all_there k h) (small_at c.args.combination c.args.base c.args.loads c.args.trains c.requires.0 c.requires.1.0 k)
 
-visit-requires : tie.Need-visit-requires invariant-loop decreases-loop
+visit-requires : tie.Need-visit-worst-requires invariant-loop decreases-loop
 unfolding reached
-visit-requires c κs = let t = c.before.before in let e = start t in (e.pre.0, (all_small t 0 (omega arith), e.pre.1.1.0))
+visit-requires c κs = (c.requires.0, (all_small c.before.before 0 (omega arith), c.requires.1.1.0))
 
 -- ---- one step, and those passed over before it
 module _ (combination : Combination) (base : Base) (serves : Bool) (loads : Loads) (trains : Trains) (sized : Sized base) (bounded : Bounded loads) (steps : List ℕ) (last : ℕ) (first : Carried)
@@ -96,109 +93,79 @@ module _ (combination : Combination) (base : Base) (serves : Bool) (loads : Load
       subst (Within base.width (bounds_of serves base worst)) (there k (omega arith))
       (subst (λ (b : Bounds). Within base.width b (reached steps first k)) e (all k p (omega arith)))))
 
-loop-holds : tie.Need-loop-init invariant-loop decreases-loop
+loop-holds : tie.Need-loop-standing-init invariant-loop decreases-loop
 unfolding reached
 loop-holds c =
-    let v = c.visit.ensures in (
+    let v = c.visit-worst.ensures in (
       omega arith,
       v.low,
-      visits_words _ _ _ _ (start c.before.before.before).pre.1.1.1 v,
+      visits_words _ _ _ _ c.requires.1.1.1 v,
       refl,
       λ loads trains b sized bounded f so. so,
     )
 
 -- ---- on the way
-module _ (c : tie.Then1 invariant-loop decreases-loop) where
-  abbrev at : tie.At-loop invariant-loop decreases-loop
-  at = c.before.before
+bounds-of-requires : tie.Need-bounds_of-bounds-requires invariant-loop decreases-loop
+bounds-of-requires c κs = (c.requires.0, c.loop-standing.invariant.1)
 
-  abbrev filled : tie.After-table-of invariant-loop decreases-loop
-  filled = at.before.before.before.before
-
-bounds-of-requires : tie.Need-bounds-of-requires invariant-loop decreases-loop
-bounds-of-requires c κs = ((start (filled c)).pre.0, (at c).loop.inv.1)
-
-pass-over-requires : tie.Need-pass-over-requires invariant-loop decreases-loop
+pass-over-requires : tie.Need-pass_over-standing-requires invariant-loop decreases-loop
 pass-over-requires c κs =
-    let d = c.before.before in
-    let t = filled d in
-    let b = c.before.bounds_of in (
-      (start t).pre.0.width,
+    let b = c.bounds_of-bounds in (
+      c.requires.0.width,
       (
-        subst⁻¹ Fitting b.ensures (bounds_fit _ _ _ (start t).pre.0),
+        subst⁻¹ Fitting b.ensures (bounds_fit _ _ _ c.requires.0),
         record {
-          few = few t;
-          first = (table t).first;
-          here = (at d).loop.inv.3;
-          small = all_small t;
+          few = few c.before.before.before.before.before.before.before.before;
+          first = (table c.before.before.before.before.before.before.before.before).first;
+          here = c.loop-standing.invariant.3;
+          small = all_small c.before.before.before.before.before.before.before.before;
         },
       ),
     )
 
-module _ (c : tie.After-pass-over invariant-loop decreases-loop) where
-  abbrev turn : tie.Then1 invariant-loop decreases-loop
-  turn = c.before.before.before
+module _ (c : tie.After-pass_over-standing invariant-loop decreases-loop) where
+  next_ends : c.pass_over-standing.result.step ≤ (table (c.before.before.before.before.before.before.before.before.before)).last
+  next_ends = c.pass_over-standing.ensures.ends c.loop-standing.invariant.0
 
-  next_ends : c.pass-over.result.step ≤ (table (filled turn)).last
-  next_ends = c.pass-over.ensures.ends (at turn).loop.inv.0
+  next_here : c.pass_over-standing.result.carried ≡ reached (table (c.before.before.before.before.before.before.before.before.before)).steps (table (c.before.before.before.before.before.before.before.before.before)).first c.pass_over-standing.result.step
+  next_here = c.pass_over-standing.ensures.here (table (c.before.before.before.before.before.before.before.before.before)).first c.loop-standing.invariant.3
 
-  next_here : c.pass-over.result.carried ≡ reached (table (filled turn)).steps (table (filled turn)).first c.pass-over.result.step
-  next_here = c.pass-over.ensures.here (table (filled turn)).first (at turn).loop.inv.3
+  onward : c.loop-standing.standing.step < c.pass_over-standing.result.step
+  onward = c.pass_over-standing.ensures.onward (omega (arith, c.loop-standing-test.true))
 
-  onward : (at turn).loop.standing.step < c.pass-over.result.step
-  onward = c.pass-over.ensures.onward (omega (arith, turn.if1.taken))
-
-visit-requires-2 : tie.Need-visit-requires-2 invariant-loop decreases-loop
+visit-requires-2 : tie.Need-visit-worst-requires-in-loop-standing invariant-loop decreases-loop
 visit-requires-2 c κs =
-    let t = filled (turn c) in
-    ((start t).pre.0, (subst⁻¹ SmallCarried (next_here c) (all_small t _ (next_ends c)), (at (turn c)).loop.inv.1))
+    (c.requires.0, (subst⁻¹ SmallCarried (next_here c.before) (all_small c.before.before.before.before.before.before.before.before.before.before _ (next_ends c.before)), c.loop-standing.invariant.1))
 
-loop-less : tie.Need-loop-smaller invariant-loop decreases-loop
-loop-less c = omega (arith, onward c.before, next_ends c.before)
+loop-less : tie.Need-loop-standing-smaller invariant-loop decreases-loop
+loop-less c = omega (arith, onward c.before.before, next_ends c.before.before)
 
-loop-again : tie.Need-loop-preserved invariant-loop decreases-loop
+loop-again : tie.Need-loop-standing-preserved invariant-loop decreases-loop
 loop-again c =
-    let d = c.before in
-    let inv = (at (turn d)).loop.inv in
-    let v = c.visit2.ensures in (
-      next_ends d,
+    let inv = c.loop-standing.invariant in
+    let v = c.visit-worst-in-loop-standing.ensures in (
+      next_ends c.before.before,
       v.low,
       visits_words _ _ _ _ inv.2 v,
-      next_here d,
+      next_here c.before.before,
       λ loads trains b sized bounded f so.
-          stepped _ _ _ loads trains sized bounded _ _ _ f d.pass-over.result.step (next_ends d) (next_here d) v
-          (passed _ _ _ loads trains sized bounded _ _ _ f (at (turn d)).loop.standing.step d.pass-over.result.step inv.1 inv.2 (onward d) (next_ends d) d.before.before.bounds_of.ensures
-          (d.pass-over.ensures.over (table (filled (turn d))).first inv.3) (inv.4 loads trains b sized bounded f so)),
+          stepped _ _ _ loads trains sized bounded _ _ _ f c.pass_over-standing.result.step (next_ends c.before.before) (next_here c.before.before) v
+          (passed _ _ _ loads trains sized bounded _ _ _ f c.loop-standing.standing.step c.pass_over-standing.result.step inv.1 inv.2 (onward c.before.before) (next_ends c.before.before) c.bounds_of-bounds.ensures
+          (c.pass_over-standing.ensures.over (table (c.before.before.before.before.before.before.before.before.before.before.before)).first inv.3) (inv.4 loads trains b sized bounded f so)),
     )
 
 returns : tie.Need-returns invariant-loop decreases-loop
 unfolding count_of reached
 returns c =
-    let d = c.before.before in
-    let t = d.before.before.before.before in
-    let e = start t in
-    let inv = d.loop.invariant in
-    let n : d.loop.standing.step + 1 ≡ (table t).last + 1 = omega (arith, inv.0, c.if1.false) in
+    let inv = c.loop-standing.invariant in
+    let n : c.loop-standing.standing.step + 1 ≡ (table c.before.before.before.before.before.before).last + 1 = omega (arith, inv.0, c.loop-standing-test.false) in
     record {
-      visited = subst (λ (k : ℕ). Visited e.args.combination e.args.serves e.args.base (carried_of e.args.combination e.args.base.width e.args.loads e.args.trains) k e.args.before d.loop.worst) (n ∙ t.table_of.ensures.last)
-          (inv.4 e.args.loads e.args.trains e.args.before e.pre.0 e.pre.1.0 t.table_of.ensures
-          (stepped _ _ _ _ _ e.pre.0 e.pre.1.0 _ _ _ t.table_of.ensures 0 (omega arith) refl d.before.visit.ensures none_yet));
+      visited = subst (λ (k : ℕ). Visited c.args.combination c.args.serves c.args.base (carried_of c.args.combination c.args.base.width c.args.loads c.args.trains) k c.args.before c.loop-standing.worst) (n ∙ c.table_of-table.ensures.last)
+          (inv.4 c.args.loads c.args.trains c.args.before c.requires.0 c.requires.1.0 c.table_of-table.ensures
+          (stepped _ _ _ _ _ c.requires.0 c.requires.1.0 _ _ _ c.table_of-table.ensures 0 (omega arith) refl c.visit-worst.ensures none_yet));
       low = inv.1;
       words = inv.2;
     }
 
 pub walk_choices_spec : {M : Type 1} → statement M
-walk_choices_spec =
-    tie.close
-    (tie.spec
-    invariant-loop
-    decreases-loop
-    table-of-requires
-    visit-requires
-    loop-holds
-    bounds-of-requires
-    pass-over-requires
-    visit-requires-2
-    loop-less
-    loop-again
-    returns)
+walk_choices_spec = tie.close (tie.spec invariant-loop decreases-loop table-of-requires visit-requires loop-holds bounds-of-requires pass-over-requires visit-requires-2 loop-less loop-again returns)

@@ -2,7 +2,6 @@
 -- set that the walk found for its check.
 use borrow.Author.Rules.{rules}
 use mathlib.Core.Path.{subst⁻¹}
-use borrow.Author.Tests.{not-true, not-false}
 use Rattle.arithmetic.proofs.Deciding.{decided, refuted}
 use Rattle.sets.specs.declared.Combination.{Combination}
 use Rattle.sets.specs.declared.Loads.{Loads}
@@ -41,73 +40,60 @@ module _ (combination : Combination) (base : Base) (loads : Loads) where
 arises-requires : tie.Need-arises-requires
 arises-requires c κs = search rules
 
-no-lines-requires : tie.Need-no-lines-requires
+no-lines-requires : tie.Need-no_lines-requires
 no-lines-requires c κs = search rules
 
-returns : tie.Need-returns
+returns : tie.Need-returns-then-not-arises
 returns c =
-    let arises = c.before.before in
-    let a = arises.before.args in
+    let a = c.args in
     subst⁻¹ (λ (r : Lines). (check : Check) → LineSays a.combination check a.base a.loads (line check r)) c.no_lines.ensures
-    (all_missing a.combination a.base a.loads (refuted arises.arises.result (not-true arises.arises.result c.before.if1.true) arises.arises.ensures))
+    (all_missing a.combination a.base a.loads (refuted c.arises.result c.if-not-arises.true c.arises.ensures))
 
-walk-requires : tie.Need-walk-requires
+walk-requires : tie.Need-walk-worst-requires
 walk-requires c κs =
-    (c.before.before.requires.0, (c.before.before.requires.1.0, (c.before.before.requires.1.1, decided c.before.arises.result (not-false c.before.arises.result c.if1.false) c.before.arises.ensures)))
+    (c.requires.0, (c.requires.1.0, (c.requires.1.1, decided c.arises.result c.if-not-arises.false c.arises.ensures)))
 
-line-at-requires : tie.Need-line-at-requires
+line-at-requires : tie.Need-line_at-requires
 unfolding ranked_of
 line-at-requires c κs =
-    let walked = c.walk.ensures in
-    let asked = c.before.before.before.requires in
+    let walked = c.walk-worst.ensures in
+    let asked = c.requires in
     (asked.0, (asked.1.0, (walked.has OP, walked.found OP)))
 
-line-at-requires-2 : tie.Need-line-at-requires-2
+line-at-requires-2 : tie.Need-line_at-requires-2
 unfolding ranked_of
 line-at-requires-2 c κs =
-    let walked = c.before.walk.ensures in
-    let asked = c.before.before.before.before.requires in
+    let walked = c.walk-worst.ensures in
+    let asked = c.requires in
     (asked.0, (asked.1.0, (walked.has OM, walked.found OM)))
 
-line-at-requires-3 : tie.Need-line-at-requires-3
+line-at-requires-3 : tie.Need-line_at-requires-3
 unfolding ranked_of
 line-at-requires-3 c κs =
-    let walked = c.before.before.walk.ensures in
-    let asked = c.before.before.before.before.before.requires in
+    let walked = c.walk-worst.ensures in
+    let asked = c.requires in
     (asked.0, (asked.1.0, (walked.has SL, walked.found SL)))
 
-line-at-requires-4 : tie.Need-line-at-requires-4
+line-at-requires-4 : tie.Need-line_at-requires-4
 unfolding ranked_of
 line-at-requires-4 c κs =
-    let walked = c.before.before.before.walk.ensures in
-    let asked = c.before.before.before.before.before.before.requires in
+    let walked = c.walk-worst.ensures in
+    let asked = c.requires in
     (asked.0, (asked.1.0, (walked.has PR, walked.found PR)))
 
-line-at-requires-5 : tie.Need-line-at-requires-5
+line-at-requires-5 : tie.Need-line_at-requires-5
 unfolding ranked_of
 line-at-requires-5 c κs =
-    let walked = c.before.before.before.before.walk.ensures in
-    let asked = c.before.before.before.before.before.before.before.requires in
+    let walked = c.walk-worst.ensures in
+    let asked = c.requires in
     (asked.0, (asked.1.0, (walked.has RK, walked.found RK)))
 
-returns-2 : tie.Need-returns-2
+returns-2 : tie.Need-returns
 unfolding line
 returns-2 c =
-    let a = c.before.before.before.before.before.before.before.before.args in
-    each a.combination a.base a.loads _ c.before.before.before.before.line_at_lem.ensures c.before.before.before.line-at2.ensures c.before.before.line-at3.ensures c.before.line-at4.ensures
-    c.line-at5.ensures
+    let a = c.args in
+    each a.combination a.base a.loads _ c.line_at.ensures c.line_at-2.ensures c.line_at-3.ensures c.line_at-4.ensures
+    c.line_at-5.ensures
 
 pub worst_lines_spec : {M : Type 1} → statement M
-worst_lines_spec =
-    tie.close
-    (tie.spec
-    arises-requires
-    no-lines-requires
-    returns
-    walk-requires
-    line-at-requires
-    line-at-requires-2
-    line-at-requires-3
-    line-at-requires-4
-    line-at-requires-5
-    returns-2)
+worst_lines_spec = tie.close (tie.spec arises-requires no-lines-requires returns walk-requires line-at-requires line-at-requires-2 line-at-requires-3 line-at-requires-4 line-at-requires-5 returns-2)

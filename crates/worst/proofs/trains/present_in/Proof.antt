@@ -3,7 +3,6 @@ use native.Mathlib.Omega.{arith}
 use native.Mathlib.Numerals.{add-one}
 use native.Mathlib.Nat.{le_antisymm}
 use mathlib.Core.Path.{◌≡◌, refl, sym, ◌∙◌, ap}
-use mathlib.Core.Logic.{⊎_elim}
 use Prim.Native.Nat.{ℕ, ◌+◌, ◌-◌, ◌/◌, ◌%◌, ◌^◌, ◌≤◌}
 use lib.Pow.{pow_mono}
 use Rattle.arithmetic.proofs.Deciding.{decided, refuted}
@@ -13,6 +12,7 @@ use Rattle.worst.specs.steps.Stance.{leading, held_by, next, choosable, join, pi
 use Rattle.worst.proofs.choices.Choices.{pick_low}
 use Rattle.worst.proofs.choices.Beside.{leads, leads_not}
 use Rattle.worst.proofs.trains.present_in.Statement.{statement}
+use Rattle.worst.proofs.trains.present_in.Lts.{then-holds, else-holds, then-rest-eq1, else-rest-eq1}
 use Rattle.worst.proofs.trains.present_in.Tie as tie
 
 -- what the rows passed tell: those that are there, and what is left of the way
@@ -49,62 +49,59 @@ module _ (leaders way i : ℕ) {present rest : ℕ} (t : Told leaders way i pres
 told_as : {leaders way i p p' r r' : ℕ} → Told leaders way i p r → p' ≡ p → r' ≡ r → Told leaders way i p' r'
 told_as t e d = rw (e, d) t
 
-abbrev invariant-loop : tie.invariant-loop
+abbrev invariant-loop : tie.invariant-loop-i
 invariant-loop leaders way present₀ rest₀ place₀ i₀ present rest place i = (i ≤ 16) × (place ≡ 2 ^ i) × Told leaders way i present rest
 
-abbrev decreases-loop : tie.decreases-loop
+abbrev decreases-loop : tie.decreases-loop-i
 decreases-loop leaders way present₀ rest₀ place₀ i₀ present rest place i = 16 - i
 
-loop-holds : tie.Need-loop-init invariant-loop decreases-loop
+loop-holds : tie.Need-loop-i-init invariant-loop decreases-loop
 unfolding pick choosable
 loop-holds c = (omega arith, omega arith, record { there = refl; left = omega arith })
 
 holds-requires : tie.Need-holds-requires invariant-loop decreases-loop
-holds-requires c κs = omega (arith, c.loop-test.true)
+holds-requires c κs = omega (arith, c.loop-i-test.true)
 
 -- what the next row counts fits
-module _ (c : tie.In-loop invariant-loop decreases-loop) where
-  abbrev at : tie.At-loop invariant-loop decreases-loop
-  at = c.before
+module _ (c : tie.In-loop-i invariant-loop decreases-loop) where
+  place_low : c.loop-i.place ≤ 32768
+  place_low = omega (arith, c.loop-i.invariant.1, pow_mono {i = c.loop-i.i} {j = 15} (omega (arith, c.loop-i-test.true)))
 
-  place_low : at.loop.place ≤ 32768
-  place_low = omega (arith, at.loop.inv.1, pow_mono {i = at.loop.i} {j = 15} (omega (arith, c.loop-test.true)))
-
-add-present : tie.Need-overflow-add-present invariant-loop decreases-loop
+add-present : tie.Need-overflow_add-present invariant-loop decreases-loop
 add-present c =
-    let d = c.before.before.before in
-    let inv = (at d).loop.inv in
-    omega (arith, place_low d, inv.1, inv.2.there, pick_low (leading (at d).before.args.leaders) (at d).loop.i (at d).before.args.way)
+    let inv = c.loop-i.invariant in
+    omega (arith, place_low c.before.before.before, inv.1, inv.2.there, pick_low (leading c.args.leaders) c.loop-i.i c.args.way)
 
-mul-place : tie.Need-overflow-mul-place invariant-loop decreases-loop
+mul-place : tie.Need-overflow_mul-place invariant-loop decreases-loop
 mul-place c = omega (arith, place_low c.before.before)
 
-add-i : tie.Need-overflow-add-i invariant-loop decreases-loop
-add-i c = omega (arith, c.before.before.loop-test.true)
+add-i : tie.Need-overflow_add-i invariant-loop decreases-loop
+add-i c = omega (arith, c.loop-i-test.true)
 
-loop-less : tie.Need-loop-smaller invariant-loop decreases-loop
-loop-less c = omega (arith, c.before.before.loop-test.true)
+loop-less : tie.Need-loop-i-smaller invariant-loop decreases-loop
+loop-less c = omega (arith, c.loop-i-test.true)
 
-loop-again : tie.Need-loop-preserved invariant-loop decreases-loop
+loop-again : tie.Need-loop-i-preserved invariant-loop decreases-loop
 loop-again c =
-    let h = c.before.holds in
-    let inv = (at c.before.before).loop.inv in (
-      omega (arith, c.before.before.loop-test.true),
+    let h = c.holds in
+    let inv = c.loop-i.invariant in (
+      omega (arith, c.loop-i-test.true),
       next_place _ _ inv.1,
-      ⊎_elim
-          (λ w.
-          let l = decided h.result w.0.taken h.ensures in
-          ⊎_elim (λ v. told_as (told_in _ _ _ inv.2 l v.0.taken) (w.2 ∙ v.1 ∙ ap (λ (x : ℕ). (at c.before.before).loop.present + x) inv.1) w.3)
-          (λ v. told_as (told_out _ _ _ inv.2 l (omega (arith, v.0.left))) (w.2 ∙ v.1) w.3) w.1.came)
-          (λ w. told_as (told_same _ _ _ inv.2 (refuted h.result w.0.left h.ensures)) w.1 w.2) c.if1.branch,
+      elim c.if-holds.branch [
+        | then-holds w ↦
+            let l = decided h.result w.if-holds.true h.ensures in
+            elim w.if-rest-eq1.branch [
+              | then-rest-eq1 v ↦ told_as (told_in _ _ _ inv.2 l v.if-rest-eq1.true) (w.present-is ∙ v.present-is ∙ ap (λ (x : ℕ). c.loop-i.present + x) inv.1) w.rest-is
+              | else-rest-eq1 v ↦ told_as (told_out _ _ _ inv.2 l (omega (arith, v.if-rest-eq1.false))) (w.present-is ∙ v.present-is) w.rest-is
+            ]
+        | else-holds w ↦ told_as (told_same _ _ _ inv.2 (refuted h.result w.if-holds.false h.ensures)) w.present-is w.rest-is
+      ],
     )
 
 returns : tie.Need-returns invariant-loop decreases-loop
 returns c =
-    let inv = c.before.loop.invariant in
-    inv.2.there ∙ ap (λ (i : ℕ). pick (leading c.before.before.args.leaders) i c.before.before.args.way) (le_antisymm inv.0 c.loop-test.false)
+    let inv = c.loop-i.invariant in
+    inv.2.there ∙ ap (λ (i : ℕ). pick (leading c.args.leaders) i c.args.way) (le_antisymm inv.0 c.loop-i-test.false)
 
 pub present_in_spec : {M : Type 1} → statement M
-present_in_spec =
-    tie.close
-    (tie.spec invariant-loop decreases-loop loop-holds holds-requires add-present mul-place add-i loop-less loop-again returns)
+present_in_spec = tie.close (tie.spec invariant-loop decreases-loop loop-holds holds-requires add-present mul-place add-i loop-less loop-again returns)

@@ -3,7 +3,6 @@ use native.Mathlib.Omega.{arith}
 use native.Mathlib.Numerals.{add-one}
 use native.Mathlib.Nat.{le_antisymm, pow-suc}
 use mathlib.Core.Path.{◌≡◌, ◌∙◌, ap}
-use mathlib.Core.Logic.{⊎_elim}
 use Prim.Native.Nat.{ℕ, ◌+◌, ◌*◌, ◌-◌, ◌^◌, ◌≤◌}
 use lib.Pow.{pow_mono}
 use Rattle.arithmetic.proofs.Deciding.{decided, refuted}
@@ -12,12 +11,13 @@ use Rattle.worst.proofs.choices.Choices.{choosable_room}
 use Rattle.worst.proofs.choices.Beside.{leads, leads_not}
 use Rattle.sets.specs.Sets.{bit}
 use Rattle.worst.proofs.trains.ways_of.Statement.{statement}
+use Rattle.worst.proofs.trains.ways_of.Lts.{then-holds, else-holds}
 use Rattle.worst.proofs.trains.ways_of.Tie as tie
 
-abbrev invariant-loop : tie.invariant-loop
+abbrev invariant-loop : tie.invariant-loop-i
 invariant-loop leaders ways₀ i₀ ways i = (i ≤ 16) × (ways ≡ 2 ^ choosable (leading leaders) i)
 
-abbrev decreases-loop : tie.decreases-loop
+abbrev decreases-loop : tie.decreases-loop-i
 decreases-loop leaders ways₀ i₀ ways i = 16 - i
 
 doubled : (leaders i : ℕ) → bit leaders i ≡ 1 → 2 * 2 ^ choosable (leading leaders) i ≡ 2 ^ choosable (leading leaders) (i + 1)
@@ -28,41 +28,40 @@ kept : (leaders i : ℕ) → (bit leaders i ≡ 1 → ⊥) → 2 ^ choosable (le
 unfolding choosable next
 kept leaders i h = rw (add-one i, leads_not leaders i h)
 
-loop-holds : tie.Need-loop-init invariant-loop decreases-loop
+loop-holds : tie.Need-loop-i-init invariant-loop decreases-loop
 unfolding choosable
 loop-holds c = (omega arith, omega arith)
 
 holds-requires : tie.Need-holds-requires invariant-loop decreases-loop
-holds-requires c κs = omega (arith, c.loop-test.true)
+holds-requires c κs = omega (arith, c.loop-i-test.true)
 
-mul-ways : tie.Need-overflow-mul-ways invariant-loop decreases-loop
+mul-ways : tie.Need-overflow_mul-ways invariant-loop decreases-loop
 mul-ways c =
-    let at = c.before.before.before in
-    let leaders = at.before.args.leaders in
-    let i = at.loop.i in
-    omega (arith, at.loop.invariant.1, pow_mono {i = choosable (leading leaders) i} {j = 16} (omega (arith, choosable_room (leading leaders) i, at.loop.invariant.0)))
+    let leaders = c.args.leaders in
+    let i = c.loop-i.i in
+    omega (arith, c.loop-i.invariant.1, pow_mono {i = choosable (leading leaders) i} {j = 16} (omega (arith, choosable_room (leading leaders) i, c.loop-i.invariant.0)))
 
-add-i : tie.Need-overflow-add-i invariant-loop decreases-loop
-add-i c = omega (arith, c.before.before.loop-test.true)
+add-i : tie.Need-overflow_add-i invariant-loop decreases-loop
+add-i c = omega (arith, c.loop-i-test.true)
 
-loop-less : tie.Need-loop-smaller invariant-loop decreases-loop
-loop-less c = omega (arith, c.before.before.loop-test.true)
+loop-less : tie.Need-loop-i-smaller invariant-loop decreases-loop
+loop-less c = omega (arith, c.loop-i-test.true)
 
-loop-again : tie.Need-loop-preserved invariant-loop decreases-loop
+loop-again : tie.Need-loop-i-preserved invariant-loop decreases-loop
 loop-again c =
-    let h = c.before.holds in
-    let inv = c.before.before.before.loop.invariant in (
-      omega (arith, c.before.before.loop-test.true),
-      ⊎_elim (λ w. w.1 ∙ ap (λ (x : ℕ). 2 * x) inv.1 ∙ doubled _ _ (decided h.result w.0.taken h.ensures))
-          (λ w. w.1 ∙ inv.1 ∙ kept _ _ (refuted h.result w.0.left h.ensures)) c.if1.branch,
+    let h = c.holds in
+    let inv = c.loop-i.invariant in (
+      omega (arith, c.loop-i-test.true),
+      elim c.if-holds.branch [
+        | then-holds w ↦ w.ways-is ∙ ap (λ (x : ℕ). 2 * x) inv.1 ∙ doubled _ _ (decided h.result w.if-holds.true h.ensures)
+        | else-holds w ↦ w.ways-is ∙ inv.1 ∙ kept _ _ (refuted h.result w.if-holds.false h.ensures)
+      ],
     )
 
 returns : tie.Need-returns invariant-loop decreases-loop
 returns c =
-    let inv = c.before.loop.invariant in
-    inv.1 ∙ ap (λ (i : ℕ). 2 ^ choosable (leading c.before.before.args.leaders) i) (le_antisymm inv.0 c.loop-test.false)
+    let inv = c.loop-i.invariant in
+    inv.1 ∙ ap (λ (i : ℕ). 2 ^ choosable (leading c.args.leaders) i) (le_antisymm inv.0 c.loop-i-test.false)
 
 pub ways_of_spec : {M : Type 1} → statement M
-ways_of_spec =
-    tie.close
-    (tie.spec invariant-loop decreases-loop loop-holds holds-requires mul-ways add-i loop-less loop-again returns)
+ways_of_spec = tie.close (tie.spec invariant-loop decreases-loop loop-holds holds-requires mul-ways add-i loop-less loop-again returns)

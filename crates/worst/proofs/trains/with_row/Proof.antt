@@ -17,21 +17,19 @@ place row h = shl_exact 1 row 64 (lit< tt) (omega arith) ∙ one-mul (2 ^ row)
 holds-requires : tie.Need-holds-requires
 holds-requires c κs = omega (arith, c.requires.0)
 
-returns : tie.Need-returns
-returns c = sym (with_had _ _ (decided c.before.holds.result c.if1.true c.before.holds.ensures))
+returns : tie.Need-returns-then-holds
+returns c = sym (with_had _ _ (decided c.holds.result c.if-holds.true c.holds.ensures))
 
-shl-result : tie.Need-overflow-shl-result
-shl-result c = omega (arith, c.before.before.requires.0)
+shl-result : tie.Need-overflow_shl-result
+shl-result c = omega (arith, c.requires.0)
 
-add-result : tie.Need-overflow-add-result
+add-result : tie.Need-overflow_add-result
 add-result c =
-    let e = c.before.before in
-    omega (arith, e.requires.1, place e.args.row e.requires.0, pow_mono {i = e.args.row} {j = 16} (omega (arith, e.requires.0)))
+    omega (arith, c.requires.1, place c.args.row c.requires.0, pow_mono {i = c.args.row} {j = 16} (omega (arith, c.requires.0)))
 
-returns-2 : tie.Need-returns-2
+returns-2 : tie.Need-returns
 returns-2 c =
-    let e = c.before.before in
-    ap (λ (x : ℕ). e.args.set + x) (place e.args.row e.requires.0) ∙ sym (with_added e.args.set e.args.row (refuted c.before.holds.result c.if1.false c.before.holds.ensures))
+    ap (λ (x : ℕ). c.args.set + x) (place c.args.row c.requires.0) ∙ sym (with_added c.args.set c.args.row (refuted c.holds.result c.if-holds.false c.holds.ensures))
 
 pub with_row_spec : {M : Type 1} → statement M
 with_row_spec = tie.close (tie.spec holds-requires returns shl-result add-result returns-2)
