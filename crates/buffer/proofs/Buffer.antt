@@ -5,7 +5,7 @@ use mathlib.Core.List.{List, ◌++◌}
 use native.Mathlib.Omega.{arith}
 use native.Mathlib.Decide.{dec_le}
 use lib.ListN.{length, take, drop, length-take}
-use lib.Seq.{take_all, take-length}
+use lib.Seq.{take_all}
 use Rattle.arithmetic.proofs.Cases.{impossible}
 use Rattle.block.specs.declared.Block.{Block}
 use Rattle.buffer.specs.declared.Copied.{Copied}
@@ -30,11 +30,11 @@ module _ (block : Block) (n : ℕ) (whole : length block.bytes ≡ 2048) (cut : 
   too_short before h = (rw held_length h, refl, refl, refl)
 
   pub written_whole : (before after source : List ℕ) → n ≤ length before → source ≡ take n block.bytes
-      → after ≡ take (length source) source ++ drop (length source) before → Wrote (text_held block) before after (copy_told (Length n))
+      → after ≡ source ++ drop n before → Wrote (text_held block) before after (copy_told (Length n))
   unfolding Wrote copy_told
   written_whole before after source h e copied =
       let s : source ≡ text_held block = e ∙ held_bytes in
-      (rw held_length h, sym held_length, copied ∙ rw (take-length source, s))
+      (rw held_length h, sym held_length, copied ∙ rw (s, held_length))
 
 pub wrote_one : (t before after after' : List ℕ) (a b : CopyTold) → Wrote t before after a → Wrote t before after' b → (a ≡ b) × (after ≡ after')
 unfolding Wrote

@@ -26,6 +26,6 @@ pub fn write_block(block: Block, out: &mut [u8]) -> Copied
         return Copied::TooShort;
     }
     let page = block.bytes;
-    bytes::copy(&page[0..len], out);
+    out[..len].copy_from_slice(&page[..len]);
     Copied::Length(len)
 }
