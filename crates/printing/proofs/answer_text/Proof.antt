@@ -24,34 +24,30 @@ whole : (key : Key) (answer : Answer) (r : Block) → Put blank (text key answer
     → (r ≡ block_of (text key answer)) × (Numbered answer → length (text key answer) ≤ 2048)
 whole key answer r put = (put.is ∙ puts_blank _, λ numbered. omega (arith, put.short, room_fits _ numbered))
 
-put-verdict-requires : tie.Need-put-verdict-requires
+put-verdict-requires : tie.Need-put_verdict-end-requires
 put-verdict-requires c κs = search rules
 
-stands-alone-requires : tie.Need-stands-alone-requires
+stands-alone-requires : tie.Need-stands_alone-requires
 stands-alone-requires c κs = search rules
 
-put-later-requires : tie.Need-put-later-requires
+put-later-requires : tie.Need-put_later-len-requires
 put-later-requires c κs = search rules
 
-returns : tie.Need-returns
+returns : tie.Need-returns-then-stands_alone
 unfolding blank
 returns c =
-    let alone = c.before in
-    let answer = alone.before.before.before.args.answer in
+    let answer = c.args.answer in
     whole _ answer _
-    (answer_printed _ answer _ _ _ [] _ (alone_holds answer.verdict _ c.if1.true alone.stands-alone.ensures _)
-    alone.before.put-verdict.ensures (no_line _ _ _ _ refl))
+    (answer_printed _ answer _ _ _ [] _ (alone_holds answer.verdict _ c.if-stands_alone.true c.stands_alone.ensures _)
+    c.put_verdict-end.ensures (no_line _ _ _ _ refl))
 
-returns-2 : tie.Need-returns-2
+returns-2 : tie.Need-returns-else-stands_alone
 unfolding blank
 returns-2 c =
-    let alone = c.before.before.before in
-    let answer = alone.before.before.before.args.answer in
+    let answer = c.args.answer in
     whole _ answer _
-    (answer_printed _ answer _ _ _ (later_lines answer) _ (alone_fails answer.verdict _ c.before.before.if1.false alone.stands-alone.ensures _)
-    alone.before.put-verdict.ensures c.put-later.ensures)
+    (answer_printed _ answer _ _ _ (later_lines answer) _ (alone_fails answer.verdict _ c.if-stands_alone.false c.stands_alone.ensures _)
+    c.put_verdict-end.ensures c.put_later-len.ensures)
 
 pub answer_text_spec : {M : Type 1} → statement M
-answer_text_spec =
-    tie.close
-    (tie.spec put-verdict-requires stands-alone-requires put-later-requires returns returns-2)
+answer_text_spec = tie.close (tie.spec put-verdict-requires stands-alone-requires put-later-requires returns returns-2)

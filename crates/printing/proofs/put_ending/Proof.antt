@@ -25,29 +25,24 @@ word Nothing exact t = refl
 word Off exact t = refl
 word (Number n) exact t = absurd (⊎_elim (λ (e : ◌≡◌ {A = ℕ} 1 0). omega arith) (λ (e : ◌≡◌ {A = ℕ} 1 2). omega arith) t)
 
-slice-aggregate-put : tie.Need-slice-aggregate-put
-slice-aggregate-put c = search rules
-
 put-requires : tie.Need-put-requires
 put-requires c κs = search rules
 
-enum_told : tie.Need-enum-told
+enum_told : tie.Need-enum_told-1
 enum_told c = search rules
 
-put-exactness-requires : tie.Need-put-exactness-requires
+put-exactness-requires : tie.Need-put_exactness-requires
 put-exactness-requires c κs = search rules
 
-returns : tie.Need-returns
+returns : tie.Need-returns-in-Nothing
 unfolding exactness_text
 returns c =
-    let chosen = c.before.before.before in
-    spelled _ _ _ _ _ (ap ending (word chosen.before.args.figure chosen.before.args.exact chosen.match.keys1)) c.put.ensures tt
+    spelled _ _ _ _ _ (ap ending (word c.args.figure c.args.exact c.in-Nothing.in-Nothing-own.keys1)) c.put.ensures tt
 
-returns-2 : tie.Need-returns-2
+returns-2 : tie.Need-returns-in-Number
 unfolding figure_exactness
 returns-2 c =
-    let told = c.before.before in
-    put_as _ _ _ _ 4 4 (ap (λ figure. ending (figure_exactness figure told.before.before.args.exact)) told.enum_told.given.1) (omega arith) c.put-exactness.ensures
+    put_as _ _ _ _ 4 4 (ap (λ figure. ending (figure_exactness figure c.args.exact)) c.in-Number.is) (omega arith) c.put_exactness.ensures
 
 pub put_ending_spec : {M : Type 1} → statement M
-put_ending_spec = tie.close (tie.spec slice-aggregate-put put-requires enum_told put-exactness-requires returns returns-2)
+put_ending_spec = tie.close (tie.spec put-requires enum_told put-exactness-requires returns returns-2)

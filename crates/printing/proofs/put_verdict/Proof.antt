@@ -15,42 +15,24 @@ use Rattle.printing.proofs.put_verdict.Tie as tie
 abbrev rest_empty : List ℕ
 rest_empty = field [] ++ (field [] ++ (field [] ++ (field [] ++ line_end)))
 
-put-key-requires : tie.Need-put-key-requires
+put-key-requires : tie.Need-put_key-end-requires
 put-key-requires c κs = search rules
 
-slice-aggregate-put : tie.Need-slice-aggregate-put
-slice-aggregate-put c = search rules
-
-put-requires : tie.Need-put-requires
+put-requires : tie.Need-put-end-requires
 put-requires c κs = search rules
 
-put-verdict-value-requires : tie.Need-put-verdict-value-requires
+put-verdict-value-requires : tie.Need-put_verdict_value-end-requires
 put-verdict-value-requires c κs = search rules
 
-slice-aggregate-put-2 : tie.Need-slice-aggregate-put-2
-slice-aggregate-put-2 c = search rules
-
-put-requires-2 : tie.Need-put-requires-2
+put-requires-2 : tie.Need-put-requires
 put-requires-2 c κs = search rules
 
 returns : tie.Need-returns
 unfolding line_text verdict_line name_text number_text mark_text exactness_text
 returns c =
-    let third = c.before.before.before in
-    let second = third.before.before in
-    let first = second.before.before.before in
-    then_put _ _ _ _ _ 26 17 first.put-key.ensures
-    (then_put _ _ _ _ _ 7 10 (spelled _ _ _ _ 7 refl second.put.ensures tt)
-    (then_put _ _ _ _ _ 4 6 third.put-verdict-value.ensures (spelled _ _ _ rest_empty 6 refl c.put2.ensures tt)))
+    then_put _ _ _ _ _ 26 17 c.put_key-end.ensures
+    (then_put _ _ _ _ _ 7 10 (spelled _ _ _ _ 7 refl c.put-end.ensures tt)
+    (then_put _ _ _ _ _ 4 6 c.put_verdict_value-end.ensures (spelled _ _ _ rest_empty 6 refl c.put.ensures tt)))
 
 pub put_verdict_spec : {M : Type 1} → statement M
-put_verdict_spec =
-    tie.close
-    (tie.spec
-    put-key-requires
-    slice-aggregate-put
-    put-requires
-    put-verdict-value-requires
-    slice-aggregate-put-2
-    put-requires-2
-    returns)
+put_verdict_spec = tie.close (tie.spec put-key-requires put-requires put-verdict-value-requires put-requires-2 returns)

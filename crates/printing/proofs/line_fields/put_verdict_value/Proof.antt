@@ -16,67 +16,47 @@ use Rattle.printing.proofs.line_fields.put_verdict_value.Tie as tie
 abbrev said : Verdict → List ℕ
 said verdict = field (value_text (verdict_value verdict))
 
-push-requires : tie.Need-push-requires
+push-requires : tie.Need-push-end-requires
 push-requires c κs = search rules
 
-enum_told : tie.Need-enum-told
+enum_told : tie.Need-enum_told-1
 enum_told c = search rules
 
-push-requires-2 : tie.Need-push-requires-2
+push-requires-2 : tie.Need-push-requires
 push-requires-2 c κs = search rules
 
-enum-told-2 : tie.Need-enum-told-2
+enum-told-2 : tie.Need-enum_told-in-NotAccepted
 enum-told-2 c = search rules
 
-push-requires-3 : tie.Need-push-requires-3
+push-requires-3 : tie.Need-push-requires-in-NotAccepted
 push-requires-3 c κs = search rules
 
-enum-known-verdict : tie.Need-enum-known-verdict
+enum-known-verdict : tie.Need-enum_known-verdict
 enum-known-verdict c = search rules
 
-cast-put-decimal : tie.Need-overflow-cast-put-decimal
+cast-put-decimal : tie.Need-overflow_cast-number
 cast-put-decimal c = search rules
 
-put-decimal-requires : tie.Need-put-decimal-requires
+put-decimal-requires : tie.Need-put_decimal-requires
 put-decimal-requires c κs = search rules
 
-returns : tie.Need-returns
+returns : tie.Need-returns-in-Accepted
 unfolding value_text verdict_value
 returns c =
-    let told = c.before.before in
-    let comma = told.before.before in
-    spelled _ _ _ _ _ (ap said told.enum_told.given.1) (then _ _ _ _ _ comma.push.ensures c.push2.ensures) tt
+    spelled _ _ _ _ _ (ap said c.in-Accepted.is) (then _ _ _ _ _ c.push-end.ensures c.push.ensures) tt
 
-returns-2 : tie.Need-returns-2
+returns-2 : tie.Need-returns-in-NotAccepted
 unfolding value_text verdict_value
 returns-2 c =
-    let told = c.before.before in
-    let comma = told.before.before in
-    spelled _ _ _ _ _ (ap said told.enum-told2.given.1) (then _ _ _ _ _ comma.push.ensures c.push3.ensures) tt
+    spelled _ _ _ _ _ (ap said c.in-NotAccepted.is) (then _ _ _ _ _ c.push-end.ensures c.push-in-NotAccepted.ensures) tt
 
-returns-3 : tie.Need-returns-3
+returns-3 : tie.Need-returns-in-Refused
 unfolding value_text verdict_value
 returns-3 c =
-    let told = c.before.before.before in
-    let comma = told.before.before in
-    let given = told.verdict.given in
-    let small : given.0.0 < 256 = search rules in
-    put_as _ _ _ _ _ 4 (ap said given.1) (omega arith)
-    (then_put _ _ _ _ _ 1 3 (spelled _ _ _ _ 1 refl comma.push.ensures tt)
-    (record { is = c.put_decimal.ensures; short = decimal_length 2 given.0.0 (omega arith) }))
+    let small : c.in-Refused.number < 256 = search rules in
+    put_as _ _ _ _ _ 4 (ap said c.in-Refused.is) (omega arith)
+    (then_put _ _ _ _ _ 1 3 (spelled _ _ _ _ 1 refl c.push-end.ensures tt)
+    (record { is = c.put_decimal.ensures; short = decimal_length 2 c.in-Refused.number (omega arith) }))
 
 pub put_verdict_value_spec : {M : Type 1} → statement M
-put_verdict_value_spec =
-    tie.close
-    (tie.spec
-    push-requires
-    enum_told
-    push-requires-2
-    enum-told-2
-    push-requires-3
-    enum-known-verdict
-    cast-put-decimal
-    put-decimal-requires
-    returns
-    returns-2
-    returns-3)
+put_verdict_value_spec = tie.close (tie.spec push-requires enum_told push-requires-2 enum-told-2 push-requires-3 enum-known-verdict cast-put-decimal put-decimal-requires returns returns-2 returns-3)

@@ -6,29 +6,24 @@ use borrow.Author.Rules.{rules}
 use Rattle.printing.proofs.line_key.put_key.Statement.{statement}
 use Rattle.printing.proofs.line_key.put_key.Tie as tie
 
-put-name-requires : tie.Need-put-name-requires
+put-name-requires : tie.Need-put_name-end-requires
 put-name-requires c κs = search rules
 
-push-requires : tie.Need-push-requires
+push-requires : tie.Need-push-end-requires
 push-requires c κs = search rules
 
-put-name-requires-2 : tie.Need-put-name-requires-2
+put-name-requires-2 : tie.Need-put_name-end-requires-2
 put-name-requires-2 c κs = search rules
 
-push-requires-2 : tie.Need-push-requires-2
+push-requires-2 : tie.Need-push-requires
 push-requires-2 c κs = search rules
 
 returns : tie.Need-returns
 unfolding key_text
 returns c =
-    let third = c.before.before in
-    let second = third.before.before in
-    let first = second.before.before in
-    then_put _ _ _ _ _ 12 14 first.put-name.ensures
-    (then_put _ _ _ _ _ 1 13 (spelled _ _ _ _ 1 refl second.push.ensures tt)
-    (then_put _ _ _ _ _ 12 1 third.put-name2.ensures (spelled _ _ _ _ 1 refl c.push2.ensures tt)))
+    then_put _ _ _ _ _ 12 14 c.put_name-end.ensures
+    (then_put _ _ _ _ _ 1 13 (spelled _ _ _ _ 1 refl c.push-end.ensures tt)
+    (then_put _ _ _ _ _ 12 1 c.put_name-end-2.ensures (spelled _ _ _ _ 1 refl c.push.ensures tt)))
 
 pub put_key_spec : {M : Type 1} → statement M
-put_key_spec =
-    tie.close
-    (tie.spec put-name-requires push-requires put-name-requires-2 push-requires-2 returns)
+put_key_spec = tie.close (tie.spec put-name-requires push-requires put-name-requires-2 push-requires-2 returns)
