@@ -3,7 +3,6 @@ use borrow.Author.Rules.{rules}
 use native.Mathlib.Omega.{arith}
 use native.Mathlib.Nat.{le_antisymm}
 use mathlib.Core.Path.{◌≡◌, subst, ap, ◌∙◌}
-use mathlib.Core.Logic.{⊎_elim}
 use mathlib.Core.List.{List}
 use Prim.Native.Nat.{ℕ, ◌-◌, ◌≤◌, ◌<◌}
 use lib.ListN.{length}
@@ -17,133 +16,111 @@ use Rattle.loads.proofs.Laying.{laid_none}
 use Rattle.loads.proofs.Asking.{optional_low, RowsAsked, asked_none, asked_refused, asked_load, asked_all}
 use Rattle.loads.proofs.asked_of.Statement.{statement}
 use Rattle.loads.proofs.asked_of.Tie as tie
+use Rattle.loads.proofs.asked_of.Lts.{in-Refused, in-Exerted}
 
-abbrev invariant-loop : tie.invariant-loop
+abbrev invariant-loop : tie.invariant-loop-i
 invariant-loop held n rows loads₀ first₀ optional₀ i₀ loads first optional i = (i ≤ n) × (optional ≤ i) × RowsAsked (fill_of held) rows i first optional loads
 
-abbrev decreases-loop : tie.decreases-loop
+abbrev decreases-loop : tie.decreases-loop-i
 decreases-loop held n rows loads₀ first₀ optional₀ i₀ loads first optional i = n - i
 
-whole : (c : tie.Start invariant-loop decreases-loop) → length c.args.t2 ≡ 16
+whole : (c : tie.Start invariant-loop decreases-loop) → length c.args.rows ≡ 16
 whole c = search rules
 
-no-load-requires : tie.Need-no-load-requires invariant-loop decreases-loop
+no-load-requires : tie.Need-no_load-none-requires invariant-loop decreases-loop
 no-load-requires c κs = search rules
 
-loop-holds : tie.Need-loop-init invariant-loop decreases-loop
-loop-holds c = (search rules, omega arith, asked_none _ _ (laid_none _ _ c.blank_load.ensures))
+loop-holds : tie.Need-loop-i-init invariant-loop decreases-loop
+loop-holds c = (search rules, omega arith, asked_none _ _ (laid_none _ _ c.no_load-none.ensures))
 
-mul-row : tie.Need-overflow-mul-row invariant-loop decreases-loop
-mul-row c = omega (arith, c.before.before.before.requires)
+mul-row : tie.Need-offset_bounds-rows-i invariant-loop decreases-loop
+mul-row c = omega (arith, c.requires)
 
-array-copy-out-row : tie.Need-array-copy-out-row invariant-loop decreases-loop
-array-copy-out-row c = omega (arith, c.before.before.before.requires)
+array-copy-out-row : tie.Need-bounds-rows-i invariant-loop decreases-loop
+array-copy-out-row c = omega (arith, c.requires)
 
-class-of-requires : tie.Need-class-of-requires invariant-loop decreases-loop
+class-of-requires : tie.Need-class_of-class-requires invariant-loop decreases-loop
 class-of-requires c κs = search rules
 
-optional-count-requires : tie.Need-optional-count-requires invariant-loop decreases-loop
+optional-count-requires : tie.Need-optional_count-optional-requires invariant-loop decreases-loop
 optional-count-requires c κs = search rules
 
-add-optional : tie.Need-overflow-add-optional invariant-loop decreases-loop
+add-optional : tie.Need-overflow_add-optional invariant-loop decreases-loop
 add-optional c =
-    let at = c.before.before.before.before in
-    omega (arith, at.loop.invariant.1, at.before.before.requires, c.optional-count.ensures, optional_low c.before.class_of.result)
+    omega (arith, c.loop-i.invariant.1, c.requires, c.optional_count-optional.ensures, optional_low c.class_of-class.result)
 
-load-of-requires : tie.Need-load-of-requires invariant-loop decreases-loop
-load-of-requires c κs = c.before.class_of.ensures
+load-of-requires : tie.Need-load_of-requires invariant-loop decreases-loop
+load-of-requires c κs = c.class_of-class.ensures
 
-enum-known-number : tie.Need-enum-known-number invariant-loop decreases-loop
+enum-known-number : tie.Need-enum_known-number invariant-loop decreases-loop
 enum-known-number c = search rules
 
-lower-requires : tie.Need-lower-requires invariant-loop decreases-loop
+lower-requires : tie.Need-lower-first-requires invariant-loop decreases-loop
 lower-requires c κs = search rules
 
-enum-known-load : tie.Need-enum-known-load invariant-loop decreases-loop
+enum-known-load : tie.Need-enum_known-load invariant-loop decreases-loop
 enum-known-load c = search rules
 
-mul-loads : tie.Need-overflow-mul-loads invariant-loop decreases-loop
-mul-loads c = let at = c.before.before.before.before.before.before.before.before in omega (arith, at.before.before.requires)
+mul-loads : tie.Need-offset_bounds-loads-i invariant-loop decreases-loop
+mul-loads c = omega (arith, c.requires)
 
-array-set-from-loads : tie.Need-array-set-from-loads invariant-loop decreases-loop
-array-set-from-loads c = let at = c.before.before.before.before.before.before.before.before in omega (arith, at.before.before.requires)
+array-set-from-loads : tie.Need-bounds-loads-i invariant-loop decreases-loop
+array-set-from-loads c = omega (arith, c.requires)
 
 -- the row that is looked at, and what it is told
-module _ (c : tie.At-match-branch invariant-loop decreases-loop) where
-  abbrev turn : tie.In-loop invariant-loop decreases-loop
-  turn = c.before.before.before.before.before
-
+module _ (c : tie.Joined-load_of invariant-loop decreases-loop) where
   abbrev held : List (List ℕ)
-  held = turn.before.before.before.args.held
+  held = c.args.held
 
   abbrev rows : List Row
-  rows = turn.before.before.before.args.t2
+  rows = c.args.rows
 
   abbrev i : ℕ
-  i = turn.before.loop.i
+  i = c.loop-i.i
 
   few : i < 16
-  few = omega (arith, turn.before.before.before.pre, turn.loop-test.taken)
+  few = omega (arith, c.requires, c.loop-i-test.true)
 
-  told : {a : RowLoad} → c.before.load_of.result ≡ a → LoadOf (fill_of held) (load_row rows i) a
+  told : {a : RowLoad} → c.load_of.result ≡ a → LoadOf (fill_of held) (load_row rows i) a
   unfolding load_row
-  told e = subst (LoadOf (fill_of held) (load_row rows i)) e c.before.load_of.ensures
+  told e = subst (LoadOf (fill_of held) (load_row rows i)) e c.load_of.ensures
 
-  counts : c.before.before.optional-count.result ≡ optional (class_of (load_row rows i).kind)
+  counts : c.optional_count-optional.result ≡ optional (class_of (load_row rows i).kind)
   unfolding load_row
-  counts = c.before.before.optional-count.ensures ∙ ap optional c.before.before.before.class_of.ensures
+  counts = c.optional_count-optional.ensures ∙ ap optional c.class_of-class.ensures
 
   -- it is one row more of those passed
   there : i < length rows
-  there = omega (arith, whole turn.before.before.before, few)
+  there = omega (arith, whole c.before.before.before.before.before.before.before.before, few)
 
-add-i : tie.Need-overflow-add-i invariant-loop decreases-loop
+add-i : tie.Need-overflow_add-i invariant-loop decreases-loop
 add-i c = omega (arith, few c)
 
-loop-less : tie.Need-loop-smaller invariant-loop decreases-loop
-loop-less c = let test = (turn c).loop-test.true in omega arith
+loop-less : tie.Need-loop-i-smaller invariant-loop decreases-loop
+loop-less c = let test = c.loop-i-test.true in omega arith
 
-loop-again : tie.Need-loop-preserved invariant-loop decreases-loop
+loop-again : tie.Need-loop-i-preserved invariant-loop decreases-loop
 loop-again c =
-    let inv = (turn c).before.loop.invariant in
-    let test = (turn c).loop-test.true in
-    let low = optional_low c.before.before.before.class_of.result in
-    let adds = c.before.before.optional-count.ensures in (
+    let inv = c.loop-i.invariant in
+    let test = c.loop-i-test.true in
+    let low = optional_low c.class_of-class.result in
+    let adds = c.optional_count-optional.ensures in (
       omega arith,
       omega (arith, inv.1, low, adds),
-      ⊎_elim (λ w. rw (w.4, w.5, counts c) (asked_refused _ _ _ (there c) inv.2 (told c w.1.given.1) w.3.ensures))
-          (λ w. rw (w.3, w.4, counts c) (asked_load _ _ _ (there c) inv.2 _ (few c) (told c w.1.given.1))) c.match.branch,
+      elim c.match-load_of.branch [
+        | in-Refused w ↦ rw (w.loads-is, w.first-is, counts c) (asked_refused _ _ _ (there c) inv.2 (told c w.in-Refused.is) w.lower-first.ensures)
+        | in-Exerted w ↦ rw (w.loads-is, w.first-is, counts c) (asked_load _ _ _ (there c) inv.2 _ (few c) (told c w.in-Exerted.is))
+      ],
     )
 
 returns : tie.Need-returns invariant-loop decreases-loop
 returns c =
-    let at = c.before.loop in
-    let rows = c.before.before.before.args.t2 in
-    let held = c.before.before.before.args.held in
-    let e = le_antisymm at.invariant.0 c.loop-test.false in
+    let at = c.loop-i in
+    let rows = c.args.rows in
+    let held = c.args.held in
+    let e = le_antisymm at.invariant.0 c.loop-i-test.false in
     let p = subst (λ (n : ℕ). RowsAsked (fill_of held) rows n at.first at.optional at.loads) e at.invariant.2 in
-    asked_all (fill_of held) rows _ c.before.before.before.requires (whole c.before.before.before) p
+    asked_all (fill_of held) rows _ c.requires (whole c.before.before.before) p
 
 pub asked_of_spec : {M : Type 1} → statement M
-asked_of_spec =
-    tie.close
-    (tie.spec
-    invariant-loop
-    decreases-loop
-    no-load-requires
-    loop-holds
-    mul-row
-    array-copy-out-row
-    class-of-requires
-    optional-count-requires
-    add-optional
-    load-of-requires
-    enum-known-number
-    lower-requires
-    enum-known-load
-    mul-loads
-    array-set-from-loads
-    add-i
-    loop-less
-    loop-again
-    returns)
+asked_of_spec = tie.close (tie.spec invariant-loop decreases-loop no-load-requires loop-holds mul-row array-copy-out-row class-of-requires optional-count-requires add-optional load-of-requires enum-known-number lower-requires enum-known-load mul-loads array-set-from-loads add-i loop-less loop-again returns)

@@ -8,7 +8,6 @@ use mathlib.Core.List.{[], ◌∷◌}
 use Prim.Native.Nat.{ℕ}
 use types.Run.{OneOf}
 use denote.Enum.Declared.{tag_of}
-use borrow.Author.Tests.{not-true, not-false}
 use Rattle.arithmetic.proofs.Deciding.{decided, refuted}
 use Rattle.arithmetic.proofs.Cases.{impossible}
 use Rattle.earth.specs.declared.EarthAnswer.{EarthAnswer}
@@ -35,148 +34,146 @@ use Rattle.loads.proofs.forces.Exerting.{own_columns, around_size, Kept, told_ou
 use Rattle.loads.proofs.forces.load_of.Statement.{statement}
 use Rattle.loads.proofs.forces.load_of.Tie as tie
 
-phase-of-requires : tie.Need-phase-of-requires
+phase-of-requires : tie.Need-phase_of-phase-requires
 phase-of-requires c κs = search rules
 
-train-of-requires : tie.Need-train-of-requires
+train-of-requires : tie.Need-train_of-train-requires
 train-of-requires c κs = search rules
 
-source-of-requires : tie.Need-source-of-requires
+source-of-requires : tie.Need-source_of-source-requires
 source-of-requires c κs = search rules
 
-enum_told : tie.Need-enum-told
+enum_told : tie.Need-enum_told-1
 enum_told c = search rules
 
 pressure-requires : tie.Need-pressure-requires
 pressure-requires c κs = search rules
 
-enum-told-2 : tie.Need-enum-told-2
+enum-told-2 : tie.Need-enum_told-in-OutOfRange
 enum-told-2 c = search rules
 
-enum-told-3 : tie.Need-enum-told-3
+enum-told-3 : tie.Need-enum_told-in-NoCoefficient
 enum-told-3 c = search rules
 
-enum-known-thrust : tie.Need-enum-known-thrust
+enum-known-thrust : tie.Need-enum_known-thrust
 enum-known-thrust c = search rules
 
 -- what is held, the row, and what a load of its class, its phase and its train has
-module _ (c : tie.After-source-of) where
+module _ (c : tie.After-source_of-source) where
   abbrev fill : ℕ → ℕ → Coefficient
-  fill = fill_of c.before.before.before.before.args.held
+  fill = fill_of c.args.held
 
   abbrev row : Row
-  row = c.before.before.before.before.args.row
+  row = c.args.row
 
-  kept : (load : Load) → load.class ≡ c.before.before.before.before.args.class → load.phase ≡ c.before.before.phase-of.result → load.train ≡ c.before.train-of.result
+  kept : (load : Load) → load.class ≡ c.args.class → load.phase ≡ c.phase_of-phase.result → load.train ≡ c.train_of-train.result
       → Kept fill row load
   unfolding Kept
-  kept load p q r = (p ∙ c.before.before.before.before.pre, q ∙ c.before.before.phase-of.ensures, r ∙ c.before.train-of.ensures)
+  kept load p q r = (p ∙ c.requires, q ∙ c.phase_of-phase.ensures, r ∙ c.train_of-train.ensures)
 
 -- ---- by its fill
 module _ (c : tie.After-pressure) where
-  abbrev asked : tie.After-source-of
-  asked = c.before.before.before
+  abbrev asked : tie.After-source_of-source
+  asked = c.before.before
 
   is_earth : source (row asked).kind ≡ Earth
-  is_earth = sym asked.source_of.ensures ∙ c.before.enum_told.given.1
+  is_earth = sym asked.source_of-source.ensures ∙ c.in-Earth.is
 
   told : {a : EarthAnswer} → c.pressure.result ≡ a → Pressed (fill asked) (row asked).numbers (earth_told a)
   told e = subst (λ (a : EarthAnswer). Pressed (fill asked) (row asked).numbers (earth_told a)) e c.pressure.ensures
 
-mul-push-load : tie.Need-mul-push-load
-mul-push-load c = omega (arith, (pressed_modest (fill_low _) (told c.before.before.before c.before.thrust.given.1)).moment)
+mul-push-load : tie.Need-overflow_mul-thrust
+mul-push-load c = omega (arith, (pressed_modest (fill_low _) (told c.before c.in-Push.is)).moment)
 
-push-load-requires : tie.Need-push-load-requires
+push-load-requires : tie.Need-push_load-requires
 push-load-requires c κs = search rules
 
-enum-told-4 : tie.Need-enum-told-4
+enum-told-4 : tie.Need-enum_told-in-Current
 enum-told-4 c = search rules
 
 -- ---- by the current
-pressure-requires-2 : tie.Need-pressure-requires-2
+pressure-requires-2 : tie.Need-pressure-requires-in-Current
 pressure-requires-2 c κs = search rules
 
-enum-told-5 : tie.Need-enum-told-5
+enum-told-5 : tie.Need-enum_told-in-OutOfRange-pressure
 enum-told-5 c = search rules
 
-enum-told-6 : tie.Need-enum-told-6
+enum-told-6 : tie.Need-enum_told-in-UpperBelowLower
 enum-told-6 c = search rules
 
-enum-known-force : tie.Need-enum-known-force
+enum-known-force : tie.Need-enum_known-force
 enum-known-force c = search rules
 
-module _ (c : tie.After-pressure2) where
-  abbrev wet : tie.After-source-of
-  wet = c.before.before.before
+module _ (c : tie.After-pressure-in-Current) where
+  abbrev wet : tie.After-source_of-source
+  wet = c.before.before
 
   is_current : source (row wet).kind ≡ Current
-  is_current = sym wet.source_of.ensures ∙ c.before.enum-told4.given.1
+  is_current = sym wet.source_of-source.ensures ∙ c.in-Current.is
 
-  said : {a : CurrentAnswer} → c.pressure2.result ≡ a → CurrentSays (row wet).numbers (current_told a)
-  said e = subst (λ (a : CurrentAnswer). CurrentSays (row wet).numbers (current_told a)) e c.pressure2.ensures
+  said : {a : CurrentAnswer} → c.pressure-in-Current.result ≡ a → CurrentSays (row wet).numbers (current_told a)
+  said e = subst (λ (a : CurrentAnswer). CurrentSays (row wet).numbers (current_told a)) e c.pressure-in-Current.ensures
 
-mul-push-load-2 : tie.Need-mul-push-load-2
-mul-push-load-2 c = omega (arith, (says_mild (said c.before.before.before c.before.force.given.1)).moment)
+mul-push-load-2 : tie.Need-overflow_mul-force
+mul-push-load-2 c = omega (arith, (says_mild (said c.before c.in-Push-pressure.is)).moment)
 
-push-load-requires-2 : tie.Need-push-load-requires-2
+push-load-requires-2 : tie.Need-push_load-requires-in-Push-pressure
 push-load-requires-2 c κs = search rules
 
 -- ---- by its surcharge
-enum-told-7 : tie.Need-enum-told-7
+enum-told-7 : tie.Need-enum_told-in-Surcharge
 enum-told-7 c = search rules
 
-pressure-requires-3 : tie.Need-pressure-requires-3
+pressure-requires-3 : tie.Need-pressure-requires-in-Surcharge
 pressure-requires-3 c κs = search rules
 
-enum-told-8 : tie.Need-enum-told-8
+enum-told-8 : tie.Need-enum_told-in-OutOfRange-pressure-2
 enum-told-8 c = search rules
 
-enum-told-9 : tie.Need-enum-told-9
+enum-told-9 : tie.Need-enum_told-in-LengthNotAbove
 enum-told-9 c = search rules
 
-enum-told-10 : tie.Need-enum-told-10
+enum-told-10 : tie.Need-enum_told-in-SoilTypeE
 enum-told-10 c = search rules
 
-enum-known-parts : tie.Need-enum-known-parts
+enum-known-parts : tie.Need-enum_known-parts
 enum-known-parts c = search rules
 
-module _ (c : tie.After-pressure3) where
-  abbrev laden : tie.After-source-of
-  laden = c.before.before.before
+module _ (c : tie.After-pressure-in-Surcharge) where
+  abbrev laden : tie.After-source_of-source
+  laden = c.before.before
 
   is_surcharge : source (row laden).kind ≡ Surcharge
-  is_surcharge = sym laden.source_of.ensures ∙ c.before.enum-told7.given.1
+  is_surcharge = sym laden.source_of-source.ensures ∙ c.in-Surcharge.is
 
-  weighed : {a : SurchargeAnswer} → c.pressure3.result ≡ a → SurchargeSays (row laden).numbers (surcharge_told a)
-  weighed e = subst (λ (a : SurchargeAnswer). SurchargeSays (row laden).numbers (surcharge_told a)) e c.pressure3.ensures
+  weighed : {a : SurchargeAnswer} → c.pressure-in-Surcharge.result ≡ a → SurchargeSays (row laden).numbers (surcharge_told a)
+  weighed e = subst (λ (a : SurchargeAnswer). SurchargeSays (row laden).numbers (surcharge_told a)) e c.pressure-in-Surcharge.ensures
 
-surcharge-load-requires : tie.Need-surcharge-load-requires
-surcharge-load-requires c κs = says_moderate (weighed c.before.before.before c.before.parts.given.1)
+surcharge-load-requires : tie.Need-surcharge_load-requires
+surcharge-load-requires c κs = says_moderate (weighed c.before c.in-Pushes.is)
 
 -- ---- by its own numbers
-is-ranged-requires : tie.Need-is-ranged-requires
+is-ranged-requires : tie.Need-is_ranged-requires
 is-ranged-requires c κs = search rules
 
-returns : tie.Need-returns
-returns c = told_out _ _ (refuted c.before.is-ranged.result (not-true _ c.if1.taken) c.before.is-ranged.ensures)
+returns : tie.Need-returns-then-not-is_ranged
+returns c = told_out _ _ (refuted c.is_ranged.result c.if-not-is_ranged.true c.is_ranged.ensures)
 
 -- past the test of its ranges a row is in range
-in_range : (c : tie.Else1) → let r = row c.before.before.before in Ranged r.kind r.numbers
-in_range c = decided c.before.is-ranged.result (not-false _ c.if1.left) c.before.is-ranged.ensures
+in_range : (c : tie.Else-not-is_ranged) → let r = row c.before.before.before in Ranged r.kind r.numbers
+in_range c = decided c.is_ranged.result c.if-not-is_ranged.false c.is_ranged.ensures
 
-enum-told-11 : tie.Need-enum-told-11
+enum-told-11 : tie.Need-enum_told-in-Absent
 enum-told-11 c = search rules
 
-push-load-requires-3 : tie.Need-push-load-requires-3
+push-load-requires-3 : tie.Need-push_load-requires-in-Absent
 push-load-requires-3 c κs = search rules
 
-returns-2 : tie.Need-returns-2
+returns-2 : tie.Need-returns-in-Absent
 unfolding Forces
 returns-2 c =
-    let test = c.before.before.before in
-    let at = test.before.before.before in
-    told_load _ _ (sym at.source_of.ensures ∙ c.before.enum-told11.given.1) (λ e. impossible cc) (λ e. impossible cc) (λ e. impossible cc) (in_range test) _
-    (kept at _ c.push-load3.ensures.0 c.push-load3.ensures.1 c.push-load3.ensures.2) c.push-load3.ensures.3
+    told_load _ _ (sym c.source_of-source.ensures ∙ c.in-Absent.is) (λ e. impossible cc) (λ e. impossible cc) (λ e. impossible cc) (in_range c.before.before) _
+    (kept c.before.before.before.before.before _ c.push_load-in-Absent.ensures.0 c.push_load-in-Absent.ensures.1 c.push_load-in-Absent.ensures.2) c.push_load-in-Absent.ensures.3
 
 -- and where it has a source that is no rule, that is its own numbers
 own_left : (k : Source) → OneOf (4 ∷ 0 ∷ []) (tag_of sources.the_type k) → OneOf (1 ∷ 2 ∷ 3 ∷ 4 ∷ []) (tag_of sources.the_type k) → k ≡ Own
@@ -186,99 +183,51 @@ own_left Current p q = ⊎_elim (λ e. absurd (omega arith)) (λ e. absurd (omeg
 own_left Surcharge p q = ⊎_elim (λ e. absurd (omega arith)) (λ e. absurd (omega arith)) p
 own_left Own p q = refl
 
-is_own : (c : tie.At-match5-keys2) → source (row c.before.before.before.before).kind ≡ Own
+is_own : (c : tie.In_default) → source (row c.before.before.before.before).kind ≡ Own
 is_own c =
-    let arm = c.before.before.before in
-    sym arm.before.source_of.ensures ∙ own_left arm.before.source_of.result arm.match.keys4 c.match5.keys2
+    sym c.source_of-source.ensures ∙ own_left c.source_of-source.result c.in-Own.in-Own-own.keys4 c.in_default.in_default-own.keys2
 
-own-load-requires : tie.Need-own-load-requires
+own-load-requires : tie.Need-own_load-requires
 own-load-requires c κs = let r = own_columns _ _ (is_own c) (in_range c.before) in (around_size 50000 _ r.n3, r.n4.to, r.n4.plain)
 
-returns-3 : tie.Need-returns-3
-returns-3 c = earth_told_out _ _ (is_earth c.before.before) (told c.before.before c.enum-told2.given.1)
+returns-3 : tie.Need-returns-in-OutOfRange
+returns-3 c = earth_told_out _ _ (is_earth c.before) (told c.before c.in-OutOfRange.is)
 
-returns-4 : tie.Need-returns-4
-returns-4 c = earth_told_blank _ _ (is_earth c.before.before) (told c.before.before c.enum-told3.given.1)
+returns-4 : tie.Need-returns-in-NoCoefficient
+returns-4 c = earth_told_blank _ _ (is_earth c.before) (told c.before c.in-NoCoefficient.is)
 
-returns-5 : tie.Need-returns-5
+returns-5 : tie.Need-returns-in-Push
 returns-5 c =
-    let at = c.before.before.before.before in
-    earth_told_push _ _ (is_earth at) _ (told at c.before.before.thrust.given.1) (kept (asked at) _ c.push-load.ensures.0 c.push-load.ensures.1 c.push-load.ensures.2) c.push-load.ensures.3
+    earth_told_push _ _ (is_earth c.before.before) _ (told c.before.before c.in-Push.is) (kept (asked c.before.before) _ c.push_load.ensures.0 c.push_load.ensures.1 c.push_load.ensures.2) c.push_load.ensures.3
 
-returns-6 : tie.Need-returns-6
-returns-6 c = current_told_out _ _ (is_current c.before.before) (said c.before.before c.enum-told5.given.1)
+returns-6 : tie.Need-returns-in-OutOfRange-pressure
+returns-6 c = current_told_out _ _ (is_current c.before) (said c.before c.in-OutOfRange-pressure.is)
 
-returns-7 : tie.Need-returns-7
-returns-7 c = current_told_below _ _ (is_current c.before.before) (said c.before.before c.enum-told6.given.1)
+returns-7 : tie.Need-returns-in-UpperBelowLower
+returns-7 c = current_told_below _ _ (is_current c.before) (said c.before c.in-UpperBelowLower.is)
 
-returns-8 : tie.Need-returns-8
+returns-8 : tie.Need-returns-in-Push-pressure
 returns-8 c =
-    let at = c.before.before.before.before in
-    current_told_push _ _ (is_current at) _ (said at c.before.before.force.given.1) (kept (wet at) _ c.push-load2.ensures.0 c.push-load2.ensures.1 c.push-load2.ensures.2) c.push-load2.ensures.3
+    current_told_push _ _ (is_current c.before.before) _ (said c.before.before c.in-Push-pressure.is) (kept (wet c.before.before) _ c.push_load-in-Push-pressure.ensures.0 c.push_load-in-Push-pressure.ensures.1 c.push_load-in-Push-pressure.ensures.2) c.push_load-in-Push-pressure.ensures.3
 
-returns-9 : tie.Need-returns-9
-returns-9 c = surcharge_told_out _ _ (is_surcharge c.before.before) (weighed c.before.before c.enum-told8.given.1)
+returns-9 : tie.Need-returns-in-OutOfRange-pressure-2
+returns-9 c = surcharge_told_out _ _ (is_surcharge c.before) (weighed c.before c.in-OutOfRange-pressure-2.is)
 
-returns-10 : tie.Need-returns-10
-returns-10 c = surcharge_told_above _ _ (is_surcharge c.before.before) (weighed c.before.before c.enum-told9.given.1)
+returns-10 : tie.Need-returns-in-LengthNotAbove
+returns-10 c = surcharge_told_above _ _ (is_surcharge c.before) (weighed c.before c.in-LengthNotAbove.is)
 
-returns-11 : tie.Need-returns-11
-returns-11 c = surcharge_told_type_e _ _ (is_surcharge c.before.before) (weighed c.before.before c.enum-told10.given.1)
+returns-11 : tie.Need-returns-in-SoilTypeE
+returns-11 c = surcharge_told_type_e _ _ (is_surcharge c.before) (weighed c.before c.in-SoilTypeE.is)
 
-returns-12 : tie.Need-returns-12
+returns-12 : tie.Need-returns-in-Pushes
 returns-12 c =
-    let at = c.before.before.before.before in
-    surcharge_told_pushes _ _ (is_surcharge at) _ (weighed at c.before.before.parts.given.1)
-    (kept (laden at) _ c.surcharge-load.ensures.0 c.surcharge-load.ensures.1 c.surcharge-load.ensures.2) c.surcharge-load.ensures.3
+    surcharge_told_pushes _ _ (is_surcharge c.before.before) _ (weighed c.before.before c.in-Pushes.is)
+    (kept (laden c.before.before) _ c.surcharge_load.ensures.0 c.surcharge_load.ensures.1 c.surcharge_load.ensures.2) c.surcharge_load.ensures.3
 
-returns-13 : tie.Need-returns-13
+returns-13 : tie.Need-returns-in_default
 unfolding Forces
 returns-13 c =
-    let test = c.before.before in
-    told_load _ _ (is_own c.before) (λ e. impossible cc) (λ e. impossible cc) (λ e. impossible cc) (in_range test) _ (kept test.before.before.before _ c.own-load.ensures.0 c.own-load.ensures.1 c.own-load.ensures.2) c.own-load.ensures.3
+    told_load _ _ (is_own c.before) (λ e. impossible cc) (λ e. impossible cc) (λ e. impossible cc) (in_range c.before.before) _ (kept c.before.before.before.before.before _ c.own_load.ensures.0 c.own_load.ensures.1 c.own_load.ensures.2) c.own_load.ensures.3
 
 pub load_of_spec : {M : Type 1} → statement M
-load_of_spec =
-    tie.close
-    (tie.spec
-    phase-of-requires
-    train-of-requires
-    source-of-requires
-    enum_told
-    pressure-requires
-    enum-told-2
-    enum-told-3
-    enum-known-thrust
-    mul-push-load
-    push-load-requires
-    enum-told-4
-    pressure-requires-2
-    enum-told-5
-    enum-told-6
-    enum-known-force
-    mul-push-load-2
-    push-load-requires-2
-    enum-told-7
-    pressure-requires-3
-    enum-told-8
-    enum-told-9
-    enum-told-10
-    enum-known-parts
-    surcharge-load-requires
-    is-ranged-requires
-    returns
-    enum-told-11
-    push-load-requires-3
-    returns-2
-    own-load-requires
-    returns-3
-    returns-4
-    returns-5
-    returns-6
-    returns-7
-    returns-8
-    returns-9
-    returns-10
-    returns-11
-    returns-12
-    returns-13)
+load_of_spec = tie.close (tie.spec phase-of-requires train-of-requires source-of-requires enum_told pressure-requires enum-told-2 enum-told-3 enum-known-thrust mul-push-load push-load-requires enum-told-4 pressure-requires-2 enum-told-5 enum-told-6 enum-known-force mul-push-load-2 push-load-requires-2 enum-told-7 pressure-requires-3 enum-told-8 enum-told-9 enum-told-10 enum-known-parts surcharge-load-requires is-ranged-requires returns enum-told-11 push-load-requires-3 returns-2 own-load-requires returns-3 returns-4 returns-5 returns-6 returns-7 returns-8 returns-9 returns-10 returns-11 returns-12 returns-13)

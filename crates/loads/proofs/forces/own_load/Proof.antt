@@ -10,54 +10,51 @@ use Rattle.loads.proofs.forces.Amounts.{signed_times, plain_value}
 use Rattle.loads.proofs.forces.own_load.Statement.{statement}
 use Rattle.loads.proofs.forces.own_load.Tie as tie
 
-amount-of-requires : tie.Need-amount-of-requires
+amount-of-requires : tie.Need-amount_of-requires
 amount-of-requires c κs = search rules
 
-amount-of-requires-2 : tie.Need-amount-of-requires-2
+amount-of-requires-2 : tie.Need-amount_of-requires-2
 amount-of-requires-2 c κs = search rules
 
-amount-of-requires-3 : tie.Need-amount-of-requires-3
+amount-of-requires-3 : tie.Need-amount_of-requires-3
 amount-of-requires-3 c κs = search rules
 
-mul-amount-of : tie.Need-mul-amount-of
+mul-amount-of : tie.Need-overflow_mul-numbers
 mul-amount-of c =
-    let pre = c.before.before.before.before.before.before.before.before.pre in omega (arith, mul-le-mul pre.0 pre.1)
+    let pre = c.requires in omega (arith, mul-le-mul pre.0 pre.1)
 
-amount-of-requires-4 : tie.Need-amount-of-requires-4
+amount-of-requires-4 : tie.Need-amount_of-requires-4
 amount-of-requires-4 c κs = search rules
 
-cast-amount-of : tie.Need-cast-amount-of
+cast-amount-of : tie.Need-overflow_cast-numbers
 cast-amount-of c = search rules
 
-cast-amount-of-2 : tie.Need-cast-amount-of-2
+cast-amount-of-2 : tie.Need-overflow_cast-numbers-2
 cast-amount-of-2 c = search rules
 
-cast-amount-of-3 : tie.Need-cast-amount-of-3
+cast-amount-of-3 : tie.Need-overflow_cast-numbers-3
 cast-amount-of-3 c = search rules
 
-cast-amount-of-4 : tie.Need-cast-amount-of-4
+cast-amount-of-4 : tie.Need-overflow_cast-numbers-4
 cast-amount-of-4 c = search rules
 
-cast-amount-of-5 : tie.Need-cast-amount-of-5
+cast-amount-of-5 : tie.Need-overflow_cast-numbers-5
 cast-amount-of-5 c = search rules
 
 returns : tie.Need-returns
 returns c =
-    let start = c.before.before.before.before.before.before.before.before.before in
-    let n = start.args.numbers in (
+    let n = c.args.numbers in (
       refl,
       refl,
       refl,
       record {
-        v = c.before.before.before.before.before.before.before.amount-of.ensures;
-        x = c.before.before.before.before.before.amount-of2.ensures;
-        h = c.before.before.before.amount-of3.ensures;
-        twist = c.amount-of4.ensures
-            ∙ ap amount (signed_times n.n3.minus n.n3.size n.n4.size ∙ ap (λ (z : ℤ). value n.n3 *ℤ z) (sym (plain_value n.n4 start.pre.2)));
+        v = c.amount_of.ensures;
+        x = c.amount_of-2.ensures;
+        h = c.amount_of-3.ensures;
+        twist = c.amount_of-4.ensures
+            ∙ ap amount (signed_times n.n3.minus n.n3.size n.n4.size ∙ ap (λ (z : ℤ). value n.n3 *ℤ z) (sym (plain_value n.n4 c.requires.2)));
       },
     )
 
 pub own_load_spec : {M : Type 1} → statement M
-own_load_spec =
-    tie.close
-    (tie.spec cast-amount-of amount-of-requires cast-amount-of-2 amount-of-requires-2 cast-amount-of-3 amount-of-requires-3 cast-amount-of-4 cast-amount-of-5 mul-amount-of amount-of-requires-4 returns)
+own_load_spec = tie.close (tie.spec cast-amount-of amount-of-requires cast-amount-of-2 amount-of-requires-2 cast-amount-of-3 amount-of-requires-3 cast-amount-of-4 cast-amount-of-5 mul-amount-of amount-of-requires-4 returns)

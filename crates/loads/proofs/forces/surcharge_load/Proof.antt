@@ -11,37 +11,29 @@ use Rattle.loads.proofs.forces.surcharge_load.Tie as tie
 turned : {force arm : ℕ} → force ≤ 178000 → arm ≤ 15000 → force * arm ≤ 178000 * 15000
 turned f a = mul-le-mul f a
 
-add-push-load : tie.Need-overflow-add-push-load
+add-push-load : tie.Need-overflow_add-h1
 add-push-load c = search rules
 
-mul-push-load : tie.Need-overflow-mul-push-load
-mul-push-load c = let m = c.before.before.requires in record { fits = lt_of_le_of_lt (turned (omega (arith, m.first)) (omega (arith, m.first_arm))) (lit< tt) }
+mul-push-load : tie.Need-overflow_mul-h1
+mul-push-load c = let m = c.requires in record { fits = lt_of_le_of_lt (turned (omega (arith, m.first)) (omega (arith, m.first_arm))) (lit< tt) }
 
-mul-push-load-2 : tie.Need-overflow-mul-push-load-2
+mul-push-load-2 : tie.Need-overflow_mul-h2
 mul-push-load-2 c =
-    let m = c.before.before.requires in
+    let m = c.requires in
     record { fits = lt_of_le_of_lt (turned (omega (arith, m.second)) (omega (arith, m.first_arm, m.second_arm))) (lit< tt) }
 
-add-push-load-2 : tie.Need-overflow-add-push-load-2
+add-push-load-2 : tie.Need-overflow_add-h1-2
 add-push-load-2 c =
-    let m = c.before.before.requires in
+    let m = c.requires in
     record {
       fits = lt_of_le_of_lt (add-le-add (turned (omega (arith, m.first)) (omega (arith, m.first_arm))) (turned (omega (arith, m.second)) (omega (arith, m.first_arm, m.second_arm)))) (lit< tt);
     }
 
-push-load-requires : tie.Need-push-load-requires
+push-load-requires : tie.Need-push_load-requires
 push-load-requires c κs = search rules
 
 returns : tie.Need-returns
-returns c = c.push-load.ensures
+returns c = c.push_load.ensures
 
 pub surcharge_load_spec : {M : Type 1} → statement M
-surcharge_load_spec =
-    tie.close
-    (tie.spec
-    add-push-load
-    mul-push-load
-    mul-push-load-2
-    add-push-load-2
-    push-load-requires
-    returns)
+surcharge_load_spec = tie.close (tie.spec add-push-load mul-push-load mul-push-load-2 add-push-load-2 push-load-requires returns)
