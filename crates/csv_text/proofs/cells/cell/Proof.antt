@@ -2,7 +2,6 @@
 use Prim.Native.Nat.{ℕ, ◌≤◌}
 use native.Mathlib.Omega.{arith}
 use mathlib.Core.Path.{◌≡◌, refl}
-use mathlib.Core.Logic.{⊎_elim}
 use mathlib.Core.Bool.{true, false, ◌&&◌}
 use lib.Dec.{leb}
 use Rattle.arithmetic.proofs.Tests.{decides_within}
@@ -63,8 +62,8 @@ returns-2 : tie.Need-returns
 returns-2 c =
     record {
       there = λ w. elim c.if-k-lt10.branch [
-        then-k-lt10+else-a-e u ↦ absurd (out_of_order _ _ _ u.if-a-e.false (w.order, w.within))
-      | else-k-lt10 u ↦ let h = w.few in absurd (omega (arith, u.if-k-lt10.false))
+        | then-k-lt10+else-a-e u ↦ absurd (out_of_order _ _ _ u.if-a-e.false (w.order, w.within))
+        | else-k-lt10 u ↦ let h = w.few in absurd (omega (arith, u.if-k-lt10.false))
       ];
       missing = λ n. refl;
     }

@@ -2,7 +2,6 @@
 -- so what follows that end decides. A quote that nothing closes begins no field.
 use Prim.Native.Nat.{ℕ, ◌+◌, ◌<◌}
 use mathlib.Core.Path.{sym, subst}
-use mathlib.Core.Logic.{⊎_elim}
 use mathlib.Core.List.{List}
 use mathlib.Core.Bool.{◌&&◌}
 use native.Mathlib.Omega.{arith}
@@ -68,8 +67,8 @@ module _ (c : tie.Joined-byte_is) where
   ends =
       let opened = c.byte_is.ensures in
       elim c.if-byte_is.branch [
-        then-byte_is+in-At w ↦ subst (EndsAt text at) (sym w.end-is) (quoted_ends text at (decided _ w.if-byte_is.true opened) w.in-At.i w.in-At.ensures)
-      | else-byte_is w ↦ subst (EndsAt text at) (sym w.end-is) (plain_ends text at (refuted _ w.if-byte_is.false opened) w.plain_end-end.result w.plain_end-end.ensures)
+        | then-byte_is+in-At w ↦ subst (EndsAt text at) (sym w.end-is) (quoted_ends text at (decided _ w.if-byte_is.true opened) w.in-At.i w.in-At.ensures)
+        | else-byte_is w ↦ subst (EndsAt text at) (sym w.end-is) (plain_ends text at (refuted _ w.if-byte_is.false opened) w.plain_end-end.result w.plain_end-end.ensures)
       ]
 
 returns-2 : tie.Need-returns-then-end-s

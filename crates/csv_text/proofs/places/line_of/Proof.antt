@@ -2,7 +2,6 @@
 use Prim.Native.Nat.{ℕ, ◌+◌, ◌-◌, ◌≤◌}
 use native.Mathlib.Omega.{arith}
 use mathlib.Core.Path.{◌≡◌, sym, ap, subst, ◌∙◌}
-use mathlib.Core.Logic.{⊎_elim}
 use mathlib.Core.List.{List}
 use lib.ListN.{length, take}
 use lib.Seq.{take_all}
@@ -44,8 +43,8 @@ loop-again c =
     let before = c.if-i-at.true in (
       omega (arith, ltb-true),
       elim c.if-s-i-eq10.branch [
-        then-s-i-eq10 w ↦ subst (λ (l : ℕ). Counted s l (i + 1)) (sym w.line-is) (counted_break counted more (omega (arith, w.if-s-i-eq10.true)))
-      | else-s-i-eq10 w ↦ subst (λ (l : ℕ). Counted s l (i + 1)) (sym w.line-is) (counted_other counted more (λ e. w.if-s-i-eq10.false (omega (arith, e))))
+        | then-s-i-eq10 w ↦ subst (λ (l : ℕ). Counted s l (i + 1)) (sym w.line-is) (counted_break counted more (omega (arith, w.if-s-i-eq10.true)))
+        | else-s-i-eq10 w ↦ subst (λ (l : ℕ). Counted s l (i + 1)) (sym w.line-is) (counted_other counted more (λ e. w.if-s-i-eq10.false (omega (arith, e))))
       ],
     )
 

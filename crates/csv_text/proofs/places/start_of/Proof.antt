@@ -4,7 +4,6 @@ use native.Mathlib.Omega.{arith}
 use mathlib.Core.Path.{refl}
 use lib.ListN.{length}
 use borrow.Author.Rules.{rules}
-use borrow.Author.Tests.{not-true, not-false}
 use Rattle.arithmetic.proofs.Deciding.{decided, refuted}
 use Rattle.csv_text.specs.places.Places.{no_row}
 use Rattle.csv_text.proofs.places.Finding.{Seeking, seeking_start, seeking_on, seeking_found, seeking_end, seeking_more}
