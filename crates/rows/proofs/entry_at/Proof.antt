@@ -1,18 +1,13 @@
 -- A column marked - takes an empty field, and either other column a number whatever its bounds: that is all that a form asks.
 use Prim.Native.Nat.{ℕ}
-use native.Mathlib.Omega.{arith}
-use mathlib.Core.Logic.{⊎_elim}
 use mathlib.Core.Path.{◌≡◌, refl, sym, subst}
-use mathlib.Core.List.{List, [], ◌∷◌}
-use types.Run.{OneOf}
-use denote.Enum.Declared.{tag_of}
+use mathlib.Core.List.{List}
 use Rattle.fields.specs.Numbers.{IsNumber}
 use Rattle.fields.specs.Entries.{EntryAt}
 use Rattle.fields.specs.declared.Entered.{Entered}
 use Rattle.kinds.specs.Form.{Means}
 use Rattle.kinds.specs.declared.Column.{Column}
 use Rattle.kinds.specs.declared.Column.TheVariants.{Empty, Filled, Signed}
-use Rattle.kinds.specs.contracts.Column.{the_type}
 use borrow.Author.Rules.{rules}
 use Rattle.rows.proofs.entry_at.Statement.{statement}
 use Rattle.rows.proofs.entry_at.Tie as tie

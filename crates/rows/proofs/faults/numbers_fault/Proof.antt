@@ -5,7 +5,6 @@ use mathlib.Core.Path.{◌≡◌, refl, subst}
 use mathlib.Core.List.{List}
 use lib.Dec.{lit<}
 use borrow.Author.Rules.{rules}
-use borrow.Author.Tests.{not-true, not-false}
 use Rattle.arithmetic.proofs.Deciding.{decided, refuted}
 use Rattle.arithmetic.specs.rounding.Least.{Least}
 use Rattle.csv_text.specs.Nth.{Nth}
