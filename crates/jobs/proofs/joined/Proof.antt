@@ -71,9 +71,9 @@ add-count c = let few = room c in search rules
 returns : tie.Need-returns
 returns c =
     elim c.match-role.branch [
-      in-Scour w ↦ by_role c.before.before.before.before.before.before {x = Scour} w.in-Scour.is (same c.before.before.before.before.before.before w.stage-is w.scour-is w.clearance-is w.count-is w.loads-is)
-    | in-Clearance w ↦ by_role c.before.before.before.before.before.before {x = Clearance} w.in-Clearance.is (same c.before.before.before.before.before.before w.stage-is w.scour-is w.clearance-is w.count-is w.loads-is)
-    | in-Base w ↦ by_role c.before.before.before.before.before.before {x = Load} (bears c.args.role c.requires.0 w.in-Base.in-Base-own.keys3) (same c.before.before.before.before.before.before w.stage-is w.scour-is w.clearance-is w.count-is w.loads-is)
+      | in-Scour w ↦ by_role c.before.before.before.before.before.before {x = Scour} w.in-Scour.is (same c.before.before.before.before.before.before w.stage-is w.scour-is w.clearance-is w.count-is w.loads-is)
+      | in-Clearance w ↦ by_role c.before.before.before.before.before.before {x = Clearance} w.in-Clearance.is (same c.before.before.before.before.before.before w.stage-is w.scour-is w.clearance-is w.count-is w.loads-is)
+      | in-Base w ↦ by_role c.before.before.before.before.before.before {x = Load} (bears c.args.role c.requires.0 w.in-Base.in-Base-own.keys3) (same c.before.before.before.before.before.before w.stage-is w.scour-is w.clearance-is w.count-is w.loads-is)
     ]
 
 pub joined_spec : {M : Type 1} → statement M

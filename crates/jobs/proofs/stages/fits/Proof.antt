@@ -1,6 +1,5 @@
 -- The tests go by the stage's number, and no two stages share one: so for each role its test is what `Fits` asks of the stage.
 use mathlib.Core.Path.{◌≡◌, sym, ap, ◌∙◌}
-use mathlib.Core.Logic.{⊎_elim}
 use Rattle.jobs.proofs.stages.Fitting.{stage_level, base_fits, scour_fits, clearance_fits, load_fits}
 use borrow.Author.Rules.{rules}
 use Rattle.jobs.proofs.stages.fits.Statement.{statement}
@@ -34,10 +33,10 @@ enum-told-8 c = search rules
 level : (c : tie.Joined-stage) → c.match-stage.level ≡ stage_level c.args.stage
 level c =
     elim c.match-stage.branch [
-      in-Unbegun w ↦ w.level-is ∙ sym (ap stage_level w.in-Unbegun.is)
-    | in-Dry w ↦ w.level-is ∙ sym (ap stage_level w.in-Dry.is)
-    | in-Scoured w ↦ w.level-is ∙ sym (ap stage_level w.in-Scoured.is)
-    | in-Crossed w ↦ w.level-is ∙ sym (ap stage_level w.in-Crossed.is)
+      | in-Unbegun w ↦ w.level-is ∙ sym (ap stage_level w.in-Unbegun.is)
+      | in-Dry w ↦ w.level-is ∙ sym (ap stage_level w.in-Dry.is)
+      | in-Scoured w ↦ w.level-is ∙ sym (ap stage_level w.in-Scoured.is)
+      | in-Crossed w ↦ w.level-is ∙ sym (ap stage_level w.in-Crossed.is)
     ]
 
 returns : tie.Need-returns-in-Base
