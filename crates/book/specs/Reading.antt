@@ -2,7 +2,6 @@
 use Rattle.std.specs.Prelude.{ℕ, ◌≡◌, List, [], take}
 use Rattle.jobs.specs.declared.Job.{Job}
 use Rattle.rows.specs.refusals.Numbers.{refusal_number}
-use Rattle.book.specs.JobBook.{count}
 use Rattle.book.specs.counted.Places.{places}
 use Rattle.book.specs.declared.counted.Count.{Count}
 use Rattle.book.specs.declared.counted.Count.TheVariants.{Given, Refused}

@@ -26,7 +26,7 @@ use Rattle.jobs.specs.declared.misplaced.Misplaced.TheVariants.{NoLoad}
 use Rattle.jobs.specs.declared.misplaced.Placing.{Placing}
 use Rattle.jobs.specs.declared.misplaced.Placing.TheVariants.{InPlace, Out}
 use Rattle.jobs.proofs.misplaced.Ruling.{unbroken_fits}
-use Rattle.book.specs.JobBook.{count, Forms, no_form, form}
+use Rattle.book.specs.JobBook.{Forms, no_form, form}
 use Rattle.book.specs.steps.Stop.{Reached, StopIs, through, formless, misplaced, surplus, reused}
 use Rattle.book.specs.steps.Faulted.{RuleAt, UsedAmong}
 use Rattle.book.specs.faults.Rules.{UsedAt}

@@ -1,7 +1,6 @@
 -- 1, then 2: each is told where the one before is not, and what a text past both has lies where the walk over its rows stops.
 use mathlib.Core.Path.{subst}
 use borrow.Author.Rules.{rules}
-use borrow.Author.Tests.{not-true, not-false}
 use Rattle.arithmetic.proofs.Deciding.{decided, refuted}
 use Rattle.csv_text.specs.strays.Strays.{TextSays}
 use Rattle.csv_text.proofs.strays.Answers.{sound_readable}

@@ -3,7 +3,6 @@
 use Prim.Native.Nat.{ℕ, ◌-◌, ◌≤◌, ◌<◌}
 use native.Mathlib.Omega.{arith}
 use mathlib.Core.Path.{◌≡◌, refl, ap, subst}
-use mathlib.Core.Logic.{⊎_elim}
 use mathlib.Core.Bool.{true}
 use mathlib.Core.List.{List}
 use lib.ListN.{length, set, replicate}
@@ -40,16 +39,16 @@ behind : (c : tie.Joined-way invariant-loop decreases-loop) → Behind c.before.
 behind c =
     let seen = c.step_at-step.ensures.seen in
     elim c.match-way.branch [
-      in-Joined w ↦
-      let g = goes c.before.before Joined w.in-Joined.is in
-      let m = walk_some c.loop-why.invariant seen g.0 _ g.1 in
-      rw (w.keys-is, w.n-is) (record { good = g.0; after = walk_joined c.loop-why.invariant seen g.0 _ g.1; some = m.0; few = m.1 })
-    | in-Started+in_default w ↦
-      let g = goes c.before.before Started w.in-Started.is in
-      let new = begun_new w.may_begin.ensures w.in_default.is in
-      let few = new.0 in
-      rw (w.keys-is, w.n-is)
-      (record { good = g.0; after = walk_started c.loop-why.invariant seen g.0 _ g.1 new.0 new.1; some = omega arith; few = omega arith })
+      | in-Joined w ↦
+          let g = goes c.before.before Joined w.in-Joined.is in
+          let m = walk_some c.loop-why.invariant seen g.0 _ g.1 in
+          rw (w.keys-is, w.n-is) (record { good = g.0; after = walk_joined c.loop-why.invariant seen g.0 _ g.1; some = m.0; few = m.1 })
+      | in-Started+in_default w ↦
+          let g = goes c.before.before Started w.in-Started.is in
+          let new = begun_new w.may_begin.ensures w.in_default.is in
+          let few = new.0 in
+          rw (w.keys-is, w.n-is)
+          (record { good = g.0; after = walk_started c.loop-why.invariant seen g.0 _ g.1 new.0 new.1; some = omega arith; few = omega arith })
     ]
 
 blank-job-requires : tie.Need-blank_job-job-requires invariant-loop decreases-loop
