@@ -2,6 +2,7 @@
 pub mod OneReading
 pub mod Sharing
 mod Walking
+mod TellWalking
 mod Laying
 mod Gathering
 pub mod Holding

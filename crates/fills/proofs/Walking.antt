@@ -1,5 +1,5 @@
 -- The loop over the rows of a fill book: those passed mean the fills that are held, and none is listed twice.
-use Prim.Native.Nat.{ℕ, zero, suc, ◌+◌, ◌*◌, ◌≤◌, ◌<◌}
+use Prim.Native.Nat.{ℕ, suc, ◌+◌, ◌*◌, ◌≤◌, ◌<◌, min}
 use native.Mathlib.Decide.{dec_lt}
 use native.Mathlib.Omega.{arith}
 use mathlib.Core.Path.{◌≡◌, refl, sym, ap, subst, ◌∙◌}
@@ -7,36 +7,29 @@ use mathlib.Core.Bool.{Bool, true, false}
 use mathlib.Core.List.{List, [], ◌∷◌, ◌++◌}
 use lib.ListN.{length, get_or, set, length-set, length-append, get_or-append}
 use lib.Seq.{get_or_at}
-use Rattle.arithmetic.proofs.Cases.{by_cases, impossible}
+use Rattle.arithmetic.proofs.Cases.{by_cases}
 use Rattle.csv_text.specs.rfc4180.Rfc4180.{DQUOTE, Cell, Field, plain, quoted, File, Readable}
-use Rattle.csv_text.specs.Nth.{Nth}
 use Rattle.csv_text.specs.cells.Cells.{offset}
-use Rattle.csv_text.specs.strays.Strays.{TextSays}
-use Rattle.csv_text.specs.declared.strays.TextFault.{TextFault}
-use Rattle.csv_text.proofs.strays.Answers.{sound_readable}
+use Rattle.csv_text.proofs.rfc4180.Unique.{file_unique}
 use Rattle.csv_text.proofs.cells.Fields.{row_fields}
 use Rattle.csv_text.proofs.notes.Reached.{RowReached, reached_start, reached_more, reached_last}
 use Rattle.fields.specs.Numbers.{IsNumber, is_positive, is_negative}
 use Rattle.fields.proofs.digits.Numerals.{numeral_some}
 use Rattle.fields.specs.declared.Entry.{Entry}
-use Rattle.fields.specs.names.Names.{Letter, hyphen, digit, upper}
+use Rattle.fields.specs.names.Names.{name, Letter, hyphen, digit, upper}
 use Rattle.fields.specs.declared.names.Name.{Name}
 use Rattle.fills.specs.declared.fill_rows.Fill.{Fill}
 use Rattle.fills.specs.declared.fill_rows.FillRead.{FillRead}
 use Rattle.fills.specs.declared.fill_rows.Whose.{Whose}
 use Rattle.fills.specs.declared.fill_rows.Whose.TheVariants.{Own, Common}
 use Rattle.fills.specs.declared.digest.TwoWords.{TwoWords}
-use Rattle.fills.specs.declared.faults.FillFault.{FillFault}
-use Rattle.fills.specs.declared.faults.FillFault.TheVariants.{Sound, TooLong, Text, Twice}
-use Rattle.fills.specs.fill_rows.Form.{MemberIs, Form}
+use Rattle.fills.specs.fill_rows.Form.{cells_of, MemberIs, UpTo, Form}
 use Rattle.fills.specs.fill_rows.steps.Reading.{FillGiven, FillSeen, SeenAt}
-use Rattle.fills.specs.FillBook.{no_bytes, bytes, Forms, no_form, form, no_fill, Lists, SamePlace, Once}
-use Rattle.fills.specs.digest.Digest.{Proper, KeyIs, FoundAt, Small, DigestOf}
-use Rattle.fills.specs.faults.Faults.{RowLies, count, column, twice, too_long, text, row}
-use Rattle.fills.specs.faults.steps.RowFault.{NoFillAt, FaultAt}
-use Rattle.fills.specs.reading.Rows.{Places, Digested, RefusedFor}
+use Rattle.fills.specs.FillBook.{TextRows, no_bytes, bytes, Forms, no_form, form, no_fill, Lists, SamePlace, Once, FillBook}
+use Rattle.fills.specs.digest.Digest.{high_of, low_of, Proper, KeyIs, FoundAt, Small, InWords, DigestOf}
+use Rattle.fills.specs.reading.Rows.{Places, Digested}
 use Rattle.fills.proofs.OneReading.{form_one}
-use Rattle.fills.proofs.digest.Words.{proper_name, found_fill, not_found, digest_more}
+use Rattle.fills.proofs.digest.Words.{proper_name, found_lists, not_found, digest_more}
 
 -- a member that a row names is told by its words
 letter_small : {b : ℕ} → Letter b → b < 256
@@ -77,15 +70,15 @@ module _ {whose : Whose} {cs : List Cell} {f : Fill} (w : Form whose cs f) where
       subst (λ (l : List Cell). 8 ≤ offset l (length l)) (sym w.are) (omega arith)
 
 -- the rows of a book, cut behind those that were passed
-pub record Cut (fs gone : List Fill) (f : Fill) : Type 0 where
-  pub behind : List Fill
-  pub are : fs ≡ gone ++ f ∷ behind
+record Cut (fs gone : List Fill) (f : Fill) : Type 0 where
+  behind : List Fill
+  are : fs ≡ gone ++ f ∷ behind
 
 pub some_form : {whose : Whose} (os : List (List Cell)) (cs : List Cell) (bs : List (List Cell)) {fs : List Fill} → Forms whose (os ++ cs ∷ bs) fs → (f : Fill) × Form whose cs f
 some_form [] cs bs (form {f = f} w ws) = (f, w)
 some_form (o ∷ os) cs bs (form w ws) = some_form os cs bs ws
 
-pub cut : {whose : Whose} {os : List (List Cell)} {gone : List Fill} {cs : List Cell} {f : Fill} (bs : List (List Cell)) {fs : List Fill} → Forms whose os gone → Form whose cs f → Forms whose (os ++ cs ∷ bs) fs → Cut fs gone f
+cut : {whose : Whose} {os : List (List Cell)} {gone : List Fill} {cs : List Cell} {f : Fill} (bs : List (List Cell)) {fs : List Fill} → Forms whose os gone → Form whose cs f → Forms whose (os ++ cs ∷ bs) fs → Cut fs gone f
 cut bs no_form w (form {fs = fs} v vs) = let e = form_one v w in record { behind = fs; are = cc }
 cut bs (form u us) w (form v vs) =
     let c = cut bs us w vs in
@@ -118,20 +111,6 @@ once_more {fs} f once new j k l m same =
     let ss : x.soil ≡ f.soil = sym (ap (λ (g : Fill). g.soil) there) ∙ q ∙ ap (λ (g : Fill). g.soil) here in
     let tt' : x.slope ≡ f.slope = sym (ap (λ (g : Fill). g.slope) there) ∙ r ∙ ap (λ (g : Fill). g.slope) here in
     new x.value (record { at = j; within = omega arith; is = λ i. record { member = mm i; soil = ss i; slope = tt' i; value = x.value } }))
-
--- the n-th of a list, by its place
-nth_at : {A : Type 0} (d : A) (xs : List A) (k : ℕ) → k < length xs → Nth xs (k + 1) (get_or xs k d)
-nth_at d [] k l = absurd (omega arith)
-nth_at d (x ∷ xs) zero l = record { before = []; behind = xs; are = refl; number = refl }
-nth_at d (x ∷ xs) (suc k) l =
-    let a = nth_at d xs k (omega arith) in
-    let n = a.number in
-    record { before = x ∷ a.before; behind = a.behind; are = ap (λ (ys : List _). x ∷ ys) a.are; number = omega arith }
-
-pub row_unsound : {whose : Whose} {fs : List Fill} {cs : List Cell} {n : ℕ} {fault : FillFault} → RowLies whose fs cs n fault → fault ≡ Sound → ⊥
-row_unsound (count e m) z = impossible cc
-row_unsound (column e l) z = impossible cc
-row_unsound (twice w a p) z = impossible cc
 
 pub record Walk (whose : Whose) (s : List ℕ) (n at : ℕ) (high low value : List ℕ) : Type 0 where
   pub size : length s ≤ 65536
@@ -169,14 +148,14 @@ walk_room i =
     let c = i.size in
     omega arith
 
--- too many bytes, or no RFC 4180 text
-pub long_refused : {whose : Whose} {s : List ℕ} → 65536 < length s → RefusedFor whose s TooLong
-long_refused h = record { lies = too_long h; unsound = λ z. impossible cc }
+not_empty : {s : List ℕ} {rows : List (List Cell)} → 0 < length s → TextRows s rows → File s rows
+not_empty h no_bytes = absurd (omega arith)
+not_empty h (bytes n q) = q
 
-pub text_refused : {whose : Whose} {s : List ℕ} {fault : TextFault} → length s ≤ 65536 → (Readable s → ⊥) → TextSays s fault → RefusedFor whose s (Text fault)
-text_refused {s = s} h n t = record { lies = text h t (λ e. n (sound_readable (subst (TextSays s) e t))); unsound = λ z. impossible cc }
+-- a fill book of some bytes is RFC 4180, and one of no bytes has no rows
+pub readable : {whose : Whose} {s : List ℕ} {fs : List Fill} → (length s ≡ 0 → ⊥) → FillBook whose s fs → Readable s
+readable h b = record { rows = b.rows; reading = not_empty (omega (arith, h)) b.text }
 
--- a fill book of no bytes has no rows
 pub empty_book : {whose : Whose} (s : List ℕ) {high low value : List ℕ} → length s ≡ 0 → Digested whose s 0 high low value
 empty_book [] h = record {
   fills = [];
@@ -193,21 +172,15 @@ module _ {whose : Whose} {s : List ℕ} {n at : ℕ} {high low value : List ℕ}
   seen : FillSeen whose s at cs i.reached.behind r
   seen = h _ _ i.reached.here
 
-  -- the row reached may not stand behind those passed
-  lies : {fault : FillFault} → RowLies whose i.fills cs (n + 1) fault → RefusedFor whose s fault
-  lies w = record {
-    lies = row i.size (bytes (λ (z : s ≡ []). let l = ap length z in let m = i.some in omega arith) i.reached.reading)
-        (record { before = i.passed; behind = i.reached.behind; are = i.reached.are; number = i.reached.number })
-        (record { forms = i.forms; once = i.once }) w;
-    unsound = row_unsound w;
-  }
+  -- the rows of a fill book that the text would be
+  rows_are : {fs : List Fill} (b : FillBook whose s fs) → Forms whose (i.passed ++ cs ∷ i.reached.behind) fs
+  rows_are {fs} b = subst (λ (l : List (List Cell)). Forms whose l fs) (file_unique (not_empty i.some b.text) i.reached.reading refl ∙ i.reached.are) b.forms
 
-  module _ (g : r.good ≡ false) where
-    pub walk_formless : NoFillAt whose s at
-    walk_formless os css q = subst (λ (x : Bool). FillGiven whose x os r.fill) g (h os css q).means
-
-    pub walk_fault : {fault : FillFault} → FaultAt whose s at (n + 1) fault → RefusedFor whose s fault
-    walk_fault w = lies (w _ _ i.reached.here i.fills)
+  pub walk_formless : r.good ≡ false → (fs : List Fill) → FillBook whose s fs → ⊥
+  walk_formless g fs b =
+      let none = subst (λ (x : Bool). FillGiven whose x cs r.fill) g seen.means in
+      let f = some_form i.passed cs i.reached.behind (rows_are b) in
+      none f.0 f.1
 
   module _ (g : r.good ≡ true) where
     pub means : Form whose cs r.fill
@@ -217,13 +190,21 @@ module _ {whose : Whose} {s : List ℕ} {n at : ℕ} {high low value : List ℕ}
     small = form_small means
 
     module _ {key : TwoWords} (is : KeyIs r.fill.member r.fill.soil r.fill.slope key) {found : ℕ} (place : FoundAt high low n key found) where
-      pub walk_twice : found < n → RefusedFor whose s (Twice (n + 1) (found + 1))
-      walk_twice l =
+      pub walk_twice : found < n → (fs : List Fill) → FillBook whose s fs → ⊥
+      walk_twice l fs b =
+          let listed = found_lists i.digest is small.soil.1 small.slope.1 place l in
+          let c = cut i.reached.behind i.forms means (rows_are b) in
           let many = i.digest.many in
-          let same = found_fill i.digest is small.soil.1 small.slope.1 place l in
-          lies
-          (twice means (nth_at no_fill i.fills found (omega arith))
-          (record { member = ap (λ (f : Fill). f.member) same; soil = ap (λ (f : Fill). f.soil) same; slope = ap (λ (f : Fill). f.slope) same }))
+          let within = listed.within in
+          let e = c.are in
+          let at_end : get_or fs (length i.fills) no_fill ≡ r.fill = ap (λ (x : List Fill). get_or x (length i.fills) no_fill) e ∙ get_or_at i.fills r.fill c.behind no_fill (length i.fills) refl in
+          let before = ap (λ (x : List Fill). get_or x listed.at no_fill) e ∙ get_or-append i.fills (r.fill ∷ c.behind) no_fill listed.at within ∙ listed.is in
+          b.once listed.at (length i.fills) within (omega (arith, ap length e, length-append i.fills (r.fill ∷ c.behind)))
+          (record {
+            member = ap (λ (x : Fill). x.member) before ∙ sym (ap (λ (x : Fill). x.member) at_end);
+            soil = ap (λ (x : Fill). x.soil) before ∙ sym (ap (λ (x : Fill). x.soil) at_end);
+            slope = ap (λ (x : Fill). x.slope) before ∙ sym (ap (λ (x : Fill). x.slope) at_end);
+          })
 
       module _ (new : found < n → ⊥) where
         once : Once (i.fills ++ r.fill ∷ [])

@@ -1,7 +1,7 @@
 // Where the refusal of a fill book lies (02, P4: refusal 8; where a refusal lies, 8): too long; not RFC 4180, with its place; or the first bad
 // row, with its number of fields, its first bad column, or the earlier row of the same member, soil and slope.
 //
-// The walk that reads the fills stops at that row, so that it is walked once, whoever asks. What is hard is that there is one such row: the rows
+// The walk that tells the row goes as the walk that reads the fills does. What is hard is that there is one such row: the rows
 // before it begin a fill book, and with it they begin none.
 ghost use Rattle.std.specs.Prelude.{◌≤◌, length, drop};
 ghost use Rattle.csv_text.specs.rfc4180.Rfc4180.{Readable};
@@ -9,8 +9,8 @@ ghost use Rattle.fills.specs.faults.Faults.{FillLies};
 ghost use Rattle.fills.specs.faults.steps.RowFault.{NoFillAt, FaultAt};
 
 use crate::fill_rows::Whose;
-use crate::reading::Rows;
-use crate::{fill_rows, reading};
+use crate::telling::Told;
+use crate::{fill_rows, telling};
 use csv_text::strays::TextFault;
 
 // Where the refusal of a fill book lies, its rows and columns counted from 1.
@@ -61,9 +61,9 @@ pub fn fill_fault(s: &[u8], whose: Whose) -> FillFault
     let mut high = [0u64; 7282];
     let mut low = [0u64; 7282];
     let mut value = [0u32; 7282];
-    let rows = reading::read_rows(s, whose, &mut high, &mut low, &mut value);
+    let rows = telling::told_rows(s, whose, &mut high, &mut low, &mut value);
     match rows {
-        Rows::Given(_) => FillFault::Sound,
-        Rows::Refused(fault) => fault,
+        Told::Given(_) => FillFault::Sound,
+        Told::Refused(fault) => fault,
     }
 }

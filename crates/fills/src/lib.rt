@@ -2,7 +2,7 @@
 // member, soil and slope, own before common.
 //
 // What a fill book is stands in `specs/FillBook.antt`, with no reader in it. Each book is walked once, into words; what it holds for a member
-// is then laid over what is held for all. Where the refusal of a book lies (8), that walk tells too (`faults`).
+// is then laid over what is held for all. Where the refusal of a book lies (8) stands in `faults`.
 #![tactic(auto)]
 
 mod digest;
@@ -11,6 +11,7 @@ pub mod fill_rows;
 pub mod lookup;
 mod reading;
 pub mod table2_book;
+mod telling;
 
 ghost use Rattle.std.specs.Prelude.{◌≤◌};
 ghost use Rattle.fills.specs.Values.{FiveByFive, ValuesGiven};

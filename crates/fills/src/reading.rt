@@ -1,19 +1,18 @@
-// The rows of a fill book, one by one (02, P4): their fills in words; or where the refusal of the bytes lies (8).
+// The rows of a fill book, one by one (02, P4): their fills in words; or that the bytes are no fill book (refusal 8).
 //
 // The loop's invariant is in the words of `specs/FillBook.antt`: the rows passed mean the fills that are held, and none of these is listed twice.
 ghost use Rattle.std.specs.Prelude.{◌≤◌, ◌<◌, length};
 ghost use Rattle.csv_text.specs.rfc4180.Rfc4180.{Readable};
 ghost use Rattle.fills.specs.reading.Rows.{Places, RowsAre};
 
-use crate::faults::FillFault;
 use crate::fill_rows::Whose;
-use crate::{digest, faults, fill_rows};
+use crate::{digest, fill_rows};
 
-// How many fills a book has; or where its refusal lies.
+// How many fills a book has; or that it is refused.
 #[derive(Clone, Copy)]
 pub enum Rows {
     Given(usize),
-    Refused(FillFault),
+    Refused,
 }
 
 // The fills of an RFC 4180 text that is not empty.
@@ -34,23 +33,19 @@ fn walk(
     let mut at: usize = 0;
     loop {
         let read = fill_rows::fill_at(s, at, whose);
-        let row = n + 1;
         if !read.good {
-            let fault = faults::row_fault(s, at, whose, row);
-            return Rows::Refused(fault);
+            return Rows::Refused;
         }
         let fill = read.fill;
         let member = fill.member;
         let key = digest::fill_key(member, fill.soil, fill.slope);
-        let place = digest::find(high, low, n, key);
-        if place < n {
-            let earlier = place + 1;
-            return Rows::Refused(FillFault::Twice(row, earlier));
+        if digest::find(high, low, n, key) < n {
+            return Rows::Refused;
         }
         high[n] = key.high;
         low[n] = key.low;
         value[n] = fill.value;
-        n = row;
+        n += 1;
         at = read.next;
         if s.len() <= at {
             return Rows::Given(n);
@@ -71,14 +66,13 @@ pub(crate) fn read_rows(
     ensures places { Places high.new low.new value.new }
 {
     if 65536 < s.len() {
-        return Rows::Refused(FillFault::TooLong);
+        return Rows::Refused;
     }
     if s.len() == 0 {
         return Rows::Given(0);
     }
     if !csv_text::is_csv(s) {
-        let fault = csv_text::strays::text_fault(s);
-        return Rows::Refused(FillFault::Text(fault));
+        return Rows::Refused;
     }
     walk(s, whose, high, low, value)
 }

@@ -2,7 +2,7 @@
 use Prim.Native.Nat.{ℕ, zero, suc, ◌+◌, ◌*◌, ◌-◌, ◌≤◌, ◌<◌}
 use native.Mathlib.Decide.{dec_lt}
 use native.Mathlib.Omega.{arith}
-use mathlib.Core.Path.{◌≡◌, sym, ap, subst, ◌∙◌}
+use mathlib.Core.Path.{◌≡◌, refl, sym, ap, subst, ◌∙◌}
 use mathlib.Core.List.{List, [], ◌∷◌, ◌++◌}
 use lib.ListN.{length, get_or, set, replicate, length-append, length-replicate, get_or-replicate, get_or-append}
 use lib.Seq.{ext_get_or, get_or-append-add, get_or-set_same, get_or-set_other}
@@ -11,9 +11,9 @@ use Rattle.fields.specs.names.Names.{name}
 use Rattle.fields.specs.declared.names.Name.{Name}
 use Rattle.fills.specs.declared.fill_rows.Fill.{Fill}
 use Rattle.fills.specs.declared.digest.TwoWords.{TwoWords}
-use Rattle.fills.specs.FillBook.{no_fill, Lists}
+use Rattle.fills.specs.FillBook.{no_fill, Lists, SamePlace}
 use Rattle.fills.specs.Says.{Lacks}
-use Rattle.fills.specs.digest.Digest.{word_at, high_of, low_of, Proper, KeyIs, WordsAt, FoundAt, InWords, DigestOf}
+use Rattle.fills.specs.digest.Digest.{word, word_at, high_of, low_of, Proper, KeyIs, WordsAt, FoundAt, Small, InWords, DigestOf}
 
 -- one byte more
 last_byte : (x y a b : ℕ) → a < 256 → b < 256 → x * 256 + a ≡ y * 256 + b → (x ≡ y) × (a ≡ b)
@@ -115,6 +115,9 @@ module _ {fs : List Fill} {n : ℕ} {high low value : List ℕ} (digest : Digest
   module _ {r : ℕ} (found : FoundAt high low n key r) where
     pub found_fill : r < n → get_or fs r no_fill ≡ record { member = member; soil = soil; slope = slope; value = get_or value r 0 }
     found_fill l = words_tell r l (found.there l)
+
+    pub found_lists : r < n → Lists fs member soil slope (get_or value r 0)
+    found_lists l = let many = digest.many in record { at = r; within = omega arith; is = found_fill l }
 
     pub not_found : (r < n → ⊥) → Lacks fs member soil slope
     not_found l v w =

@@ -21,10 +21,10 @@ use Rattle.fills.specs.declared.faults.FillFault.TheVariants.{Sound, Text, Count
 use Rattle.fills.specs.FillBook.{TextRows, no_bytes, bytes, Forms, no_fill, SamePlace, Once, FillBook}
 use Rattle.fills.specs.Says.{Accepted}
 use Rattle.fills.specs.faults.Faults.{Begins, RowLies, count, column, twice, FillLies, sound, too_long, text, row}
-use Rattle.fills.specs.reading.Rows.{RefusedFor}
+use Rattle.fills.specs.telling.Told.{RefusedFor}
 use Rattle.fills.proofs.OneReading.{form_one, forms_one, text_one, one_place}
 use Rattle.fills.proofs.fill_rows.Cells.{form_length}
-use Rattle.fills.proofs.Walking.{some_form, cut, row_unsound}
+use Rattle.fills.proofs.TellWalking.{some_form, cut, row_unsound}
 use Rattle.fills.proofs.faults.Columns.{wrong_formless}
 
 -- the n-th of a list, by its place

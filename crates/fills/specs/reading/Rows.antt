@@ -1,13 +1,10 @@
--- What `read_rows` answers: the fills of a book in words, or where its refusal lies.
+-- What `read_rows` answers: the fills of a book in words, or that the bytes are no fill book.
 use Rattle.std.specs.Prelude.{ℕ, ◌≤◌, ◌≡◌, List, length}
 use Rattle.fills.specs.declared.fill_rows.Fill.{Fill}
 use Rattle.fills.specs.declared.fill_rows.Whose.{Whose}
-use Rattle.fills.specs.declared.faults.FillFault.{FillFault}
-use Rattle.fills.specs.declared.faults.FillFault.TheVariants.{Sound}
 use Rattle.fills.specs.declared.reading.Rows.{Rows}
 use Rattle.fills.specs.declared.reading.Rows.TheVariants.{Given, Refused}
 use Rattle.fills.specs.FillBook.{FillBook}
-use Rattle.fills.specs.faults.Faults.{FillLies}
 use Rattle.fills.specs.digest.Digest.{DigestOf}
 
 -- the arrays have their 7,282 places
@@ -23,11 +20,6 @@ pub record Digested (whose : Whose) (s : List ℕ) (n : ℕ) (high low value : L
   pub digest : DigestOf fills n high low value
   pub few : n ≤ 7282
 
--- no fill book, and where its refusal lies
-pub record RefusedFor (whose : Whose) (s : List ℕ) (fault : FillFault) : Type 0 where
-  pub lies : FillLies whose s fault
-  pub unsound : fault ≡ Sound → ⊥
-
 abbrev pub RowsAre : Whose → List ℕ → List ℕ → List ℕ → List ℕ → Rows → Type 0
 RowsAre whose s high low value (Given n) = Digested whose s n high low value
-RowsAre whose s high low value (Refused fault) = RefusedFor whose s fault
+RowsAre whose s high low value Refused = (fs : List Fill) → FillBook whose s fs → ⊥

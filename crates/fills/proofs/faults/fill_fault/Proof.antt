@@ -3,26 +3,25 @@ use Prim.Native.Nat.{ℕ}
 use mathlib.Core.Path.{subst}
 use lib.ListN.{length-replicate}
 use borrow.Author.Rules.{rules}
-use Rattle.fills.specs.reading.Rows.{RowsAre}
+use Rattle.fills.specs.telling.Told.{ToldAre}
 use Rattle.fills.specs.faults.Faults.{sound}
 use Rattle.fills.proofs.faults.fill_fault.Statement.{statement}
 use Rattle.fills.proofs.faults.fill_fault.Tie as tie
 
-read-rows-requires : tie.Need-read-rows-requires
-read-rows-requires c κs = record { high_long = length-replicate {A = ℕ} 7282 0; low_long = length-replicate {A = ℕ} 7282 0; value_long = length-replicate {A = ℕ} 7282 0 }
-
-enum_told : tie.Need-enum-told
+enum_told : tie.Need-enum_told-1
 enum_told c = search rules
 
-enum-known-rows : tie.Need-enum-known-rows
+enum-known-rows : tie.Need-enum_known-rows
 enum-known-rows c = search rules
 
-returns : tie.Need-returns
-returns c = sound (subst (RowsAre _ _ _ _ _) c.enum_told.given.1 c.before.before.read-rows.ensures.0).book
+returns : tie.Need-returns-in-Given
+returns c = sound (subst (ToldAre _ _ _ _ _) c.in-Given.is c.told_rows-rows.ensures.0).book
 
-returns-2 : tie.Need-returns-2
-returns-2 c = (subst (RowsAre _ _ _ _ _) c.before.rows.given.1 c.before.before.before.read-rows.ensures.0).lies
+returns-2 : tie.Need-returns-in-Refused
+returns-2 c = (subst (ToldAre _ _ _ _ _) c.in-Refused.is c.told_rows-rows.ensures.0).lies
+
+added_told_rows_rows_requires : tie.Need-told_rows-rows-requires
+added_told_rows_rows_requires c = search rules
 
 pub fill_fault_spec : {M : Type 1} → statement M
-fill_fault_spec =
-    tie.close (tie.spec read-rows-requires enum_told enum-known-rows returns returns-2)
+fill_fault_spec = tie.close (tie.spec added_told_rows_rows_requires enum_told enum-known-rows returns returns-2)

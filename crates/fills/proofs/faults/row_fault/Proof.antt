@@ -21,16 +21,16 @@ use Rattle.fills.proofs.faults.row_fault.Statement.{statement}
 use Rattle.fills.proofs.faults.row_fault.Tie as tie
 
 -- five cells, in whatever reading
-module _ (c : tie.Else1) (cs : List Cell) (css : List (List Cell)) where
+module _ (c : tie.Else-cells-ne5) (cs : List Cell) (css : List (List Cell)) where
   abbrev start : tie.Start
   start = c.before.before.before.before
 
-  five : File (drop start.args.at start.args.s.now) (cs ∷ css) → Standing 5 start.args.s.now c.before.before.cells_at.result cs
-  five q = standing c.before.before.cells_at.ensures cs css q (omega arith) c.if1.false
+  five : File (drop start.args.at start.args.s.now) (cs ∷ css) → Standing 5 start.args.s.now c.cells_at-cells.result cs
+  five q = standing c.cells_at-cells.ensures cs css q (omega arith) c.if-cells-ne5.false
 
 -- the first three are as they should be
-module _ (c : tie.Else2) (cs : List Cell) (css : List (List Cell)) where
-  abbrev named : tie.After-member-at
+module _ (c : tie.Else-not-named) (cs : List Cell) (css : List (List Cell)) where
+  abbrev named : tie.After-member_at-named
   named = c.before.before
 
   abbrev begun : tie.Start
@@ -38,96 +38,93 @@ module _ (c : tie.Else2) (cs : List Cell) (css : List (List Cell)) where
 
   has_member : File (drop begun.args.at begun.args.s.now) (cs ∷ css) → (n : Name) × MemberIs begun.args.whose (content cs 0) n
   has_member q = (
-    named.member-at.result.name,
-    cell_holds (MemberIs begun.args.whose) (five named.before.before cs css q) 0 (lit< tt) named.before.cell.ensures
-        (member_held begun.args.whose named.member-at.result (not-false named.member-at.result.good c.if2.false) named.member-at.ensures),
+    named.member_at-named.result.name,
+    cell_holds (MemberIs begun.args.whose) (five named.before.before cs css q) 0 (lit< tt) named.cell.ensures
+        (member_held begun.args.whose named.member_at-named.result (not-false named.member_at-named.result.good c.if-not-named.false) named.member_at-named.ensures),
   )
 
-module _ (c : tie.Else3) (cs : List Cell) (css : List (List Cell)) where
-  abbrev soiled : tie.After-number-to
+module _ (c : tie.Else-soil-eq0) (cs : List Cell) (css : List (List Cell)) where
+  abbrev soiled : tie.After-number_to-soil
   soiled = c.before
 
-  abbrev member-known : tie.Else2
+  abbrev member-known : tie.Else-not-named
   member-known = soiled.before.before
 
   has_soil : File (drop (begun member-known cs css).args.at (begun member-known cs css).args.s.now) (cs ∷ css) → (n : ℕ) × UpTo 5 (content cs 1) n
   has_soil q = (
-    soiled.number-to.result,
-    cell_holds (UpTo 5) (five (named member-known cs css).before.before cs css q) 1 (lit< tt) soiled.before.cell2.ensures
-        (number_held 5 _ (omega (arith, c.if3.false)) soiled.number-to.ensures),
+    soiled.number_to-soil.result,
+    cell_holds (UpTo 5) (five (named member-known cs css).before.before cs css q) 1 (lit< tt) soiled.cell-2.ensures
+        (number_held 5 _ (omega (arith, c.if-soil-eq0.false)) soiled.number_to-soil.ensures),
   )
 
-module _ (c : tie.Else4) (cs : List Cell) (css : List (List Cell)) where
-  abbrev sloped : tie.After-number-to2
+module _ (c : tie.Else-slope-eq0) (cs : List Cell) (css : List (List Cell)) where
+  abbrev sloped : tie.After-number_to-slope
   sloped = c.before
 
-  abbrev soil-known : tie.Else3
+  abbrev soil-known : tie.Else-soil-eq0
   soil-known = sloped.before.before
 
-  abbrev both-known : tie.Else2
+  abbrev both-known : tie.Else-not-named
   both-known = member-known soil-known cs css
 
   has_slope : File (drop (begun both-known cs css).args.at (begun both-known cs css).args.s.now) (cs ∷ css) → (n : ℕ) × UpTo 5 (content cs 2) n
   has_slope q = (
-    sloped.number-to2.result,
-    cell_holds (UpTo 5) (five (named both-known cs css).before.before cs css q) 2 (lit< tt) sloped.before.cell3.ensures
-        (number_held 5 _ (omega (arith, c.if4.false)) sloped.number-to2.ensures),
+    sloped.number_to-slope.result,
+    cell_holds (UpTo 5) (five (named both-known cs css).before.before cs css q) 2 (lit< tt) sloped.cell-3.ensures
+        (number_held 5 _ (omega (arith, c.if-slope-eq0.false)) sloped.number_to-slope.ensures),
   )
 
-cells-at-requires : tie.Need-cells-at-requires
+cells-at-requires : tie.Need-cells_at-cells-requires
 cells-at-requires c κs = search rules
 
-returns : tie.Need-returns
-returns c = λ cs css q fs. count (c.before.before.cells_at.ensures cs css q).count c.if1.true
+returns : tie.Need-returns-then-cells-ne5
+returns c = λ cs css q fs. count (c.cells_at-cells.ensures cs css q).count c.if-cells-ne5.true
 
 cell-requires : tie.Need-cell-requires
 cell-requires c κs = search rules
 
-member-at-requires : tie.Need-member-at-requires
+member-at-requires : tie.Need-member_at-named-requires
 member-at-requires c κs = search rules
 
-returns-2 : tie.Need-returns-2
+returns-2 : tie.Need-returns-then-not-named
 returns-2 c = λ cs css q fs.
-    let named = c.before.before in
-    let t = five named.before.before cs css q in
-    let whose = (start named.before.before cs css).args.whose in
+    let t = five c.before.before.before.before cs css q in
+    let whose = (start c.before.before.before.before cs css).args.whose in
     column t.so_many
     (first_wrong 1
-    (member (λ n w. not_both (held_member whose named.member-at.result named.member-at.ensures (stands_in (MemberIs whose) t 0 (lit< tt) named.before.cell.ensures {x = n} w)) (not-true named.member-at.result.good c.if2.true)))
+    (member (λ n w. not_both (held_member whose c.member_at-named.result c.member_at-named.ensures (stands_in (MemberIs whose) t 0 (lit< tt) c.cell.ensures {x = n} w)) (not-true c.member_at-named.result.good c.if-not-named.true)))
     (λ l. absurd (omega arith)) (λ l. absurd (omega arith)) (λ l. absurd (omega arith)))
 
 cell-requires-2 : tie.Need-cell-requires-2
 cell-requires-2 c κs = search rules
 
-number-to-requires : tie.Need-number-to-requires
+number-to-requires : tie.Need-number_to-soil-requires
 number-to-requires c κs = search rules
 
-returns-3 : tie.Need-returns-3
+returns-3 : tie.Need-returns-then-soil-eq0
 returns-3 c = λ cs css q fs.
-    let known = c.before.before.before in
-    let t = five (named known cs css).before.before cs css q in
+    let t = five (named c.before.before.before cs css).before.before cs css q in
     column t.so_many
     (first_wrong 2
-    (soil (λ n w. zero_holds_none 5 c.before.number-to.result c.if3.true c.before.number-to.ensures (stands_in (UpTo 5) t 1 (lit< tt) c.before.before.cell2.ensures w)))
-    (λ l. has_member known cs css q) (λ l. absurd (omega arith)) (λ l. absurd (omega arith)))
+    (soil (λ n w. zero_holds_none 5 c.number_to-soil.result c.if-soil-eq0.true c.number_to-soil.ensures (stands_in (UpTo 5) t 1 (lit< tt) c.cell-2.ensures w)))
+    (λ l. has_member c.before.before.before cs css q) (λ l. absurd (omega arith)) (λ l. absurd (omega arith)))
 
 cell-requires-3 : tie.Need-cell-requires-3
 cell-requires-3 c κs = search rules
 
-number-to-requires-2 : tie.Need-number-to-requires-2
+number-to-requires-2 : tie.Need-number_to-slope-requires
 number-to-requires-2 c κs = search rules
 
-returns-4 : tie.Need-returns-4
+returns-4 : tie.Need-returns-then-slope-eq0
 returns-4 c = λ cs css q fs.
-    let right = c.before.before.before in
-    let known = member-known right cs css in
+    let known = member-known c.before.before.before cs css in
     let t = five (named known cs css).before.before cs css q in
     column t.so_many
     (first_wrong 3
-    (slope (λ n w. zero_holds_none 5 c.before.number-to2.result c.if4.true c.before.number-to2.ensures (stands_in (UpTo 5) t 2 (lit< tt) c.before.before.cell3.ensures w)))
-    (λ l. has_member known cs css q) (λ l. has_soil right cs css q) (λ l. absurd (omega arith)))
+    (slope (λ n w. zero_holds_none 5 c.number_to-slope.result c.if-slope-eq0.true c.number_to-slope.ensures (stands_in (UpTo 5) t 2 (lit< tt) c.cell-3.ensures w)))
+    (λ l. has_member known cs css q) (λ l. has_soil c.before.before.before cs css q) (λ l. absurd (omega arith)))
 
-returns-5 : tie.Need-returns-5
+returns-5 : tie.Need-returns
 returns-5 c = λ cs css q fs.
     let known = both-known c cs css in
     let t = five (named known cs css).before.before cs css q in
@@ -137,23 +134,9 @@ returns-5 c = λ cs css q fs.
     column t.so_many
     (first_wrong 4
     (value (λ n w.
-    (begun known cs css).pre.1.1 cs css q (record { member = m.0; soil = s.0; slope = p.0; value = n })
+    (begun known cs css).requires.1.1 cs css q (record { member = m.0; soil = s.0; slope = p.0; value = n })
     (record { five = first_five cs; are = five_cells cs t.so_many; member = m.1; soil = s.1; slope = p.1; value = w })))
     (λ l. m) (λ l. s) (λ l. p))
 
 pub row_fault_spec : {M : Type 1} → statement M
-row_fault_spec =
-    tie.close
-    (tie.spec
-    cells-at-requires
-    returns
-    cell-requires
-    member-at-requires
-    returns-2
-    cell-requires-2
-    number-to-requires
-    returns-3
-    cell-requires-3
-    number-to-requires-2
-    returns-4
-    returns-5)
+row_fault_spec = tie.close (tie.spec cells-at-requires returns cell-requires member-at-requires returns-2 cell-requires-2 number-to-requires returns-3 cell-requires-3 number-to-requires-2 returns-4 returns-5)

@@ -7,28 +7,25 @@ use borrow.Author.Rules.{rules}
 use Rattle.fills.proofs.fill_rows.number_to.Statement.{statement}
 use Rattle.fills.proofs.fill_rows.number_to.Tie as tie
 
-number-at-requires : tie.Need-number-at-requires
+number-at-requires : tie.Need-number_at-requires
 number-at-requires c κs = search rules
 
-enum-known-entry : tie.Need-enum-known-entry
+enum-known-entry : tie.Need-enum_known-entry
 enum-known-entry c = search rules
 
-enum_told : tie.Need-enum-told
+enum_told : tie.Need-enum_told-1
 enum_told c = search rules
 
-returns : tie.Need-returns
-returns c = wrong_number _ (subst (EntryAt IsNumber _) c.enum_told.given.1 c.before.before.number_at.ensures)
+returns : tie.Need-returns-in_default
+returns c = wrong_number _ (subst (EntryAt IsNumber _) c.in_default.is c.number_at.ensures)
 
-returns-2 : tie.Need-returns-2
+returns-2 : tie.Need-returns-then-entry-bound
 returns-2 c =
-    let known = c.before.before.before.before in
-    beyond_number _ known.entry.given.0.0 (subst (EntryAt IsNumber _) known.entry.given.1 known.before.before.number_at.ensures) c.if1.true
+    beyond_number _ c.in-Is.entry (subst (EntryAt IsNumber _) c.in-Is.is c.number_at.ensures) c.if-entry-bound.true
 
-returns-3 : tie.Need-returns-3
+returns-3 : tie.Need-returns
 returns-3 c =
-    let known = c.before.before.before.before in
-    read_number _ known.entry.given.0.0 (subst (EntryAt IsNumber _) known.entry.given.1 known.before.before.number_at.ensures) c.if1.false
+    read_number _ c.in-Is.entry (subst (EntryAt IsNumber _) c.in-Is.is c.number_at.ensures) c.if-entry-bound.false
 
 pub number_to_spec : {M : Type 1} → statement M
-number_to_spec =
-    tie.close (tie.spec number-at-requires enum-known-entry enum_told returns returns-2 returns-3)
+number_to_spec = tie.close (tie.spec number-at-requires enum-known-entry enum_told returns returns-2 returns-3)

@@ -6,45 +6,34 @@ use Rattle.fills.proofs.lookup.Rows.{Going, going_start, going_more, going_found
 use Rattle.fills.proofs.lookup.row_part.Statement.{statement}
 use Rattle.fills.proofs.lookup.row_part.Tie as tie
 
-abbrev invariant-loop : tie.invariant-loop
+abbrev invariant-loop : tie.invariant-loop-k
 invariant-loop s n k₀ at₀ k at = Going s n k at
 
-abbrev decreases-loop : tie.decreases-loop
+abbrev decreases-loop : tie.decreases-loop-k
 decreases-loop s n k₀ at₀ k at = n - k
 
-loop-holds : tie.Need-loop-init invariant-loop decreases-loop
-loop-holds c = going_start c.before.requires
+loop-holds : tie.Need-loop-k-init invariant-loop decreases-loop
+loop-holds c = going_start c.requires
 
-cells-at-requires : tie.Need-cells-at-requires invariant-loop decreases-loop
-cells-at-requires c κs = (c.loop.invariant.reached.within, record { rows = _; reading = c.loop.invariant.reached.here })
+cells-at-requires : tie.Need-cells_at-cells-requires invariant-loop decreases-loop
+cells-at-requires c κs = (c.loop-k.invariant.reached.within, record { rows = _; reading = c.loop-k.invariant.reached.here })
 
-element-copy-out-to : tie.Need-element-copy-out-to invariant-loop decreases-loop
+element-copy-out-to : tie.Need-bounds-cells-4 invariant-loop decreases-loop
 element-copy-out-to c = search rules
 
-returns : tie.Need-returns invariant-loop decreases-loop
-returns c = going_found c.before.before.before.loop.invariant c.before.before.cells_at.ensures c.before.if1.true
+returns : tie.Need-returns-then-k-n invariant-loop decreases-loop
+returns c = going_found c.loop-k.invariant c.cells_at-cells.ensures c.if-k-n.true
 
-add-k : tie.Need-overflow-add-k invariant-loop decreases-loop
+add-k : tie.Need-overflow_add-k invariant-loop decreases-loop
 add-k c = search rules
 
-loop-less : tie.Need-loop-smaller invariant-loop decreases-loop
+loop-less : tie.Need-loop-k-smaller invariant-loop decreases-loop
 loop-less c =
-    let ahead = c.before.before.loop.invariant.ahead in
-    omega (arith, c.if1.false)
+    let ahead = c.loop-k.invariant.ahead in
+    omega (arith, c.if-k-n.false)
 
-loop-again : tie.Need-loop-preserved invariant-loop decreases-loop
-loop-again c = going_more c.before.before.loop.invariant c.before.cells_at.ensures c.if1.false
+loop-again : tie.Need-loop-k-preserved invariant-loop decreases-loop
+loop-again c = going_more c.loop-k.invariant c.cells_at-cells.ensures c.if-k-n.false
 
 pub row_part_spec : {M : Type 1} → statement M
-row_part_spec =
-    tie.close
-    (tie.spec
-    invariant-loop
-    decreases-loop
-    loop-holds
-    cells-at-requires
-    element-copy-out-to
-    returns
-    add-k
-    loop-less
-    loop-again)
+row_part_spec = tie.close (tie.spec invariant-loop decreases-loop loop-holds cells-at-requires element-copy-out-to returns add-k loop-less loop-again)
