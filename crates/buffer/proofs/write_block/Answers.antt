@@ -1,5 +1,5 @@
 -- The block's text is its first bytes, at most 2,048; they are copied where the buffer has room for them.
-use Prim.Native.Nat.{ℕ, min}
+use Prim.Native.Nat.{min}
 use mathlib.Core.Path.{◌≡◌, refl}
 use native.Mathlib.Omega.{arith}
 use borrow.Author.Rules.{rules}
