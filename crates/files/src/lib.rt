@@ -7,8 +7,8 @@
 // A file's name may be any bytes, but std opens a file by UTF-8 alone: a name that is not is told as one that cannot be opened.
 #![tactic(auto)]
 
-ghost use Rattle.std.specs.Prelude.{◌≤◌, length};
-ghost use Rattle.std.specs.Io.KnownBytes.{Consumes};
+ghost use Rattle.std.specs.Prelude.{◌≡◌, ◌+◌, ◌<◌, ◌≤◌, length, take, drop, IfOk, OnOk, OnErr, IsTrue};
+ghost use Rattle.std.specs.Io.KnownBytes.{Consumes, Keeps, IsAtEnd};
 ghost use Rattle.files.specs.Counts.{IsPrefixLen};
 
 use std::env::FillError;
@@ -63,13 +63,28 @@ pub fn argument<R: Env>(rt: &R, i: usize, buf: &mut [u8]) -> usize
     }
 }
 
-// Reads until the buffer is full, or the file ends, or a read fails: how many bytes are at the start of the buffer then, and the failure.
+// One read, into a buffer from a place on.
+fn read_at<R: Read>(file: &mut R, buf: &mut [u8], at: usize) -> io::Result<usize>
+    requires { at < length buf.old }
+    ensures front { take at buf.new ≡ take at buf.old }
+    ensures fits { IfOk result (λ n. at + n ≤ length buf.new) }
+    ensures ok { IfOk result (λ n. Consumes (R.remaining file.old) (R.remaining file.new) (take n (drop at buf.new))) }
+    ensures err { OnErr result (Keeps (R.remaining file.old) (R.remaining file.new)) }
+    ensures end { IfOk result (λ n. n ≡ 0 → IsAtEnd (R.remaining file.new)) }
+{
+    file.read(&mut buf[at..])
+}
+
+// Reads until the buffer is full, or the file ends, or a read fails: how many bytes are at the start of the buffer then, and the failure. Where the
+// file says which bytes it has left, these are the next of them.
 fn fill<R: Read>(file: &mut R, buf: &mut [u8]) -> (usize, io::Result<()>)
-    ensures { IsPrefixLen result.0 buf.new }
+    ensures within { IsPrefixLen result.0 buf.new }
+    ensures bytes { Consumes (R.remaining file.old) (R.remaining file.new) (take result.0 buf.new) }
+    ensures end { OnOk result.1 (result.0 < length buf.new → IsAtEnd (R.remaining file.new)) }
 {
     let mut len = 0;
     while len < buf.len() {
-        match file.read(&mut buf[len..]) {
+        match read_at(file, buf, len) {
             Ok(0) => return (len, Ok(())),
             Ok(n) => len += n,
             Err(why) => return (len, Err(why)),
@@ -78,9 +93,11 @@ fn fill<R: Read>(file: &mut R, buf: &mut [u8]) -> (usize, io::Result<()>)
     (len, Ok(()))
 }
 
-// Reads until the buffer is full, or the file ends, or a read fails, and tells how many bytes are at the start of the buffer.
+// Reads until the buffer is full, or the file ends, or a read fails, and tells how many bytes are at the start of the buffer. Where the file says which
+// bytes it has left, these are the next of them.
 pub fn read_full<R: Read>(file: &mut R, buf: &mut [u8]) -> usize
-    ensures { IsPrefixLen result buf.new }
+    ensures within { IsPrefixLen result buf.new }
+    ensures bytes { Consumes (R.remaining file.old) (R.remaining file.new) (take result buf.new) }
 {
     let (len, _) = fill(file, buf);
     len
@@ -114,9 +131,12 @@ fn tell<P: Print>(err: &P, program: &[u8], name: &[u8], why: &io::Error) {
     tell_why(err, why);
 }
 
-// The bytes of an open file.
+// The bytes of an open file. Where the file says which bytes it has left, the next of them, and all of them where the buffer has room to spare and no
+// read failed.
 pub fn read_open<R: Read>(file: &mut R, text: &mut [u8; 65537]) -> Got
-    ensures { IsPrefixLen result.len text.new }
+    ensures within { IsPrefixLen result.len text.new }
+    ensures bytes { Consumes (R.remaining file.old) (R.remaining file.new) (take result.len text.new) }
+    ensures whole { IsTrue result.all → result.len < 65537 → IsAtEnd (R.remaining file.new) }
 {
     let (len, end) = fill(file, text);
     Got {

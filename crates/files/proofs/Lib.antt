@@ -1,0 +1,2 @@
+-- What a read takes of the bytes that a reader has left.
+pub mod Reading
