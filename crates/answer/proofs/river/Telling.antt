@@ -114,6 +114,7 @@ module _ (job : Job) where
 
     pub clear_gives : (a : ClearanceAnswer) → Says (told.clearance_told a) → (r : RowGives) → ClearGiven a r → ClearGives job r
     clear_gives clearance.OutOfRange (told.out_of_range h) r e = subst⁻¹ (ClearGives job) e (unranged (λ r. h (r has)))
+    clear_gives clearance.OutOfRange (told.in_range k v) r e = elim v [ ]
     clear_gives clearance.OverObstructed (told.in_range k v) r e = subst⁻¹ (ClearGives job) e (obstructed (λ _. k) (record { has = has; rule = v }))
     clear_gives (clearance.Given there needed exact) s (Refused n) w = absurd w
     clear_gives (clearance.Given there needed exact) (told.in_range k v) (Line l) w = clear_line there needed exact l k v w

@@ -7,16 +7,16 @@ use borrow.Author.Rules.{rules}
 use Rattle.answer.proofs.whole.Statement.{statement}
 use Rattle.answer.proofs.whole.Tie as tie
 
-worst-lines-requires : tie.Need-worst-lines-requires
+worst-lines-requires : tie.Need-worst_lines-one-requires
 worst-lines-requires c κs = search rules
 
-worst-lines-requires-2 : tie.Need-worst-lines-requires-2
+worst-lines-requires-2 : tie.Need-worst_lines-two-requires
 worst-lines-requires-2 c κs = search rules
 
-worst-lines-requires-3 : tie.Need-worst-lines-requires-3
+worst-lines-requires-3 : tie.Need-worst_lines-three-requires
 worst-lines-requires-3 c κs = search rules
 
-worst-lines-requires-4 : tie.Need-worst-lines-requires-4
+worst-lines-requires-4 : tie.Need-worst_lines-four-requires
 worst-lines-requires-4 c κs = search rules
 
 judged-requires : tie.Need-judged-requires
@@ -25,29 +25,17 @@ judged-requires c κs = search rules
 returns : tie.Need-returns
 returns c =
     let j = c.judged.ensures in
-    let at_four = c.before in
-    let at_three = at_four.before in
-    let at_two = at_three.before in
-    let at_one = at_two.before in
-    let base = at_one.before.args.base in
-    let loads = at_one.before.args.loads in
+    let base = c.args.base in
+    let loads = c.args.loads in
     record {
-      one = subst (λ (l : Lines). LinesAre I base loads l) (sym j.one) at_one.worst-lines.ensures;
-      two = subst (λ (l : Lines). LinesAre II base loads l) (sym j.two) at_two.worst-lines2.ensures;
-      three = subst (λ (l : Lines). LinesAre III base loads l) (sym j.three) at_three.worst-lines3.ensures;
-      four = subst (λ (l : Lines). LinesAre IV base loads l) (sym j.four) at_four.worst-lines4.ensures;
+      one = subst (λ (l : Lines). LinesAre I base loads l) (sym j.one) c.worst_lines-one.ensures;
+      two = subst (λ (l : Lines). LinesAre II base loads l) (sym j.two) c.worst_lines-two.ensures;
+      three = subst (λ (l : Lines). LinesAre III base loads l) (sym j.three) c.worst_lines-three.ensures;
+      four = subst (λ (l : Lines). LinesAre IV base loads l) (sym j.four) c.worst_lines-four.ensures;
       depth = j.depth;
       clear = j.clear;
       verdict = j.verdict;
     }
 
 pub whole_spec : {M : Type 1} → statement M
-whole_spec =
-    tie.close
-    (tie.spec
-    worst-lines-requires
-    worst-lines-requires-2
-    worst-lines-requires-3
-    worst-lines-requires-4
-    judged-requires
-    returns)
+whole_spec = tie.close (tie.spec worst-lines-requires worst-lines-requires-2 worst-lines-requires-3 worst-lines-requires-4 judged-requires returns)

@@ -19,24 +19,23 @@ given : {a : ClearanceAnswer} (there : Amount) (needed : ℕ) (exact : Bool) →
 given there needed exact e =
     subst⁻¹ (λ (a : ClearanceAnswer). ClearGiven a (Line (Shown there needed (not there.minus && leb needed there.size) exact))) e (refl, refl, at_least_decides there needed, refl)
 
-enum_told : tie.Need-enum-told
+enum_told : tie.Need-enum_told-1
 enum_told c = search rules
 
-enum-told-2 : tie.Need-enum-told-2
+enum-told-2 : tie.Need-enum_told-in-OverObstructed
 enum-told-2 c = search rules
 
-enum-known-answer : tie.Need-enum-known-answer
+enum-known-answer : tie.Need-enum_known-answer
 enum-known-answer c = search rules
 
-returns : tie.Need-returns
-returns c = subst⁻¹ (λ (a : ClearanceAnswer). ClearGiven a _) c.enum_told.given.1 refl
+returns : tie.Need-returns-in-OutOfRange
+returns c = subst⁻¹ (λ (a : ClearanceAnswer). ClearGiven a _) c.in-OutOfRange.is refl
 
-returns-2 : tie.Need-returns-2
-returns-2 c = subst⁻¹ (λ (a : ClearanceAnswer). ClearGiven a _) c.enum-told2.given.1 refl
+returns-2 : tie.Need-returns-in-OverObstructed
+returns-2 c = subst⁻¹ (λ (a : ClearanceAnswer). ClearGiven a _) c.in-OverObstructed.is refl
 
-returns-3 : tie.Need-returns-3
-returns-3 c = let answer = c.before.before.before.answer in given answer.given.0.0 answer.given.0.1.0 answer.given.0.1.1.0 answer.given.1
+returns-3 : tie.Need-returns-in-Given
+returns-3 c = given c.in-Given.clearance c.in-Given.needed c.in-Given.exact c.in-Given.is
 
 pub clear_of_spec : {M : Type 1} → statement M
-clear_of_spec =
-    tie.close (tie.spec enum_told enum-told-2 enum-known-answer returns returns-2 returns-3)
+clear_of_spec = tie.close (tie.spec enum_told enum-told-2 enum-known-answer returns returns-2 returns-3)

@@ -7,48 +7,36 @@ use Rattle.scour.specs.ScourRow.{scour_told}
 use Rattle.answer.proofs.river.depth_of.Statement.{statement}
 use Rattle.answer.proofs.river.depth_of.Tie as tie
 
-enum_told : tie.Need-enum-told
+enum_told : tie.Need-enum_told-1
 enum_told c = search rules
 
-enum-told-2 : tie.Need-enum-told-2
+enum-told-2 : tie.Need-enum_told-in-LargeCatchment
 enum-told-2 c = search rules
 
-enum-told-3 : tie.Need-enum-told-3
+enum-told-3 : tie.Need-enum_told-in-TooIntense
 enum-told-3 c = search rules
 
-enum-known-answer : tie.Need-enum-known-answer
+enum-known-answer : tie.Need-enum_known-answer
 enum-known-answer c = search rules
 
-returns : tie.Need-returns
-returns c = (_, _, ap scour_told c.before.before.answer.given.1, c.if1.true)
+returns : tie.Need-returns-then-rock
+returns c = (_, _, ap scour_told c.in-Needed.is, c.if-rock.true)
 
-returns-2 : tie.Need-returns-2
+returns-2 : tie.Need-returns-in-OutOfRange
 returns-2 c = search rules
 
-returns-3 : tie.Need-returns-3
+returns-3 : tie.Need-returns-in-LargeCatchment
 returns-3 c = search rules
 
-returns-4 : tie.Need-returns-4
+returns-4 : tie.Need-returns-in-TooIntense
 returns-4 c = search rules
 
-returns-5 : tie.Need-returns-5
+returns-5 : tie.Need-returns-else-rock
 unfolding amount
 returns-5 c =
-    let told = c.before.before.before.answer.given in
-    let needed = told.0.0 in
-    let found = c.before.before.before.before.before.args.found in
-    (needed.value, needed.exact, ap scour_told told.1, (c.before.if1.false, refl, refl, decides_at_most needed.value found, refl))
+    let needed = c.in-Needed.needed in
+    let found = c.args.found in
+    (needed.value, needed.exact, ap scour_told c.in-Needed.is, (c.if-rock.false, refl, refl, decides_at_most needed.value found, refl))
 
 pub depth_of_spec : {M : Type 1} → statement M
-depth_of_spec =
-    tie.close
-    (tie.spec
-    enum_told
-    enum-told-2
-    enum-told-3
-    enum-known-answer
-    returns
-    returns-2
-    returns-3
-    returns-4
-    returns-5)
+depth_of_spec = tie.close (tie.spec enum_told enum-told-2 enum-told-3 enum-known-answer returns returns-2 returns-3 returns-4 returns-5)
