@@ -28,87 +28,73 @@ value true s n w h = w
 value false s n w h = absurd (w.0 h)
 
 -- where all is asked
-module _ (c : tie.After-struct-known2) where
+module _ (c : tie.After-struct_known-2-1) where
   abbrev start : tie.Start
-  start = c.before.before.before.before.before.before.before.before.before.before.before.before.before
+  start = c.before.before.before.before.before.before.before.before.before.before.before
 
   abbrev of : Kind
-  of = c.before.before.before.before.before.before.of.given.0.0
+  of = c.in-Known.of
 
   abbrev good : Bool
-  good = c.before.before.before.before.name_of.result.good
+  good = c.name_of-member_read.result.good
 
   abbrev good2 : Bool
-  good2 = c.before.before.before.name-of2.result.good
+  good2 = c.name_of-job_read.result.good
 
   lettered : start.args.kind.now ≡ letters of
-  lettered = subst (KindIs _) c.before.before.before.before.before.before.of.given.1 c.before.before.before.before.before.before.before.before.kind-of.ensures
+  lettered = subst (KindIs _) c.in-Known.is c.kind_of.ensures
 
-  all : Decides ((c.before.before.is-taken.result && good) && good2) ((Taken of × IsName start.args.member.now) × IsName start.args.job.now)
+  all : Decides ((c.is_taken.result && good) && good2) ((Taken of × IsName start.args.member.now) × IsName start.args.job.now)
   all =
-      decides_both (Taken of × IsName start.args.member.now) (IsName start.args.job.now) (c.before.before.is-taken.result && good) good2
-      (decides_both (Taken of) (IsName start.args.member.now) c.before.before.is-taken.result good c.before.before.is-taken.ensures
-      (named good _ _ c.before.before.before.before.name_of.ensures))
-      (named good2 _ _ c.before.before.before.name-of2.ensures)
+      decides_both (Taken of × IsName start.args.member.now) (IsName start.args.job.now) (c.is_taken.result && good) good2
+      (decides_both (Taken of) (IsName start.args.member.now) c.is_taken.result good c.is_taken.ensures
+      (named good _ _ c.name_of-member_read.ensures))
+      (named good2 _ _ c.name_of-job_read.ensures)
 
   in_phase : start.args.phase ≤ 2
-  in_phase = let t = c.before.before.before.before.before.before.before.before.before.if1.false in omega arith
+  in_phase = let t = c.if-phase-gt2.false in omega arith
 
-kind-of-requires : tie.Need-kind-of-requires
+kind-of-requires : tie.Need-kind_of-requires
 kind-of-requires c κs = search rules
 
-enum-known-of : tie.Need-enum-known-of
+enum-known-of : tie.Need-enum_known-of
 enum-known-of c = search rules
 
-enum_told : tie.Need-enum-told
+enum_told : tie.Need-enum_told-1
 enum_told c = search rules
 
-returns : tie.Need-returns
-returns c = λ key of a. let p = a.phased in let t = c.if1.true in omega arith
+returns : tie.Need-returns-then-phase-gt2
+returns c = λ key of a. let p = a.phased in let t = c.if-phase-gt2.true in omega arith
 
-returns-2 : tie.Need-returns-2
-returns-2 c = λ key of a. subst (KindIs _) c.enum_told.given.1 c.before.before.kind-of.ensures of a.lettered
+returns-2 : tie.Need-returns-in_default
+returns-2 c = λ key of a. subst (KindIs _) c.in_default.is c.kind_of.ensures of a.lettered
 
-name-of-requires : tie.Need-name-of-requires
+name-of-requires : tie.Need-name_of-member_read-requires
 name-of-requires c κs = search rules
 
-name-of-requires-2 : tie.Need-name-of-requires-2
+name-of-requires-2 : tie.Need-name_of-job_read-requires
 name-of-requires-2 c κs = search rules
 
-is-taken-requires : tie.Need-is-taken-requires
+is-taken-requires : tie.Need-is_taken-requires
 is-taken-requires c κs = search rules
 
-returns-3 : tie.Need-returns-3
+returns-3 : tie.Need-returns-then-is_taken-member_read
 returns-3 c =
-    let at = c.before in
-    let t = decided _ c.if2.true (all at) in (
-      record { member = at.before.before.before.before.name_of.result.name; job = at.before.before.before.name-of2.result.name },
+    let t = decided _ c.if-is_taken-member_read.true (all c.before) in (
+      record { member = c.name_of-member_read.result.name; job = c.name_of-job_read.result.name },
       record {
-        member_named = value (good at) _ _ at.before.before.before.before.name_of.ensures t.0.1;
-        job_named = value (good2 at) _ _ at.before.before.before.name-of2.ensures t.1;
-        lettered = lettered at;
+        member_named = value (good c.before) _ _ c.name_of-member_read.ensures t.0.1;
+        job_named = value (good2 c.before) _ _ c.name_of-job_read.ensures t.1;
+        lettered = lettered c.before;
         taken = t.0.0;
-        phased = in_phase at;
+        phased = in_phase c.before;
       },
     )
 
-returns-4 : tie.Need-returns-4
+returns-4 : tie.Need-returns
 returns-4 c = λ key of' a.
-    let at = c.before in
-    let same : of' ≡ of at = letters_one of' (of at) (sym a.lettered ∙ lettered at) in
-    refuted _ c.if2.false (all at) ((subst Taken same a.taken, a.member_named.is), a.job_named.is)
+    let same : of' ≡ of c.before = letters_one of' (of c.before) (sym a.lettered ∙ lettered c.before) in
+    refuted _ c.if-is_taken-member_read.false (all c.before) ((subst Taken same a.taken, a.member_named.is), a.job_named.is)
 
 pub asked_kind_spec : {M : Type 1} → statement M
-asked_kind_spec =
-    tie.close
-    (tie.spec
-    returns
-    kind-of-requires
-    enum-known-of
-    enum_told
-    returns-2
-    name-of-requires
-    name-of-requires-2
-    is-taken-requires
-    returns-3
-    returns-4)
+asked_kind_spec = tie.close (tie.spec returns kind-of-requires enum-known-of enum_told returns-2 name-of-requires name-of-requires-2 is-taken-requires returns-3 returns-4)

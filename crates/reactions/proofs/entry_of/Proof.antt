@@ -29,41 +29,32 @@ amount_size (pos n) = refl
 amount_size (negsuc n) = refl
 
 -- the nearest whole number, where it has room
-told : (c : tie.After-amount) → NearestIs c.before.before.before.args.x (Is c.amount.given.0.0 c.amount.given.0.1.0)
-told c = subst (NearestIs _) c.amount.given.1 c.before.before.nearest.ensures
+told : (c : tie.In-Is) → NearestIs c.args.x (Is c.in-Is.amount c.in-Is.exact)
+told c = subst (NearestIs _) c.in-Is.is c.nearest.ensures
 
-fits : (c : tie.After-amount) → c.amount.given.0.0.size < 2 ^ 32
-fits c = let t = told c in let e : c.amount.given.0.0.size ≡ nat_abs t.0 = ap (λ (a : Amount). a.size) t.2 ∙ amount_size t.0 in omega (arith, t.3)
+fits : (c : tie.In-Is) → c.in-Is.amount.size < 2 ^ 32
+fits c = let t = told c in let e : c.in-Is.amount.size ≡ nat_abs t.0 = ap (λ (a : Amount). a.size) t.2 ∙ amount_size t.0 in omega (arith, t.3)
 
 nearest-requires : tie.Need-nearest-requires
 nearest-requires c κs = search rules
 
-enum-known-amount : tie.Need-enum-known-amount
+enum-known-amount : tie.Need-enum_known-amount
 enum-known-amount c = search rules
 
-cast-t5 : tie.Need-overflow-cast-t5
-cast-t5 c = let h = fits c.before.before in search rules
+cast-t5 : tie.Need-overflow_cast-result
+cast-t5 c = let h = fits c.before in search rules
 
-enum_told : tie.Need-enum-told
+enum_told : tie.Need-enum_told-1
 enum_told c = search rules
 
-blank-entry-requires : tie.Need-blank-entry-requires
+blank-entry-requires : tie.Need-blank_entry-requires
 blank-entry-requires c κs = search rules
 
-returns : tie.Need-returns
-returns c = let t = told c.before.before in inl (t.0, t.1.rounded, ap held t.2 ∙ held_entry t.0)
+returns : tie.Need-returns-in-Is
+returns c = let t = told c.before in inl (t.0, t.1.rounded, ap held t.2 ∙ held_entry t.0)
 
-returns-2 : tie.Need-returns-2
-returns-2 c = inr (c.blank-entry.ensures, subst (NearestIs _) c.before.enum_told.given.1 c.before.before.before.nearest.ensures)
+returns-2 : tie.Need-returns-in-Beyond
+returns-2 c = inr (c.blank_entry.ensures, subst (NearestIs _) c.in-Beyond.is c.nearest.ensures)
 
 pub entry_of_spec : {M : Type 1} → statement M
-entry_of_spec =
-    tie.close
-    (tie.spec
-    nearest-requires
-    enum-known-amount
-    cast-t5
-    enum_told
-    blank-entry-requires
-    returns
-    returns-2)
+entry_of_spec = tie.close (tie.spec nearest-requires enum-known-amount cast-t5 enum_told blank-entry-requires returns returns-2)

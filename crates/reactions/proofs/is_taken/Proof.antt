@@ -63,11 +63,11 @@ decides SF = sf
 answered : (b : Bool) (k : Kind) → b ≡ takes k → Decides b (Taken k)
 answered b k e = subst (λ (t : Bool). Decides t (Taken k)) (sym e) (decides k)
 
-returns : tie.Need-returns
-returns c = answered true c.before.args.kind (kind_arm takes true (DL ∷ EP ∷ LL ∷ WC ∷ BU ∷ TM ∷ EX ∷ WL ∷ SF ∷ []) c.before.args.kind refl c.match.keys1)
+returns : tie.Need-returns-in-DL
+returns c = answered true c.args.kind (kind_arm takes true (DL ∷ EP ∷ LL ∷ WC ∷ BU ∷ TM ∷ EX ∷ WL ∷ SF ∷ []) c.args.kind refl c.in-DL.in-DL-own.keys1)
 
-returns-2 : tie.Need-returns-2
-returns-2 c = answered false c.before.args.kind (kind_arm takes false (B ∷ S ∷ C ∷ E ∷ W ∷ G ∷ LF ∷ CF ∷ []) c.before.args.kind refl c.match.keys2)
+returns-2 : tie.Need-returns-in-B
+returns-2 c = answered false c.args.kind (kind_arm takes false (B ∷ S ∷ C ∷ E ∷ W ∷ G ∷ LF ∷ CF ∷ []) c.args.kind refl c.in-B.in-B-own.keys2)
 
 pub is_taken_spec : {M : Type 1} → statement M
 is_taken_spec = tie.close (tie.spec returns returns-2)

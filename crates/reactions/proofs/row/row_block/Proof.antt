@@ -30,87 +30,57 @@ joined : (member job kind : List ℕ) (n : Numbers) (r : Block) → r ≡ puts b
 unfolding row_text fields_text
 joined member job kind n r e = let text : row_text member job kind n ≡ parts member job kind n = simp append_assoc in rw text (e ∙ puts_blank _)
 
-put-requires : tie.Need-put-requires
+put-requires : tie.Need-put-end-requires
 put-requires c κs = search rules
 
-push-requires : tie.Need-push-requires
+push-requires : tie.Need-push-end-requires
 push-requires c κs = search rules
 
-put-requires-2 : tie.Need-put-requires-2
+put-requires-2 : tie.Need-put-end-requires-2
 put-requires-2 c κs = search rules
 
-push-requires-2 : tie.Need-push-requires-2
+push-requires-2 : tie.Need-push-end-requires-2
 push-requires-2 c κs = search rules
 
-put-requires-3 : tie.Need-put-requires-3
+put-requires-3 : tie.Need-put-end-requires-3
 put-requires-3 c κs = search rules
 
-put-entry-requires : tie.Need-put-entry-requires
+put-entry-requires : tie.Need-put_entry-end-requires
 put-entry-requires c κs = search rules
 
-put-entry-requires-2 : tie.Need-put-entry-requires-2
+put-entry-requires-2 : tie.Need-put_entry-end-requires-2
 put-entry-requires-2 c κs = search rules
 
-put-entry-requires-3 : tie.Need-put-entry-requires-3
+put-entry-requires-3 : tie.Need-put_entry-end-requires-3
 put-entry-requires-3 c κs = search rules
 
-put-entry-requires-4 : tie.Need-put-entry-requires-4
+put-entry-requires-4 : tie.Need-put_entry-end-requires-4
 put-entry-requires-4 c κs = search rules
 
-put-entry-requires-5 : tie.Need-put-entry-requires-5
+put-entry-requires-5 : tie.Need-put_entry-end-requires-5
 put-entry-requires-5 c κs = search rules
 
-put-entry-requires-6 : tie.Need-put-entry-requires-6
+put-entry-requires-6 : tie.Need-put_entry-end-requires-6
 put-entry-requires-6 c κs = search rules
 
-slice-aggregate-put : tie.Need-slice-aggregate-put
-slice-aggregate-put c = search rules
-
-put-requires-4 : tie.Need-put-requires-4
+put-requires-4 : tie.Need-put-len-requires
 put-requires-4 c κs = search rules
 
 returns : tie.Need-returns
 unfolding blank
 returns c =
-    let sixth = c.before.before.before in
-    let fifth = sixth.before.before in
-    let fourth = fifth.before.before in
-    let third = fourth.before.before in
-    let second = third.before.before in
-    let first = second.before.before in
-    let kind = first.before.before in
-    let comma = kind.before.before in
-    let job = comma.before.before in
-    let push = job.before.before in
-    let member = push.before.before in
     joined _ _ _ _ _
-    (then blank _ _ _ _ member.put.ensures
-    (then _ _ _ _ _ push.push.ensures
-    (then _ _ _ _ _ job.put2.ensures
-    (then _ _ _ _ _ comma.push2.ensures
-    (then _ _ _ _ _ kind.put3.ensures
-    (then _ _ _ _ _ first.put-entry.ensures
-    (then _ _ _ _ _ second.put-entry2.ensures
-    (then _ _ _ _ _ third.put-entry3.ensures
-    (then _ _ _ _ _ fourth.put-entry4.ensures
-    (then _ _ _ _ _ fifth.put-entry5.ensures
-    (then _ _ _ _ _ sixth.put-entry6.ensures c.put4.ensures)))))))))))
+    (then blank _ _ _ _ c.put-end.ensures
+    (then _ _ _ _ _ c.push-end.ensures
+    (then _ _ _ _ _ c.put-end-2.ensures
+    (then _ _ _ _ _ c.push-end-2.ensures
+    (then _ _ _ _ _ c.put-end-3.ensures
+    (then _ _ _ _ _ c.put_entry-end.ensures
+    (then _ _ _ _ _ c.put_entry-end-2.ensures
+    (then _ _ _ _ _ c.put_entry-end-3.ensures
+    (then _ _ _ _ _ c.put_entry-end-4.ensures
+    (then _ _ _ _ _ c.put_entry-end-5.ensures
+    (then _ _ _ _ _ c.put_entry-end-6.ensures c.put-len.ensures)))))))))))
 
 pub row_block_spec : {M : Type 1} → statement M
-row_block_spec =
-    tie.close
-    (tie.spec
-    put-requires
-    push-requires
-    put-requires-2
-    push-requires-2
-    put-requires-3
-    put-entry-requires
-    put-entry-requires-2
-    put-entry-requires-3
-    put-entry-requires-4
-    put-entry-requires-5
-    put-entry-requires-6
-    slice-aggregate-put
-    put-requires-4
-    returns)
+row_block_spec = tie.close (tie.spec put-requires push-requires put-requires-2 push-requires-2 put-requires-3 put-entry-requires put-entry-requires-2 put-entry-requires-3 put-entry-requires-4 put-entry-requires-5 put-entry-requires-6 put-requires-4 returns)

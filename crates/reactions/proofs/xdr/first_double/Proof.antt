@@ -7,18 +7,17 @@ use borrow.Author.Rules.{rules}
 use Rattle.reactions.proofs.xdr.first_double.Statement.{statement}
 use Rattle.reactions.proofs.xdr.first_double.Tie as tie
 
-first-number-requires : tie.Need-first-number-requires
+first-number-requires : tie.Need-first_number-requires
 first-number-requires c κs = search rules
 
-of-bits-requires : tie.Need-of-bits-requires
+of-bits-requires : tie.Need-of_bits-requires
 of-bits-requires c κs = search rules
 
 returns : tie.Need-returns
 returns c =
-    let start = c.before.before.before in
     record {
-      eight = rw length-take (omega (arith, start.requires));
-      is = c.of-bits.ensures ∙ ap (of_bits binary64) c.before.first-number.ensures;
+      eight = rw length-take (omega (arith, c.requires));
+      is = c.of_bits.ensures ∙ ap (of_bits binary64) c.first_number.ensures;
     }
 
 pub first_double_spec : {M : Type 1} → statement M
