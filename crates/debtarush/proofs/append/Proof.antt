@@ -16,59 +16,41 @@ whole c = search rules
 room : (c : tie.Start) → c.args.at + length (text_held c.args.block) ≤ length c.args.out.now
 room c = let few = held_few c.args.block (whole c) in let free = c.requires in omega arith
 
-sub-write-block : tie.Need-overflow-sub-write-block
+sub-write-block : tie.Need-slice_bounds-write_block-count
 sub-write-block c = search rules
 
-part-write-block-start : tie.Need-slice-bounds-write-block-start
+part-write-block-start : tie.Need-slice_bounds-write_block-start
 part-write-block-start c = search rules
 
-part-write-block-end : tie.Need-slice-bounds-write-block-end
+part-write-block-end : tie.Need-slice_bounds-write_block-end
 part-write-block-end c = search rules
 
-write-block-requires : tie.Need-write-block-requires
+write-block-requires : tie.Need-write_block-requires
 write-block-requires c κs = search rules
 
-enum-known-len : tie.Need-enum-known-len
+enum-known-len : tie.Need-enum_known-len
 enum-known-len c = search rules
 
-add-result : tie.Need-overflow-add-result
+add-result : tie.Need-overflow_add-result
 add-result c =
-    let out = c.before.before.before.before.before in
-    let start = out.before.before.before in
-    omega (arith, ends_within _ _ start.args.out.now _ (room start) c.before.len.given.1 out.write-block.ensures)
+    omega (arith, ends_within _ _ c.args.out.now _ (room c.before.before.before.before.before.before) c.in-Length.is c.write_block.ensures)
 
-enum_told : tie.Need-enum-told
+enum_told : tie.Need-enum_told-1
 enum_told c = search rules
 
-same_length : tie.Need-same-length
+same_length : tie.Need-shape_of-out-in-Length
 same_length c = search rules
 
-returns : tie.Need-returns
+returns : tie.Need-returns-in-Length
 returns c =
-    let out = c.before.before.before.before.before in
-    appended _ _ _ _ c.before.len.given.1 out.write-block.ensures
+    appended _ _ _ _ c.in-Length.is c.write_block.ensures
 
-same-length-2 : tie.Need-same-length-2
+same-length-2 : tie.Need-shape_of-out-in-TooShort
 same-length-2 c = search rules
 
-returns-2 : tie.Need-returns-2
+returns-2 : tie.Need-returns-in-TooShort
 returns-2 c =
-    let out = c.before.before.before.before in
-    let start = out.before.before.before in
-    absurd (no_room _ _ start.args.out.now _ (room start) c.enum_told.given.1 out.write-block.ensures)
+    absurd (no_room _ _ c.args.out.now _ (room c.before.before.before.before.before.before) c.in-TooShort.is c.write_block.ensures)
 
 pub append_spec : {M : Type 1} → statement M
-append_spec =
-    tie.close
-    (tie.spec
-    sub-write-block
-    part-write-block-start
-    part-write-block-end
-    write-block-requires
-    enum-known-len
-    add-result
-    enum_told
-    same_length
-    returns
-    same-length-2
-    returns-2)
+append_spec = tie.close (tie.spec sub-write-block part-write-block-start part-write-block-end write-block-requires enum-known-len add-result enum_told same_length returns same-length-2 returns-2)

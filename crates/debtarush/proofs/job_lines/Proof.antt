@@ -19,9 +19,9 @@ use Rattle.debtarush.proofs.job_lines.Statement.{statement}
 use Rattle.debtarush.proofs.job_lines.Tie as tie
 
 -- the jobs of a book that is given
-module _ (c : tie.After-known-told2) where
-  abbrev read : tie.After-read-book
-  read = c.before.before.before
+module _ (c : tie.In-Given) where
+  abbrev read : tie.After-read_book-read
+  read = c.before
 
   abbrev start : tie.Start
   start = read.before.before.before.before.before
@@ -30,14 +30,14 @@ module _ (c : tie.After-known-told2) where
   place = start.args.place
 
   abbrev many : ℕ
-  many = c.before.count2.given.0.0
+  many = c.in-Given.n
 
-  jobs : Held start.args.book.now many read.read-book.result.jobs
-  jobs = held read.read-book.ensures c.before.count2.given.1
+  jobs : Held start.args.book.now many read.read_book-read.result.jobs
+  jobs = held read.read_book-read.ensures c.in-Given.is
 
 -- what the fill books hold for them
 module _ (c : tie.After-gather) where
-  abbrev given : tie.After-known-told2
+  abbrev given : tie.In-Given
   given = c.before.before.before
 
   abbrev own : List ℕ
@@ -47,122 +47,93 @@ module _ (c : tie.After-gather) where
   common = (start given).args.common.now
 
   not_filled : c.gather.result ≡ false → Accepted own common → ⊥
-  not_filled e = subst (λ (r : Bool). FillsGiven r own common (read given).read-book.result.jobs (many given) c.gather.new.1.1.1.1.0) e c.gather.ensures
+  not_filled e = subst (λ (r : Bool). FillsGiven r own common (read given).read_book-read.result.jobs (many given) c.gather.new.values) e c.gather.ensures
 
-  filled : c.gather.result ≡ true → Tabled own common (read given).read-book.result.jobs (many given) c.gather.new.1.1.1.1.0
-  filled e = subst (λ (r : Bool). FillsGiven r own common (read given).read-book.result.jobs (many given) c.gather.new.1.1.1.1.0) e c.gather.ensures
+  filled : c.gather.result ≡ true → Tabled own common (read given).read_book-read.result.jobs (many given) c.gather.new.values
+  filled e = subst (λ (r : Bool). FillsGiven r own common (read given).read_book-read.result.jobs (many given) c.gather.new.values) e c.gather.ensures
 
-accepted : (c : tie.Else1) → Tabled (own c.before) (common c.before) (read (given c.before)).read-book.result.jobs (many (given c.before)) c.before.gather.new.1.1.1.1.0
-accepted c = filled c.before (not-false c.before.gather.result c.if1.false)
+accepted : (c : tie.Else-not-gather) → Tabled (own c.before) (common c.before) (read (given c.before)).read_book-read.result.jobs (many (given c.before)) c.gather.new.values
+accepted c = filled c.before c.if-not-gather.false
 
 -- a place that has a job
-there : (c : tie.Else3) → (1 ≤ place (given c.before.before.before)) × (place (given c.before.before.before) ≤ many (given c.before.before.before))
+there : (c : tie.Else-n-place) → (1 ≤ place (given c.before.before.before)) × (place (given c.before.before.before) ≤ many (given c.before.before.before))
 there c =
-    let some = c.before.if2.false in
-    let few = c.if3.false in
+    let some = c.if-place-eq0.false in
+    let few = c.if-n-place.false in
     (omega (arith, some), omega (arith, few))
 
-read-book-requires : tie.Need-read-book-requires
+read-book-requires : tie.Need-read_book-read-requires
 read-book-requires c κs = search rules
 
-enum-known-count : tie.Need-enum-known-count
+enum-known-count : tie.Need-enum_known-count
 enum-known-count c = search rules
 
-enum-known-count-2 : tie.Need-enum-known-count-2
+enum-known-count-2 : tie.Need-enum_known-count-in-Given-1
 enum-known-count-2 c = search rules
 
 gather-requires : tie.Need-gather-requires
 gather-requires c κs = ((jobs c.before.before).few, search rules)
 
-returns : tie.Need-returns
-returns c = no_fills (jobs (given c.before)).book (not_filled c.before (not-true c.before.gather.result c.if1.true)) refl refl
+returns : tie.Need-returns-then-not-gather
+returns c = no_fills (jobs (given c.before)).book (not_filled c.before c.if-not-gather.true) refl refl
 
-returns-2 : tie.Need-returns-2
-returns-2 c = let h = jobs (given c.before.before) in no_place h.book (accepted c.before).accepted (no_job_at h _ (inl c.if2.true)) refl refl
+returns-2 : tie.Need-returns-then-place-eq0
+returns-2 c = let h = jobs (given c.before.before) in no_place h.book (accepted c.before).accepted (no_job_at h _ (inl c.if-place-eq0.true)) refl refl
 
-returns-3 : tie.Need-returns-3
-returns-3 c = let h = jobs (given c.before.before.before) in no_place h.book (accepted c.before.before).accepted (no_job_at h _ (inr c.if3.true)) refl refl
+returns-3 : tie.Need-returns-then-n-place
+returns-3 c = let h = jobs (given c.before.before.before) in no_place h.book (accepted c.before.before).accepted (no_job_at h _ (inr c.if-n-place.true)) refl refl
 
-sub_at : tie.Need-overflow-sub-at
+sub_at : tie.Need-overflow_sub-at
 sub_at c = let p = there c in omega arith
 
-mul-job : tie.Need-overflow-mul-job
+mul-job : tie.Need-offset_bounds-read-at
 mul-job c = let p = there c in omega (arith, (jobs (given c.before.before.before)).few)
 
-element-copy-out-job : tie.Need-element-copy-out-job
+element-copy-out-job : tie.Need-bounds-read-at
 element-copy-out-job c = let p = there c in omega (arith, (jobs (given c.before.before.before)).few)
 
-mul-held : tie.Need-overflow-mul-held
+mul-held : tie.Need-offset_bounds-values-at
 mul-held c = let p = there c.before in omega (arith, (jobs (given c.before.before.before.before)).few)
 
-array-copy-out-held : tie.Need-array-copy-out-held
+array-copy-out-held : tie.Need-bounds-values-at
 array-copy-out-held c = let p = there c.before in omega (arith, (jobs (given c.before.before.before.before)).few)
 
-lines-of-requires : tie.Need-lines-of-requires
+lines-of-requires : tie.Need-lines_of-requires
 lines-of-requires c κs = search rules
 
-write-block-requires : tie.Need-write-block-requires
+write-block-requires : tie.Need-write_block-requires
 write-block-requires c κs = search rules
 
-enum-known-len : tie.Need-enum-known-len
+enum-known-len : tie.Need-enum_known-len
 enum-known-len c = search rules
 
-enum_told : tie.Need-enum-told
+enum_told : tie.Need-enum_told-1
 enum_told c = search rules
 
-returns-4 : tie.Need-returns-4
-returns-4 c = no_book (refusal c.before.before.before.read-book.ensures c.before.count.given.1) refl refl
+returns-4 : tie.Need-returns-in-Refused
+returns-4 c = no_book (refusal c.read_book-read.ensures c.in-Refused.is) refl refl
 
-same_length : tie.Need-same-length
+same_length : tie.Need-shape_of-out-in-Length
 same_length c = search rules
 
-returns-5 : tie.Need-returns-5
+returns-5 : tie.Need-returns-in-Length
 unfolding buffer.copy_told
 returns-5 c =
-    let out = c.before.before.before.before.before in
-    let lines = out.before.before in
-    let test = lines.before.before.before in
-    let h = jobs (given test.before.before.before) in
-    let p = there test in
-    call_delivered h.book (job_at h _ _ p.0 p.1) (fills_at (accepted test.before.before) _ _ _ (omega arith) h.few (within h (omega arith))) lines.lines_of.ensures _ _ _
-    (sym (ap (λ (w : Copied). as_told (buffer.copy_told w)) c.before.len.given.1)) out.write-block.ensures
+    let h = jobs (given c.before.before.before.before.before.before.before.before.before.before.before) in
+    let p = there c.before.before.before.before.before.before.before.before in
+    call_delivered h.book (job_at h _ _ p.0 p.1) (fills_at (accepted c.before.before.before.before.before.before.before.before.before.before) _ _ _ (omega arith) h.few (within h (omega arith))) c.lines_of.ensures _ _ _
+    (sym (ap (λ (w : Copied). as_told (buffer.copy_told w)) c.in-Length.is)) c.write_block.ensures
 
-same-length-2 : tie.Need-same-length-2
+same-length-2 : tie.Need-shape_of-out-in-TooShort
 same-length-2 c = search rules
 
-returns-6 : tie.Need-returns-6
+returns-6 : tie.Need-returns-in-TooShort
 unfolding buffer.copy_told
 returns-6 c =
-    let out = c.before.before.before.before in
-    let lines = out.before.before in
-    let test = lines.before.before.before in
-    let h = jobs (given test.before.before.before) in
-    let p = there test in
-    call_delivered h.book (job_at h _ _ p.0 p.1) (fills_at (accepted test.before.before) _ _ _ (omega arith) h.few (within h (omega arith))) lines.lines_of.ensures _ _ _
-    (sym (ap (λ (w : Copied). as_told (buffer.copy_told w)) c.enum_told.given.1)) out.write-block.ensures
+    let h = jobs (given c.before.before.before.before.before.before.before.before.before.before.before) in
+    let p = there c.before.before.before.before.before.before.before.before in
+    call_delivered h.book (job_at h _ _ p.0 p.1) (fills_at (accepted c.before.before.before.before.before.before.before.before.before.before) _ _ _ (omega arith) h.few (within h (omega arith))) c.lines_of.ensures _ _ _
+    (sym (ap (λ (w : Copied). as_told (buffer.copy_told w)) c.in-TooShort.is)) c.write_block.ensures
 
 pub job_lines_spec : {M : Type 1} → statement M
-job_lines_spec =
-    tie.close
-    (tie.spec
-    read-book-requires
-    enum-known-count
-    enum-known-count-2
-    gather-requires
-    returns
-    returns-2
-    returns-3
-    sub_at
-    mul-job
-    element-copy-out-job
-    mul-held
-    array-copy-out-held
-    lines-of-requires
-    write-block-requires
-    enum-known-len
-    enum_told
-    returns-4
-    same_length
-    returns-5
-    same-length-2
-    returns-6)
+job_lines_spec = tie.close (tie.spec read-book-requires enum-known-count enum-known-count-2 gather-requires returns returns-2 returns-3 sub_at mul-job element-copy-out-job mul-held array-copy-out-held lines-of-requires write-block-requires enum-known-len enum_told returns-4 same_length returns-5 same-length-2 returns-6)

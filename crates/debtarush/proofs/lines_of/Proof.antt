@@ -6,21 +6,21 @@ use borrow.Author.Rules.{rules}
 use Rattle.debtarush.proofs.lines_of.Statement.{statement}
 use Rattle.debtarush.proofs.lines_of.Tie as tie
 
-answer-of-requires : tie.Need-answer-of-requires
+answer-of-requires : tie.Need-answer_of-answer-requires
 answer-of-requires c κs = search rules
 
-answer-text-requires : tie.Need-answer-text-requires
+answer-text-requires : tie.Need-answer_text-requires
 answer-text-requires c κs = search rules
 
 returns : tie.Need-returns
 unfolding text
 returns c =
-    let is = c.before.answer_of.ensures in
+    let is = c.answer_of-answer.ensures in
     record {
       bytes = _;
       lines = record { lines = _; is = record { answer = _; is = is; are = refl }; are = refl };
-      fits = c.answer-text.ensures.1 (numbered is);
-      held = c.answer-text.ensures.0;
+      fits = c.answer_text.ensures.1 (numbered is);
+      held = c.answer_text.ensures.0;
     }
 
 pub lines_of_spec : {M : Type 1} → statement M
