@@ -15,93 +15,73 @@ use Rattle.job_faults.proofs.Ordering.{number_one, number_from, past_range, lies
 use Rattle.job_faults.proofs.job_fault.Statement.{statement}
 use Rattle.job_faults.proofs.job_fault.Tie as tie
 
-abbrev invariant-loop : tie.invariant-loop
+abbrev invariant-loop : tie.invariant-loop-number
 invariant-loop held job number₀ number = (11 ≤ number) × (number ≤ 21) × ((r : Rule) → rule_number r < number → Unshown (fill_of held) job r)
 
-abbrev decreases-loop : tie.decreases-loop
+abbrev decreases-loop : tie.decreases-loop-number
 decreases-loop held job number₀ number = 21 - number
 
-loop-holds : tie.Need-loop-init invariant-loop decreases-loop
+loop-holds : tie.Need-loop-number-init invariant-loop decreases-loop
 loop-holds c = (omega arith, omega arith, λ r h. absurd (omega (arith, number_from r)))
 
-rule-of-requires : tie.Need-rule-of-requires invariant-loop decreases-loop
-rule-of-requires c κs = (omega (arith, c.before.loop.invariant.0), omega (arith, c.loop-test.true))
+rule-of-requires : tie.Need-rule_of-rule-requires invariant-loop decreases-loop
+rule-of-requires c κs = (omega (arith, c.loop-number.invariant.0), omega (arith, c.loop-number-test.true))
 
 -- the refusal that is asked, and those before it
-module _ (c : tie.After-rule-of invariant-loop decreases-loop) where
-  abbrev at : tie.At-loop invariant-loop decreases-loop
+module _ (c : tie.After-rule_of-rule invariant-loop decreases-loop) where
+  abbrev at : tie.At-loop-number invariant-loop decreases-loop
   at = c.before.before
 
   abbrev fill : ℕ → ℕ → Coefficient
-  fill = fill_of at.before.args.held
+  fill = fill_of at.args.held
 
   abbrev job : Job
-  job = at.before.args.job
+  job = at.args.job
 
   abbrev rule : Rule
-  rule = c.rule-of.result
+  rule = c.rule_of-rule.result
 
   before : (r : Rule) → rule_number r < rule_number rule → Unshown fill job r
-  before r h = at.loop.inv.2 r (omega (arith, c.rule-of.ensures))
+  before r h = at.loop-number.invariant.2 r (omega (arith, c.rule_of-rule.ensures))
 
-first-row-requires : tie.Need-first-row-requires invariant-loop decreases-loop
+first-row-requires : tie.Need-first_row-requires invariant-loop decreases-loop
 first-row-requires c κs = past_range (fill c) (job c) (rule c) (before c)
 
-enum-known-position : tie.Need-enum-known-position invariant-loop decreases-loop
+enum-known-position : tie.Need-enum_known-position invariant-loop decreases-loop
 enum-known-position c = search rules
 
-fault-at-requires : tie.Need-fault-at-requires invariant-loop decreases-loop
+fault-at-requires : tie.Need-fault_at-requires invariant-loop decreases-loop
 fault-at-requires c κs =
-    let found = c.before.before.before in
-    let asked = found.before in
-    let first = subst (FoundIs (fill asked) (job asked) (rule asked)) c.before.position.given.1 found.first_row.ensures in
-    (lies (fill asked) (job asked) (rule asked) _ _ first (before asked), past_range (fill asked) (job asked) (rule asked) (before asked))
+    let first = subst (FoundIs (fill c.before.before) (job c.before.before) (rule c.before.before)) c.in-At.is c.first_row.ensures in
+    (lies (fill c.before.before) (job c.before.before) (rule c.before.before) _ _ first (before c.before.before), past_range (fill c.before.before) (job c.before.before) (rule c.before.before) (before c.before.before))
 
-returns : tie.Need-returns invariant-loop decreases-loop
-returns c = c.fault-at.ensures
+returns : tie.Need-returns-in-At invariant-loop decreases-loop
+returns c = c.fault_at.ensures
 
-enum_told : tie.Need-enum-told invariant-loop decreases-loop
+enum_told : tie.Need-enum_told-1 invariant-loop decreases-loop
 enum_told c = search rules
 
-add-number : tie.Need-overflow-add-number invariant-loop decreases-loop
-add-number c = omega (arith, c.before.before.before.before.loop-test.true)
+add-number : tie.Need-overflow_add-number invariant-loop decreases-loop
+add-number c = omega (arith, c.loop-number-test.true)
 
-loop-less : tie.Need-loop-smaller invariant-loop decreases-loop
-loop-less c = omega (arith, c.before.before.before.before.loop-test.true)
+loop-less : tie.Need-loop-number-smaller invariant-loop decreases-loop
+loop-less c = omega (arith, c.loop-number-test.true)
 
-loop-again : tie.Need-loop-preserved invariant-loop decreases-loop
+loop-again : tie.Need-loop-number-preserved invariant-loop decreases-loop
 loop-again c =
-    let found = c.before.before in
-    let asked = found.before in
-    let inv = (at asked).loop.invariant in
-    let test = asked.before.loop-test.true in
-    let number = (at asked).loop.number in
-    let none : Unshown (fill asked) (job asked) (rule asked) = subst (FoundIs (fill asked) (job asked) (rule asked)) c.enum_told.given.1 found.first_row.ensures in (
+    let inv = (at c.before.before).loop-number.invariant in
+    let test = c.loop-number-test.true in
+    let number = (at c.before.before).loop-number.number in
+    let none : Unshown (fill c.before.before) (job c.before.before) (rule c.before.before) = subst (FoundIs (fill c.before.before) (job c.before.before) (rule c.before.before)) c.in-Nothing.is c.first_row.ensures in (
       omega (arith, inv.0),
       omega (arith, test),
       λ r h.
-          by_cases (dec_le number (rule_number r)) (λ k. subst⁻¹ (Unshown (fill asked) (job asked)) (number_one r (rule asked) (omega (arith, asked.rule-of.ensures))) none) (λ k. inv.2 r (omega arith)),
+          by_cases (dec_le number (rule_number r)) (λ k. subst⁻¹ (Unshown (fill c.before.before) (job c.before.before)) (number_one r (rule c.before.before) (omega (arith, c.rule_of-rule.ensures))) none) (λ k. inv.2 r (omega arith)),
     )
 
-returns-2 : tie.Need-returns-2 invariant-loop decreases-loop
+returns-2 : tie.Need-returns invariant-loop decreases-loop
 returns-2 c =
-    let at = c.before in
-    unrefused (fill_of at.before.args.held) at.before.args.job (λ r h. at.loop.invariant.2 r (omega (arith, c.loop-test.false)))
+    unrefused (fill_of c.args.held) c.args.job (λ r h. c.loop-number.invariant.2 r (omega (arith, c.loop-number-test.false)))
 
 pub job_fault_spec : {M : Type 1} → statement M
-job_fault_spec =
-    tie.close
-    (tie.spec
-    invariant-loop
-    decreases-loop
-    loop-holds
-    rule-of-requires
-    first-row-requires
-    enum-known-position
-    fault-at-requires
-    returns
-    enum_told
-    add-number
-    loop-less
-    loop-again
-    returns-2)
+job_fault_spec = tie.close (tie.spec invariant-loop decreases-loop loop-holds rule-of-requires first-row-requires enum-known-position fault-at-requires returns enum_told add-number loop-less loop-again returns-2)

@@ -16,75 +16,63 @@ use Rattle.job_faults.proofs.row_at.Statement.{statement}
 use Rattle.job_faults.proofs.row_at.Tie as tie
 
 whole : (c : tie.Start) → length c.args.job.loads ≡ 16
-whole c = sym (length-map c.args.job.loads _) ∙ c.well-formed.0.1.1.1.1.1.1.1.1.0.1.0.1
+whole c = c.well_formed.0.1.1.1.1.1.1.1.1.0.1.0.1
 
-ahead-of-requires : tie.Need-ahead-of-requires
+ahead-of-requires : tie.Need-ahead_of-ahead-requires
 ahead-of-requires c κs = search rules
 
-returns : tie.Need-returns
+returns : tie.Need-returns-then-place-lt1
 unfolding StandsAt
 returns c =
-    let e : c.before.before.before.args.place ≡ 0 = omega (arith, c.before.if1.true) in
+    let e : c.args.place ≡ 0 = omega (arith, c.if-place-lt1.true) in
     rw e refl
 
 -- a load row
-module _ (c : tie.After-loads) where
-  abbrev asked : tie.After-ahead-of
+module _ (c : tie.After-loads-1) where
+  abbrev asked : tie.After-ahead_of-ahead
   asked = c.before.before.before
 
   abbrev job : Job
-  job = asked.before.args.job
+  job = asked.args.job
 
   abbrev i : ℕ
-  i = asked.before.args.place - asked.ahead_of_lem.result
+  i = asked.args.place - asked.ahead_of-ahead.result
 
-  behind : asked.before.args.place ≡ ahead job.stage + i
-  behind = omega (arith, c.before.if2.true, asked.ahead_of_lem.ensures)
+  behind : asked.args.place ≡ ahead job.stage + i
+  behind = omega (arith, c.if-ahead-place.true, asked.ahead_of-ahead.ensures)
 
   there : i < length (load_rows_of job)
-  there = omega (arith, behind, asked.before.pre, rows_split job)
+  there = omega (arith, behind, asked.requires, rows_split job)
 
   few : i < 16
   few = omega (arith, there, first_few job.loads job.count, whole asked.before)
 
-mul-result : tie.Need-overflow-mul-result
+mul-result : tie.Need-offset_bounds-loads-place
 mul-result c = omega (arith, few c)
 
-array-copy-out-result : tie.Need-array-copy-out-result
+array-copy-out-result : tie.Need-bounds-loads-place
 array-copy-out-result c = few c
 
-returns-2 : tie.Need-returns-2
+returns-2 : tie.Need-returns-then-ahead-place
 returns-2 c =
-    let at = c.before in
-    let j = job at in
-    ahead_stands j.stage j.base j.scour j.clearance (load_rows_of j) (i at) (asked at).before.args.place _ (behind at) (stands_first j.loads j.count (i at) _ (there at))
+    let j = job c.before in
+    ahead_stands j.stage j.base j.scour j.clearance (load_rows_of j) (i c.before) (asked c.before).before.args.place _ (behind c.before) (stands_first j.loads j.count (i c.before) _ (there c.before))
 
-returns-3 : tie.Need-returns-3
+returns-3 : tie.Need-returns-then-place-lt2
 returns-3 c =
-    let asked = c.before.before.before.before in
-    let job = asked.before.args.job in
-    let place = asked.before.args.place in
-    let e : place ≡ 1 = omega (arith, c.before.before.before.if1.false, c.before.if3.true) in
-    let low : 1 < ahead job.stage = omega (arith, c.before.before.if2.false, asked.ahead_of_lem.ensures) in
+    let job = c.args.job in
+    let place = c.args.place in
+    let e : place ≡ 1 = omega (arith, c.if-place-lt1.false, c.if-place-lt2.true) in
+    let low : 1 < ahead job.stage = omega (arith, c.if-ahead-place.false, c.ahead_of-ahead.ensures) in
     subst⁻¹ (λ (k : ℕ). StandsAt (rows_in job) k (row_of S job.scour)) e (scour_stands job.stage job.base job.scour job.clearance (load_rows_of job) (scour_ahead job.stage low))
 
-returns-4 : tie.Need-returns-4
+returns-4 : tie.Need-returns
 returns-4 c =
-    let asked = c.before.before.before.before in
-    let job = asked.before.args.job in
-    let place = asked.before.args.place in
-    let low : 2 < ahead job.stage = omega (arith, c.before.before.if2.false, c.before.if3.false, asked.ahead_of_lem.ensures) in
-    let e : place ≡ 2 = omega (arith, c.before.if3.false, c.before.before.if2.false, asked.ahead_of_lem.ensures, ahead_low job.stage) in
+    let job = c.args.job in
+    let place = c.args.place in
+    let low : 2 < ahead job.stage = omega (arith, c.if-ahead-place.false, c.if-place-lt2.false, c.ahead_of-ahead.ensures) in
+    let e : place ≡ 2 = omega (arith, c.if-place-lt2.false, c.if-ahead-place.false, c.ahead_of-ahead.ensures, ahead_low job.stage) in
     subst⁻¹ (λ (k : ℕ). StandsAt (rows_in job) k (row_of C job.clearance)) e (clearance_stands job.stage job.base job.scour job.clearance (load_rows_of job) (clearance_ahead job.stage low))
 
 pub row_at_spec : {M : Type 1} → statement M
-row_at_spec =
-    tie.close
-    (tie.spec
-    ahead-of-requires
-    returns
-    mul-result
-    array-copy-out-result
-    returns-2
-    returns-3
-    returns-4)
+row_at_spec = tie.close (tie.spec ahead-of-requires returns mul-result array-copy-out-result returns-2 returns-3 returns-4)

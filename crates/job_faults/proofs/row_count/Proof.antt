@@ -9,27 +9,20 @@ use Rattle.job_faults.proofs.row_count.Statement.{statement}
 use Rattle.job_faults.proofs.row_count.Tie as tie
 
 whole : (c : tie.Start) → length c.args.job.loads ≡ 16
-whole c = sym (length-map c.args.job.loads _) ∙ c.well-formed.0.1.1.1.1.1.1.1.1.0.1.0.1
+whole c = c.well_formed.0.1.1.1.1.1.1.1.1.0.1.0.1
 
-ahead-of-requires : tie.Need-ahead-of-requires
+ahead-of-requires : tie.Need-ahead_of-ahead-requires
 ahead-of-requires c κs = search rules
 
-row-count-requires : tie.Need-row-count-requires
+row-count-requires : tie.Need-row_count-requires
 row-count-requires c κs = search rules
 
-add-result : tie.Need-overflow-add-result
-add-result c = omega (arith, c.before.ahead_of_lem.ensures, ahead_low c.before.before.args.job.stage, c.row_count.ensures.1)
+add-result : tie.Need-overflow_add-result
+add-result c = omega (arith, c.ahead_of-ahead.ensures, ahead_low c.args.job.stage, c.row_count.ensures.1)
 
 returns : tie.Need-returns
 returns c =
-    let start = c.before.before in
-    ap (λ (a : ℕ). a + c.row_count.result) c.before.ahead_of_lem.ensures ∙ rows_many start.args.job c.row_count.result (whole start) c.row_count.ensures.0 c.row_count.ensures.1
+    ap (λ (a : ℕ). a + c.row_count.result) c.ahead_of-ahead.ensures ∙ rows_many c.args.job c.row_count.result (whole c.before.before) c.row_count.ensures.0 c.row_count.ensures.1
 
 pub row_count_spec : {M : Type 1} → statement M
-row_count_spec =
-    tie.close
-    (tie.spec
-    ahead-of-requires
-    row-count-requires
-    add-result
-    returns)
+row_count_spec = tie.close (tie.spec ahead-of-requires row-count-requires add-result returns)

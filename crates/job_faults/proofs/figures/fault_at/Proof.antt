@@ -43,156 +43,115 @@ module _ (c : tie.Start) where
   told_so : {x : Rule} {f : JobFault} → c.args.rule ≡ x → f ≡ fault_of_row c.args.rule c.args.position c.args.row → JobLies fill job (fault_of_row x c.args.position c.args.row) → JobLies fill job f
   told_so e q = subst⁻¹ (JobLies fill job) (q ∙ ap (λ (y : Rule). fault_of_row y c.args.position c.args.row) e)
 
-enum_told : tie.Need-enum-told
+enum_told : tie.Need-enum_told-1
 enum_told c = search rules
 
-out-of-requires : tie.Need-out-of-requires
-out-of-requires c κs = (shown c.before.before c.enum_told.given.1).1
+out-of-requires : tie.Need-out_of-requires
+out-of-requires c κs = (shown c.before c.in-OutOfRange.is).1
 
-enum-told-2 : tie.Need-enum-told-2
+enum-told-2 : tie.Need-enum_told-in-LargeCatchment
 enum-told-2 c = search rules
 
-cast-t9 : tie.Need-overflow-cast-t9
-cast-t9 c = omega (arith, c.struct_known.given)
+cast-t9 : tie.Need-overflow_cast-result
+cast-t9 c = omega (arith, c.struct_known-1.given)
 
-enum-told-3 : tie.Need-enum-told-3
+enum-told-3 : tie.Need-enum_told-in-TooIntense
 enum-told-3 c = search rules
 
-intensity-of-requires : tie.Need-intensity-of-requires
+intensity-of-requires : tie.Need-intensity_of-requires
 intensity-of-requires c κs =
-    let start = c.before.before in
-    let gives = (shown start c.enum-told3.given.1).1.1 in
-    let ranged = (start.requires.1 (λ e. let q = sym c.enum-told3.given.1 ∙ e in impossible cc)).rows.scour gives.has in
+    let gives = (shown c.before.before c.in-TooIntense.is).1.1 in
+    let ranged = (c.requires.1 (λ e. let q = sym c.in-TooIntense.is ∙ e in impossible cc)).rows.scour gives.has in
     (ranged.n1.to, catchment_low (narrow_of gives.rule refl), ranged.n4.from)
 
-enum-told-4 : tie.Need-enum-told-4
+enum-told-4 : tie.Need-enum_told-in-OverObstructed
 enum-told-4 c = search rules
 
-cast-t11 : tie.Need-overflow-cast-t11
-cast-t11 c = omega (arith, c.struct-known2.given)
+cast-t12 : tie.Need-overflow_cast-result-in-OverObstructed
+cast-t12 c = omega (arith, c.struct_known-in-OverObstructed-1.given)
 
-cast-t12 : tie.Need-overflow-cast-t12
-cast-t12 c = omega (arith, c.struct-known3.given)
-
-enum-told-5 : tie.Need-enum-told-5
+enum-told-5 : tie.Need-enum_told-in-NoFill
 enum-told-5 c = search rules
 
-row-fault-requires : tie.Need-row-fault-requires
+row-fault-requires : tie.Need-row_fault-requires
 row-fault-requires c κs = search rules
 
-enum-told-6 : tie.Need-enum-told-6
+enum-told-6 : tie.Need-enum_told-in-TooManyOptional
 enum-told-6 c = search rules
 
-optional-rows-requires : tie.Need-optional-rows-requires
+optional-rows-requires : tie.Need-optional_rows-requires
 optional-rows-requires c κs = search rules
 
-enum-told-7 : tie.Need-enum-told-7
+enum-told-7 : tie.Need-enum_told-in-UpperBelowLower
 enum-told-7 c = search rules
 
-row-fault-requires-2 : tie.Need-row-fault-requires-2
+row-fault-requires-2 : tie.Need-row_fault-requires-in-UpperBelowLower
 row-fault-requires-2 c κs = search rules
 
-enum-told-8 : tie.Need-enum-told-8
+enum-told-8 : tie.Need-enum_told-in-NoTrain
 enum-told-8 c = search rules
 
-row-fault-requires-3 : tie.Need-row-fault-requires-3
+row-fault-requires-3 : tie.Need-row_fault-requires-in-NoTrain
 row-fault-requires-3 c κs = search rules
 
-enum-told-9 : tie.Need-enum-told-9
+enum-told-9 : tie.Need-enum_told-in-NotAbove
 enum-told-9 c = search rules
 
-row-fault-requires-4 : tie.Need-row-fault-requires-4
+row-fault-requires-4 : tie.Need-row_fault-requires-in-NotAbove
 row-fault-requires-4 c κs = search rules
 
-enum-told-10 : tie.Need-enum-told-10
+enum-told-10 : tie.Need-enum_told-in-TypeE
 enum-told-10 c = search rules
 
-row-fault-requires-5 : tie.Need-row-fault-requires-5
+row-fault-requires-5 : tie.Need-row_fault-requires-in-TypeE
 row-fault-requires-5 c κs = search rules
 
-returns : tie.Need-returns
+returns : tie.Need-returns-in-OutOfRange
 returns c =
-    let start = c.before.before.before in
-    let out = c.out_of_lem.result in
-    subst⁻¹ (λ (p : ℕ). Lies (fill start) (job start) rules.OutOfRange p (λ row. OutOf row out)) c.out_of_lem.ensures.0 (lies_as start c.before.enum_told.given.1 (λ row. OutOf row out) c.out_of_lem.ensures.1)
+    let out = c.out_of.result in
+    subst⁻¹ (λ (p : ℕ). Lies (fill c.before.before) (job c.before.before) rules.OutOfRange p (λ row. OutOf row out)) c.out_of.ensures.0 (lies_as c.before.before c.in-OutOfRange.is (λ row. OutOf row out) c.out_of.ensures.1)
 
-returns-2 : tie.Need-returns-2
-returns-2 c = lies_as c.before.before.before c.before.enum-told2.given.1 _ refl
+returns-2 : tie.Need-returns-in-LargeCatchment
+returns-2 c = lies_as c.before.before c.in-LargeCatchment.is _ refl
 
-returns-3 : tie.Need-returns-3
+returns-3 : tie.Need-returns-in-TooIntense
 returns-3 c =
-    let start = c.before.before.before in
-    let gives = (shown start c.before.enum-told3.given.1).1.1 in
-    lies_as start c.before.enum-told3.given.1 _ (constricted (narrow_of gives.rule refl) c.intensity-of.ensures)
+    let gives = (shown c.before.before.before c.in-TooIntense.is).1.1 in
+    lies_as c.before.before.before c.in-TooIntense.is _ (constricted (narrow_of gives.rule refl) c.intensity_of.ensures)
 
-returns-4 : tie.Need-returns-4
-returns-4 c = lies_as c.before.before.before.before c.before.before.enum-told4.given.1 _ (refl, refl)
+returns-4 : tie.Need-returns-in-OverObstructed
+returns-4 c = lies_as c.before.before.before c.in-OverObstructed.is _ (refl, refl)
 
-returns-5 : tie.Need-returns-5
+returns-5 : tie.Need-returns-in-NoFill
 returns-5 c =
-    let start = c.before.before.before in
-    let e = c.before.enum-told5.given.1 in
-    told_so start e c.fault_of_row.ensures (lies_as start e _ (refl, refl))
+    let e = c.in-NoFill.is in
+    told_so c.before.before e c.row_fault.ensures (lies_as c.before.before e _ (refl, refl))
 
-returns-6 : tie.Need-returns-6
-returns-6 c = lies_as c.before.before.before.before c.before.before.enum-told6.given.1 _ c.optional_rows.ensures
+returns-6 : tie.Need-returns-in-TooManyOptional
+returns-6 c = lies_as c.before.before.before c.in-TooManyOptional.is _ c.optional_rows.ensures
 
-returns-7 : tie.Need-returns-7
+returns-7 : tie.Need-returns-in-UpperBelowLower
 returns-7 c =
-    let start = c.before.before.before in
-    let e = c.before.enum-told7.given.1 in
-    told_so start e c.row-fault2.ensures (lies_as start e _ (refl, refl))
+    let e = c.in-UpperBelowLower.is in
+    told_so c.before.before e c.row_fault-in-UpperBelowLower.ensures (lies_as c.before.before e _ (refl, refl))
 
-returns-8 : tie.Need-returns-8
+returns-8 : tie.Need-returns-in-NoTrain
 returns-8 c =
-    let start = c.before.before.before in
-    let e = c.before.enum-told8.given.1 in
-    told_so start e c.row-fault3.ensures (lies_as start e _ refl)
+    let e = c.in-NoTrain.is in
+    told_so c.before.before e c.row_fault-in-NoTrain.ensures (lies_as c.before.before e _ refl)
 
-returns-9 : tie.Need-returns-9
+returns-9 : tie.Need-returns-in-NotAbove
 returns-9 c =
-    let start = c.before.before.before in
-    let e = c.before.enum-told9.given.1 in
-    told_so start e c.row-fault4.ensures (lies_as start e _ (refl, refl))
+    let e = c.in-NotAbove.is in
+    told_so c.before.before e c.row_fault-in-NotAbove.ensures (lies_as c.before.before e _ (refl, refl))
 
-returns-10 : tie.Need-returns-10
+returns-10 : tie.Need-returns-in-TypeE
 returns-10 c =
-    let start = c.before.before.before in
-    let e = c.before.enum-told10.given.1 in
-    told_so start e c.row-fault5.ensures (lies_as start e _ tt)
+    let e = c.in-TypeE.is in
+    told_so c.before.before e c.row_fault-in-TypeE.ensures (lies_as c.before.before e _ tt)
+
+added_overflow_cast_result_in_OverObstructed_2 : tie.Need-overflow_cast-result-in-OverObstructed-2
+added_overflow_cast_result_in_OverObstructed_2 c = search rules
 
 pub fault_at_spec : {M : Type 1} → statement M
-fault_at_spec =
-    tie.close
-    (tie.spec
-    enum_told
-    out-of-requires
-    enum-told-2
-    cast-t9
-    enum-told-3
-    intensity-of-requires
-    enum-told-4
-    cast-t11
-    cast-t12
-    enum-told-5
-    row-fault-requires
-    enum-told-6
-    optional-rows-requires
-    enum-told-7
-    row-fault-requires-2
-    enum-told-8
-    row-fault-requires-3
-    enum-told-9
-    row-fault-requires-4
-    enum-told-10
-    row-fault-requires-5
-    returns
-    returns-2
-    returns-3
-    returns-4
-    returns-5
-    returns-6
-    returns-7
-    returns-8
-    returns-9
-    returns-10)
+fault_at_spec = tie.close (tie.spec enum_told out-of-requires enum-told-2 cast-t9 enum-told-3 intensity-of-requires enum-told-4 cast-t12 added_overflow_cast_result_in_OverObstructed_2 enum-told-5 row-fault-requires enum-told-6 optional-rows-requires enum-told-7 row-fault-requires-2 enum-told-8 row-fault-requires-3 enum-told-9 row-fault-requires-4 enum-told-10 row-fault-requires-5 returns returns-2 returns-3 returns-4 returns-5 returns-6 returns-7 returns-8 returns-9 returns-10)

@@ -13,31 +13,27 @@ use Rattle.job_faults.specs.steps.Figures.{FirstOut}
 use Rattle.job_faults.proofs.figures.out_of.Statement.{statement}
 use Rattle.job_faults.proofs.figures.out_of.Tie as tie
 
-columns-of-requires : tie.Need-columns-of-requires
+columns-of-requires : tie.Need-columns_of-columns-requires
 columns-of-requires c κs = search rules
 
-first-out-requires : tie.Need-first-out-requires
+first-out-requires : tie.Need-first_out-place-requires
 first-out-requires c κs =
-    let start = c.before.before in
-    λ r. start.pre (subst (λ (k : Columns). InColumns k start.args.row.numbers) c.columns_of.ensures r)
+    λ r. c.requires (subst (λ (k : Columns). InColumns k c.args.row.numbers) c.columns_of-columns.ensures r)
 
-filling-at-requires : tie.Need-filling-at-requires
-filling-at-requires c κs = c.first_out.ensures.there
+filling-at-requires : tie.Need-filling_at-filling-requires
+filling-at-requires c κs = c.first_out-place.ensures.there
 
-add-t10 : tie.Need-add-t10
-add-t10 c = omega (arith, c.before.before.first_out.ensures.there)
+add-t10 : tie.Need-overflow_add-result
+add-t10 c = omega (arith, c.first_out-place.ensures.there)
 
 returns : tie.Need-returns
 returns c =
-    let filled = c.before in
-    let found = filled.before in
-    let asked = found.before in
-    let numbers = asked.before.before.args.row.numbers in
-    let place = found.first_out.result in
-    let filling = filled.filling-at.result in
-    let e = asked.columns_of.ensures in
-    let f = subst (λ (k : Columns). FirstOut k numbers place) e found.first_out.ensures in
-    let s = subst (λ (k : Columns). StandsAt (fillings k numbers) place filling) e filled.filling-at.ensures in (
+    let numbers = c.args.row.numbers in
+    let place = c.first_out-place.result in
+    let filling = c.filling_at-filling.result in
+    let e = c.columns_of-columns.ensures in
+    let f = subst (λ (k : Columns). FirstOut k numbers place) e c.first_out-place.ensures in
+    let s = subst (λ (k : Columns). StandsAt (fillings k numbers) place filling) e c.filling_at-filling.ensures in (
       refl,
       record {
         nth = place + 1;
@@ -48,11 +44,4 @@ returns c =
     )
 
 pub out_of_spec : {M : Type 1} → statement M
-out_of_spec =
-    tie.close
-    (tie.spec
-    columns-of-requires
-    first-out-requires
-    filling-at-requires
-    add-t10
-    returns)
+out_of_spec = tie.close (tie.spec columns-of-requires first-out-requires filling-at-requires add-t10 returns)

@@ -7,7 +7,4 @@ returns : tie.Need-returns
 returns c = decides_below c.args.row.n4.size c.args.row.n5.size
 
 pub is_below_spec : {M : Type 1} → statement M
-is_below_spec =
-    tie.close
-    (tie.spec
-    returns)
+is_below_spec = tie.close (tie.spec returns)

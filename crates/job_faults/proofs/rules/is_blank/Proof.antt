@@ -12,36 +12,27 @@ use Rattle.job_faults.proofs.rules.is_blank.Tie as tie
 pressure-requires : tie.Need-pressure-requires
 pressure-requires c κs = search rules
 
-enum_told : tie.Need-enum-told
+enum_told : tie.Need-enum_told-1
 enum_told c = search rules
 
-enum-told-2 : tie.Need-enum-told-2
+enum-told-2 : tie.Need-enum_told-in-NoCoefficient
 enum-told-2 c = search rules
 
-enum-told-3 : tie.Need-enum-told-3
+enum-told-3 : tie.Need-enum_told-in-Push
 enum-told-3 c = search rules
 
 -- what the row is told
-told : (c : tie.After-pressure) {a : EarthAnswer} → c.pressure.result ≡ a → Pressed (fill_of c.before.args.held) c.before.args.row (earth_told a)
-told c e = subst (λ (a : EarthAnswer). Pressed (fill_of c.before.args.held) c.before.args.row (earth_told a)) e c.pressure.ensures
+told : (c : tie.After-pressure) {a : EarthAnswer} → c.pressure.result ≡ a → Pressed (fill_of c.args.held) c.args.row (earth_told a)
+told c e = subst (λ (a : EarthAnswer). Pressed (fill_of c.args.held) c.args.row (earth_told a)) e c.pressure.ensures
 
-returns : tie.Need-returns
-returns c = blank_else (told c.before.before c.enum_told.given.1) (λ e. unlike 11 15 refl cc) c.before.before.before.requires
+returns : tie.Need-returns-in-OutOfRange
+returns c = blank_else (told c.before c.in-OutOfRange.is) (λ e. unlike 11 15 refl cc) c.requires
 
-returns-2 : tie.Need-returns-2
-returns-2 c = blank_told (told c.before.before c.enum-told2.given.1) refl
+returns-2 : tie.Need-returns-in-NoCoefficient
+returns-2 c = blank_told (told c.before c.in-NoCoefficient.is) refl
 
-returns-3 : tie.Need-returns-3
-returns-3 c = blank_else (told c.before.before c.enum-told3.given.1) (λ e. impossible cc) c.before.before.before.requires
+returns-3 : tie.Need-returns-in-Push
+returns-3 c = blank_else (told c.before c.in-Push.is) (λ e. impossible cc) c.requires
 
 pub is_blank_spec : {M : Type 1} → statement M
-is_blank_spec =
-    tie.close
-    (tie.spec
-    pressure-requires
-    enum_told
-    enum-told-2
-    enum-told-3
-    returns
-    returns-2
-    returns-3)
+is_blank_spec = tie.close (tie.spec pressure-requires enum_told enum-told-2 enum-told-3 returns returns-2 returns-3)
