@@ -123,8 +123,7 @@ nothing-requires-2 c κs = search rules
 returns-3 : tie.Need-returns-then-field-lt1022
 returns-3 c =
     let b = c.args.bits in
-    let small = c.if-field-lt1022.true in
-    subst⁻¹ (NearestIs (of_bits binary64 b)) c.nothing-then-field-lt1022.ensures (pos 0, below_told b (omega (arith, small)) (λ e k. omega (arith, e, k, c.if-magnitude-eq0.false)), refl, lit< tt)
+    subst⁻¹ (NearestIs (of_bits binary64 b)) c.nothing-then-field-lt1022.ensures (pos 0, below_told b (omega arith) (λ e k. omega (arith, e, k, c.if-magnitude-eq0.false)), refl, lit< tt)
 
 add-digits : tie.Need-overflow_add-digits
 add-digits c = search rules

@@ -42,19 +42,23 @@ module _ (c : tie.Joined-not-all_named) where
   abbrev rows : List Row
   rows = take c.row_count-n.result c.args.rows
 
-  with_16 : With (12 < optionals rows) 16 c.asked_of-asked.result.first c.if-asked-gt12.first
+  -- the lowest with 16
+  abbrev with16 : ℕ
+  with16 = c.if-asked-gt12.first
+
+  with_16 : With (12 < optionals rows) 16 c.asked_of-asked.result.first with16
   with_16 =
       let count = c.asked_of-asked.ensures.optional in
       elim c.if-asked-gt12.branch [
-        | then-asked-gt12 w ↦ inl (subst (λ (m : ℕ). 12 < m) count w.if-asked-gt12.true, subst⁻¹ (Lower c.asked_of-asked.result.first 16) w.first-is w.lower-first.ensures)
-        | else-asked-gt12 w ↦ inr ((λ h. omega (arith, h, count, w.if-asked-gt12.false)), w.first-is)
+        | then-asked-gt12 w ↦ inl (omega (arith, count), subst⁻¹ (Lower c.asked_of-asked.result.first 16) w.first-is w.lower-first.ensures)
+        | else-asked-gt12 w ↦ inr ((λ h. omega (arith, h, count)), w.first-is)
       ]
 
-  with_18 : With (AllNamed rows → ⊥) 18 c.if-asked-gt12.first c.if-not-all_named.first
+  with_18 : With (AllNamed rows → ⊥) 18 with16 c.if-not-all_named.first
   with_18 =
       let named = c.all_named in
       elim c.if-not-all_named.branch [
-        | then-not-all_named w ↦ inl (refuted named.result w.if-not-all_named.true named.ensures, subst⁻¹ (Lower c.if-asked-gt12.first 18) w.first-is w.lower-first-then-not-all_named.ensures)
+        | then-not-all_named w ↦ inl (refuted named.result w.if-not-all_named.true named.ensures, subst⁻¹ (Lower with16 18) w.first-is w.lower-first-then-not-all_named.ensures)
         | else-not-all_named w ↦ inr ((λ h. h (decided named.result w.if-not-all_named.false named.ensures)), w.first-is)
       ]
 

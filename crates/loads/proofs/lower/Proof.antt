@@ -5,13 +5,13 @@ use Rattle.loads.proofs.lower.Statement.{statement}
 use Rattle.loads.proofs.lower.Tie as tie
 
 returns : tie.Need-returns-then-first-eq0
-returns c = let test = c.if-first-eq0.true in alone (omega arith)
+returns c = alone (omega arith)
 
 returns-2 : tie.Need-returns-then-number-first
-returns-2 c = let test = c.if-number-first.true in before (omega arith)
+returns-2 c = before (omega arith)
 
 returns-3 : tie.Need-returns
-returns-3 c = let test = c.if-number-first.false in after (λ e. omega (arith, e, c.if-first-eq0.false)) (omega arith)
+returns-3 c = after (λ e. omega (arith, e, c.if-first-eq0.false)) (omega arith)
 
 pub lower_spec : {M : Type 1} → statement M
 lower_spec = tie.close (tie.spec returns returns-2 returns-3)

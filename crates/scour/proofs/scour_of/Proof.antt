@@ -32,7 +32,7 @@ module _ (c : tie.Joined-meets_regime) where
   depth =
       elim c.if-meets_regime.branch [
         | then-meets_regime w ↦ subst⁻¹ Depth w.depth-is (regime c.foundation_discharge-qf.ensures (decided c.meets_regime.result w.if-meets_regime.true c.meets_regime.ensures) w.regime_depth.ensures.0, w.regime_depth.ensures.1)
-        | else-meets_regime+else-intensity-gt50000 w ↦ subst⁻¹ Depth w.depth-is (constricted (narrow record { before = record { before = c.before; if-meets_regime = w.if-meets_regime }; up-intensity = w.up-intensity }) w.if-intensity-gt50000.false w.constricted_depth.ensures.0, w.constricted_depth.ensures.1)
+        | else-meets_regime+else-intensity-gt50000 w ↦ subst⁻¹ Depth w.depth-is (constricted (narrow record { before = record { before = c.before; if-meets_regime = w.if-meets_regime }; up-intensity = w.up-intensity }) (omega arith) w.constricted_depth.ensures.0, w.constricted_depth.ensures.1)
       ]
 
 returns : tie.Need-returns-then-row-gt25000
@@ -54,7 +54,7 @@ up-requires : tie.Need-up-intensity-requires
 up-requires c κs = search rules
 
 returns-2 : tie.Need-returns-then-intensity-gt50000
-returns-2 c = too_intense (narrow c.before) c.if-intensity-gt50000.true
+returns-2 c = too_intense (narrow c.before) (omega arith)
 
 constricted-depth-requires : tie.Need-constricted_depth-requires
 constricted-depth-requires c κs = search rules

@@ -13,7 +13,7 @@ up-requires : tie.Need-up-requires
 up-requires c κs = search rules
 
 returns : tie.Need-returns-then-z-le500
-returns c = to_500 c.if-z-le500.true c.up.ensures.rounded
+returns c = to_500 (omega arith) c.up.ensures.rounded
 
 sub-up : tie.Need-overflow_sub-z
 sub-up c = search rules
@@ -25,7 +25,7 @@ up-requires-2 : tie.Need-up-requires-then-z-le5000
 up-requires-2 c κs = search rules
 
 returns-2 : tie.Need-returns-then-z-le5000
-returns-2 c = to_5000 c.if-z-le500.false c.if-z-le5000.true c.up-then-z-le5000.ensures.rounded
+returns-2 c = to_5000 (omega arith) (omega arith) c.up-then-z-le5000.ensures.rounded
 
 sub-up-2 : tie.Need-overflow_sub-z-2
 sub-up-2 c = search rules
@@ -37,7 +37,7 @@ up-requires-3 : tie.Need-up-requires-2
 up-requires-3 c κs = search rules
 
 returns-3 : tie.Need-returns
-returns-3 c = to_25000 c.if-z-le5000.false c.requires.1 c.up-2.ensures.rounded
+returns-3 c = to_25000 (omega arith) c.requires.1 c.up-2.ensures.rounded
 
 pub foundation_discharge_spec : {M : Type 1} → statement M
 foundation_discharge_spec = tie.close (tie.spec mul-up up-requires returns sub-up mul-up-2 up-requires-2 returns-2 sub-up-2 mul-up-3 up-requires-3 returns-3)
