@@ -184,7 +184,7 @@ def main():
     names, joined = declared(crates)
     n = sum(turn(p, names, crates) for p in files((".antt", ".rt")))
     # port.py turns no edit, so an edit may also have a dashed name that it turned elsewhere
-    both = names | {w.replace("_", "-") for w in joined}
+    both = names | {w.replace("_", "-") for w in joined if DASHED.fullmatch(w.replace("_", "-"))}
     n += sum(turn(p, both, crates) for p in files((".edit",)))
     for p in pages():
         text = read(p)
