@@ -9,14 +9,14 @@ use Rattle.warnings.proofs.Asked.{other}
 use Rattle.warnings.proofs.is_earthquake.Statement.{statement}
 use Rattle.warnings.proofs.is_earthquake.Tie as tie
 
-enum_told : tie.Need-enum-told
+enum_told : tie.Need-enum_told-1
 enum_told c = search rules
 
-returns : tie.Need-returns
-returns c = c.enum_told.given.1
+returns : tie.Need-returns-in-SF
+returns c = c.in-SF.is
 
-returns-2 : tie.Need-returns-2
-returns-2 c = other (tag_of the_type) (B ∷ S ∷ C ∷ E ∷ W ∷ G ∷ DL ∷ EP ∷ LL ∷ LF ∷ CF ∷ WC ∷ BU ∷ TM ∷ EX ∷ WL ∷ []) SF c.before.args.kind refl c.match.keys2
+returns-2 : tie.Need-returns
+returns-2 c = other (tag_of the_type) (B ∷ S ∷ C ∷ E ∷ W ∷ G ∷ DL ∷ EP ∷ LL ∷ LF ∷ CF ∷ WC ∷ BU ∷ TM ∷ EX ∷ WL ∷ []) SF c.args.kind refl c.in_default.in_default-own.keys2
 
 pub is_earthquake_spec : {M : Type 1} → statement M
 is_earthquake_spec = tie.close (tie.spec enum_told returns returns-2)

@@ -4,17 +4,17 @@ use Rattle.arithmetic.proofs.Cases.{impossible}
 use Rattle.warnings.proofs.is_missing.Statement.{statement}
 use Rattle.warnings.proofs.is_missing.Tie as tie
 
-enum_told : tie.Need-enum-told
+enum_told : tie.Need-enum_told-1
 enum_told c = search rules
 
-returns : tie.Need-returns
-returns c = c.enum_told.given.1
+returns : tie.Need-returns-in-Missing
+returns c = c.in-Missing.is
 
-enum-told-2 : tie.Need-enum-told-2
+enum-told-2 : tie.Need-enum_told-in_default
 enum-told-2 c = search rules
 
-returns-2 : tie.Need-returns-2
-returns-2 c = λ e. let shown = c.enum-told2.given.1 in impossible cc
+returns-2 : tie.Need-returns
+returns-2 c = λ e. let shown = c.in_default.is in impossible cc
 
 pub is_missing_spec : {M : Type 1} → statement M
 is_missing_spec = tie.close (tie.spec enum_told returns enum-told-2 returns-2)

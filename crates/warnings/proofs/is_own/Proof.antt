@@ -9,19 +9,19 @@ use Rattle.warnings.proofs.Asked.{other}
 use Rattle.warnings.proofs.is_own.Statement.{statement}
 use Rattle.warnings.proofs.is_own.Tie as tie
 
-source-of-requires : tie.Need-source-of-requires
+source-of-requires : tie.Need-source_of-source-requires
 source-of-requires c κs = search rules
 
-enum_told : tie.Need-enum-told
+enum_told : tie.Need-enum_told-1
 enum_told c = search rules
 
-returns : tie.Need-returns
-returns c = sym c.before.before.source_of.ensures ∙ c.enum_told.given.1
+returns : tie.Need-returns-in-Own
+returns c = sym c.source_of-source.ensures ∙ c.in-Own.is
 
-returns-2 : tie.Need-returns-2
+returns-2 : tie.Need-returns
 returns-2 c =
-    let told = c.before.source_of in
-    λ e. other (tag_of the_type) (Absent ∷ Earth ∷ Current ∷ Surcharge ∷ []) Own told.result refl c.match.keys2 (told.ensures ∙ e)
+    let told = c.source_of-source in
+    λ e. other (tag_of the_type) (Absent ∷ Earth ∷ Current ∷ Surcharge ∷ []) Own told.result refl c.in_default.in_default-own.keys2 (told.ensures ∙ e)
 
 pub is_own_spec : {M : Type 1} → statement M
 is_own_spec = tie.close (tie.spec source-of-requires enum_told returns returns-2)
