@@ -6,55 +6,41 @@ use borrow.Author.Rules.{rules}
 use Rattle.explain.proofs.all_rows.copied.Statement.{statement}
 use Rattle.explain.proofs.all_rows.copied.Tie as tie
 
-abbrev invariant-loop : tie.invariant-loop
+abbrev invariant-loop : tie.invariant-loop-i
 invariant-loop book text₀ i₀ text i = length text ≡ length text₀
 
-abbrev decreases-loop : tie.decreases-loop
+abbrev decreases-loop : tie.decreases-loop-i
 decreases-loop book text₀ i₀ text i = length book - i
 
-loop-holds : tie.Need-loop-init invariant-loop decreases-loop
+loop-holds : tie.Need-loop-i-init invariant-loop decreases-loop
 loop-holds c = search rules
 
-same_length : tie.Need-same-length invariant-loop decreases-loop
+same_length : tie.Need-shape_of-text-then-text-i invariant-loop decreases-loop
 same_length c = search rules
 
-returns : tie.Need-returns invariant-loop decreases-loop
+returns : tie.Need-returns-then-text-i invariant-loop decreases-loop
 returns c = search rules
 
-shared-slice-read-text : tie.Need-shared-slice-read-text invariant-loop decreases-loop
+shared-slice-read-text : tie.Need-bounds-book-i invariant-loop decreases-loop
 shared-slice-read-text c = search rules
 
-slice-write-text : tie.Need-slice-write-text invariant-loop decreases-loop
+slice-write-text : tie.Need-bounds-text-i invariant-loop decreases-loop
 slice-write-text c = search rules
 
-add-i : tie.Need-overflow-add-i invariant-loop decreases-loop
+add-i : tie.Need-overflow_add-i invariant-loop decreases-loop
 add-i c = search rules
 
-loop-less : tie.Need-loop-smaller invariant-loop decreases-loop
+loop-less : tie.Need-loop-i-smaller invariant-loop decreases-loop
 loop-less c = search rules
 
-loop-again : tie.Need-loop-preserved invariant-loop decreases-loop
+loop-again : tie.Need-loop-i-preserved invariant-loop decreases-loop
 loop-again c = search rules
 
-same-length-2 : tie.Need-same-length-2 invariant-loop decreases-loop
+same-length-2 : tie.Need-shape_of-text invariant-loop decreases-loop
 same-length-2 c = search rules
 
-returns-2 : tie.Need-returns-2 invariant-loop decreases-loop
+returns-2 : tie.Need-returns invariant-loop decreases-loop
 returns-2 c = search rules
 
 pub copied_spec : {M : Type 1} → statement M
-copied_spec =
-    tie.close
-    (tie.spec
-    invariant-loop
-    decreases-loop
-    loop-holds
-    same_length
-    returns
-    shared-slice-read-text
-    slice-write-text
-    add-i
-    loop-less
-    loop-again
-    same-length-2
-    returns-2)
+copied_spec = tie.close (tie.spec invariant-loop decreases-loop loop-holds same_length returns shared-slice-read-text slice-write-text add-i loop-less loop-again same-length-2 returns-2)
