@@ -61,7 +61,7 @@ width c = c.width_of-width.ensures
 
 returns-2 : tie.Need-returns-then-abutment-width
 returns-2 c =
-    says c.before.before.before _ (not_above (omega (arith, width c.before.before, c.if-abutment-width.true)))
+    says c.before.before.before _ (not_above (omega (arith, width c.before.before)))
 
 -- past the first test the length is above the width
 module _ (c : tie.Else-abutment-width) where
@@ -72,10 +72,10 @@ module _ (c : tie.Else-abutment-width) where
   row = known.before.abutment_of-abutment.result
 
   above : B row < row.length
-  above = omega (arith, width known, c.if-abutment-width.false)
+  above = omega (arith, width known)
 
 returns-3 : tie.Need-returns-then-abutment-eq5
-returns-3 c = says (known c.before.before).before _ (type_e (above c.before.before) c.if-abutment-eq5.true)
+returns-3 c = says (known c.before.before).before _ (type_e (above c.before.before) (omega arith))
 
 surcharge-of-requires : tie.Need-surcharge_of-requires
 surcharge-of-requires c κs = (ordered (known c.before.before).before).standard
