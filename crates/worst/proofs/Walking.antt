@@ -53,7 +53,7 @@ use Rattle.worst.specs.steps.StepTable.{TableIs}
 use Rattle.worst.specs.steps.Search.{count_of, set_of, carried_of, Visited, none_yet, one_more, WalkedChoices, Walked}
 use Rattle.weighing.proofs.Weighing.{weighed_or_not}
 use Rattle.weighing.proofs.Reading.{small_carried, winds_read, earthquakes_read, set_read, key_ordered, carried_shows}
-use Rattle.weighing.proofs.bounds.Bounding.{within_visits}
+use Rattle.weighing.proofs.bounds.Keeping.{within_visits}
 use Rattle.weighing.proofs.Searching.{Extends, nothing_yet, smaller, offer, skip, ends_named, ends_empty}
 use Rattle.worst.proofs.choices.Choices.{pick_low, pick_bit, Made, made, sums_number}
 use Rattle.worst.proofs.Order.{visited_once}

@@ -16,7 +16,7 @@ use Rattle.weighing.specs.declared.Worst.{Worst}
 use Rattle.weighing.specs.declared.bounds.Bounds.{Bounds}
 use Rattle.weighing.specs.steps.Weighs.{SmallCarried, Low, Words, Visits}
 use Rattle.weighing.specs.steps.Bounds.{bounds_of, Within, Fitting}
-use Rattle.weighing.proofs.bounds.Bounding.{bounds_fit, visits_words}
+use Rattle.weighing.proofs.bounds.Keeping.{bounds_fit, visits_words}
 use Rattle.worst.specs.declared.step_table.StepTable.{StepTable}
 use Rattle.worst.specs.declared.trains.Trains.{Trains}
 use Rattle.worst.specs.steps.Stance.{choosable, stance_at}
