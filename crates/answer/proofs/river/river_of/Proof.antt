@@ -49,10 +49,10 @@ depth c =
     let a = c.args in
     let test = c.has_scour in
     elim c.if-has_scour.branch [
-      then-has_scour w ↦ subst⁻¹ (DepthGives a.job) w.depth-is
-      (depth_gives a.job (decided test.result w.if-has_scour.true test.ensures) a.rock (rock c.before.before.before.before) w.scour.ensures w.depth_of-depth.result
-      (subst (λ (x : Waterway). DepthGiven a.rock x.depth (scour_told w.scour.result) w.depth_of-depth.result) c.waterway_of-waterway.ensures w.depth_of-depth.ensures))
-    | else-has_scour w ↦ subst⁻¹ (DepthGives a.job) w.depth-is (no_depth a.job (refuted test.result w.if-has_scour.false test.ensures))
+      | then-has_scour w ↦ subst⁻¹ (DepthGives a.job) w.depth-is
+          (depth_gives a.job (decided test.result w.if-has_scour.true test.ensures) a.rock (rock c.before.before.before.before) w.scour.ensures w.depth_of-depth.result
+          (subst (λ (x : Waterway). DepthGiven a.rock x.depth (scour_told w.scour.result) w.depth_of-depth.result) c.waterway_of-waterway.ensures w.depth_of-depth.ensures))
+      | else-has_scour w ↦ subst⁻¹ (DepthGives a.job) w.depth-is (no_depth a.job (refuted test.result w.if-has_scour.false test.ensures))
     ]
 
 clear : (c : tie.Joined-has_clearance) → ClearGives c.args.job c.if-has_clearance.clear
@@ -60,10 +60,10 @@ clear c =
     let job = c.args.job in
     let test = c.has_clearance in
     elim c.if-has_clearance.branch [
-      then-has_clearance w ↦ subst⁻¹ (ClearGives job) w.clear-is
-      (clear_gives job (decided test.result w.if-has_clearance.true test.ensures) w.clearance.result
-      (subst (λ (x : Waterway). ClearanceSays job.clearance x.discharge (clearance_told w.clearance.result)) c.waterway_of-waterway.ensures w.clearance.ensures) w.clear_of-clear.result w.clear_of-clear.ensures)
-    | else-has_clearance w ↦ subst⁻¹ (ClearGives job) w.clear-is (no_clear job (refuted test.result w.if-has_clearance.false test.ensures))
+      | then-has_clearance w ↦ subst⁻¹ (ClearGives job) w.clear-is
+          (clear_gives job (decided test.result w.if-has_clearance.true test.ensures) w.clearance.result
+          (subst (λ (x : Waterway). ClearanceSays job.clearance x.discharge (clearance_told w.clearance.result)) c.waterway_of-waterway.ensures w.clearance.ensures) w.clear_of-clear.result w.clear_of-clear.ensures)
+      | else-has_clearance w ↦ subst⁻¹ (ClearGives job) w.clear-is (no_clear job (refuted test.result w.if-has_clearance.false test.ensures))
     ]
 
 returns : tie.Need-returns
