@@ -13,7 +13,6 @@ use Rattle.checks.specs.Order.{side}
 use Rattle.checks.specs.limits.Limits.{Limit}
 use Rattle.checks.specs.passing.Passing.{Passes}
 use Rattle.loads.specs.LoadRows.{AreLoads}
-use Rattle.lines.specs.Lines.{check}
 use Rattle.lines.specs.declared.RiverLine.{RiverLine}
 use Rattle.lines.specs.verdicts.Verdict.{RiverYes}
 use Rattle.answer.specs.river.River.{DepthIs, ClearIs}

@@ -6,7 +6,6 @@ use mathlib.Core.Path.{◌≡◌, subst}
 use mathlib.Core.Bool.{Bool, true, false}
 use mathlib.Core.List.{List}
 use borrow.Author.Rules.{rules}
-use borrow.Author.Tests.{not-true, not-false}
 use Rattle.fills.specs.Says.{Accepted}
 use Rattle.debtarush.specs.steps.Tabled.{Tabled, FillsGiven}
 use Rattle.debtarush.proofs.Locating.{Held, held, refusal, within}

@@ -5,7 +5,7 @@ use native.Mathlib.Omega.{arith}
 use mathlib.Core.Path.{◌≡◌, refl, sym, ap, subst, ◌∙◌}
 use mathlib.Core.List.{List}
 use Prim.Native.Nat.{ℕ, ◌-◌, ◌≤◌, ◌<◌}
-use lib.ListN.{length, length-map, take}
+use lib.ListN.{length, take}
 use Rattle.arithmetic.proofs.Cases.{by_cases}
 use Rattle.arithmetic.proofs.Deciding.{decided, refuted}
 use Rattle.earth.specs.coefficients.Coefficients.{fill_of}

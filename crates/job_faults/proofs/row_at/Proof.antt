@@ -1,9 +1,9 @@
 -- Before the load rows stand B, S and C in this order; a load row stands as far behind them as it does among the load rows.
 use borrow.Author.Rules.{rules}
 use native.Mathlib.Omega.{arith}
-use mathlib.Core.Path.{◌≡◌, refl, sym, subst⁻¹, ◌∙◌}
+use mathlib.Core.Path.{◌≡◌, refl, subst⁻¹}
 use Prim.Native.Nat.{ℕ, ◌+◌, ◌-◌, ◌<◌}
-use lib.ListN.{length, length-map}
+use lib.ListN.{length}
 use Rattle.kinds.specs.declared.Kind.TheVariants.{S, C}
 use Rattle.jobs.specs.declared.Job.{Job}
 use Rattle.answer.specs.Rules.{load_rows_of}

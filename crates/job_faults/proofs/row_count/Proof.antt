@@ -1,9 +1,9 @@
 -- The rows before the load rows, and these, of which there are at most 16.
 use borrow.Author.Rules.{rules}
 use native.Mathlib.Omega.{arith}
-use mathlib.Core.Path.{◌≡◌, sym, ap, ◌∙◌}
+use mathlib.Core.Path.{◌≡◌, ap, ◌∙◌}
 use Prim.Native.Nat.{ℕ, ◌+◌}
-use lib.ListN.{length, length-map}
+use lib.ListN.{length}
 use Rattle.job_faults.proofs.Listing.{ahead_low, rows_many}
 use Rattle.job_faults.proofs.row_count.Statement.{statement}
 use Rattle.job_faults.proofs.row_count.Tie as tie

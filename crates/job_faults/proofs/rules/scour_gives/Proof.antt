@@ -1,6 +1,5 @@
 -- A row in range gives the refusal that it is told, and no other.
 use borrow.Author.Rules.{rules}
-use borrow.Author.Tests.{not-true, not-false}
 use native.Mathlib.Omega.{arith}
 use mathlib.Core.Path.{◌≡◌, refl, subst}
 use Rattle.arithmetic.proofs.Deciding.{decided, refuted}
