@@ -11,7 +11,7 @@ ghost use Rattle.jobs.specs.stages.Rows.{HasScour, HasClearance};
 use kinds::Role;
 
 // How far a job has come: not begun, its B row, its S row, its C row.
-#[derive(Clone, Copy)]
+#[derive(Clone, Copy, PartialEq, Eq)]
 pub enum Stage {
     Unbegun,
     Dry,

@@ -6,7 +6,7 @@ use crate::Kind;
 use sets::Class;
 
 // Where a row's forces come from: nowhere, a fill, a water current, a surcharge, or its own numbers.
-#[derive(Clone, Copy)]
+#[derive(Clone, Copy, PartialEq, Eq)]
 pub enum Source {
     Absent,
     Earth,

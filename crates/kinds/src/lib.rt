@@ -15,7 +15,7 @@ ghost use Rattle.kinds.specs.Table.{columns, role, phase, train};
 use fields::Entry;
 
 // The kinds of a row: the base, the two river rows, earth pressure, water current, surcharge, and the load rows that give their own forces.
-#[derive(Clone, Copy)]
+#[derive(Clone, Copy, PartialEq, Eq)]
 pub enum Kind {
     B,
     S,
@@ -37,7 +37,7 @@ pub enum Kind {
 }
 
 // What a row of a kind is to its job.
-#[derive(Clone, Copy)]
+#[derive(Clone, Copy, PartialEq, Eq)]
 pub enum Role {
     Base,
     Scour,

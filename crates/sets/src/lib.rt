@@ -15,7 +15,7 @@ ghost use Rattle.sets.specs.Sets.{bit, blank_load};
 use arithmetic::signed::Amount;
 
 // What a row is to a combination: DL, EP and E are permanent, WL is wind, SF is earthquake, every other row is free, LF and CF only beside their train.
-#[derive(Clone, Copy)]
+#[derive(Clone, Copy, PartialEq, Eq)]
 pub enum Class {
     Permanent,
     Free,
