@@ -10,7 +10,7 @@ use std::rt::{Env, Files};
 fn print_lines(rt: &impl Print, err: &impl Print, book: &[u8], own: &[u8], common: &[u8]) {
     let mut lines = [0u8; 131072];
     let len = debtarush::book_lines(book, own, common, &mut lines);
-    if !files::put(rt, &lines[0..len]) {
+    if rt.write_all(&lines[0..len]).is_err() {
         files::put(err, b"check_book: the lines could not be written\n");
     }
 }
@@ -19,12 +19,10 @@ fn print_lines(rt: &impl Print, err: &impl Print, book: &[u8], own: &[u8], commo
 fn check(rt: &(impl Input + Print), err: &impl Print, own: &[u8], common: &[u8]) {
     let mut text = [0u8; 65537];
     let mut input = rt.reader();
-    let got = files::read_open(&mut input, &mut text);
-    if !got.all {
+    let Ok(len) = files::read_open(&mut input, &mut text) else {
         files::put(err, b"check_book: the book could not be read to its end\n");
         return;
-    }
-    let len = got.len;
+    };
     print_lines(rt, err, &text[..len], own, common);
 }
 
@@ -36,11 +34,9 @@ fn check_with(rt: &(impl Env + Files + Input + Print), err: &impl Print, own: &[
         return;
     }
     let mut text = [0u8; 65537];
-    let got = files::read_argument(rt, err, b"check_book", 2, &mut text);
-    if !got.all {
+    let Some(len) = files::read_argument(rt, err, b"check_book", 2, &mut text) else {
         return;
-    }
-    let len = got.len;
+    };
     check(rt, err, own, &text[..len]);
 }
 
@@ -59,10 +55,8 @@ fn main(rt: HostRuntime) {
         check_with(&rt, &err, &text[..0], count);
         return;
     }
-    let got = files::read_argument(&rt, &err, b"check_book", 1, &mut text);
-    if !got.all {
+    let Some(len) = files::read_argument(&rt, &err, b"check_book", 1, &mut text) else {
         return;
-    }
-    let len = got.len;
+    };
     check_with(&rt, &err, &text[..len], count);
 }

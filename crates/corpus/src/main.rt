@@ -18,7 +18,7 @@ fn print_lines(rt: &impl Print, err: &impl Print, book: &[u8]) {
     let mut lines = [0u8; 131072];
     let table2 = fills::table2_book::bytes();
     let len = debtarush::book_lines(book, b"", &table2, &mut lines);
-    if !files::put(rt, &lines[0..len]) {
+    if rt.write_all(&lines[0..len]).is_err() {
         files::put(err, b"corpus: the lines could not be written\n");
     }
 }
@@ -27,11 +27,9 @@ fn print_lines(rt: &impl Print, err: &impl Print, book: &[u8]) {
 fn print_named(rt: &(impl Env + Files + Print), err: &impl Print, i: usize) {
     let mut name = [0u8; 4096];
     let mut text = [0u8; 65537];
-    let read = files::read_argument(rt, err, b"corpus", i, &mut text);
-    if !read.all {
+    let Some(got) = files::read_argument(rt, err, b"corpus", i, &mut text) else {
         return;
-    }
-    let got = read.len;
+    };
     let len = files::argument(rt, i, &mut name);
     files::put(rt, &name[..len]);
     files::put(rt, b"\r\n");

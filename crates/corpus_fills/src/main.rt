@@ -12,7 +12,7 @@ use std::rt::{Env, Files};
 fn print_lines(rt: &impl Print, err: &impl Print, book: &[u8], own: &[u8], common: &[u8]) {
     let mut lines = [0u8; 131072];
     let len = debtarush::book_lines(book, own, common, &mut lines);
-    if !files::put(rt, &lines[0..len]) {
+    if rt.write_all(&lines[0..len]).is_err() {
         files::put(err, b"corpus_fills: the lines could not be written\n");
     }
 }
@@ -27,11 +27,9 @@ fn print_named(
 ) {
     let mut name = [0u8; 4096];
     let mut text = [0u8; 65537];
-    let read = files::read_argument(rt, err, b"corpus_fills", i, &mut text);
-    if !read.all {
+    let Some(got) = files::read_argument(rt, err, b"corpus_fills", i, &mut text) else {
         return;
-    }
-    let got = read.len;
+    };
     let len = files::argument(rt, i, &mut name);
     files::put(rt, &name[..len]);
     files::put(rt, b"\r\n");
@@ -44,16 +42,12 @@ fn print_with(rt: &(impl Env + Files + Print), err: &impl Print, i: usize)
 {
     let mut own = [0u8; 65537];
     let mut common = [0u8; 65537];
-    let own_read = files::read_argument(rt, err, b"corpus_fills", i, &mut own);
-    if !own_read.all {
+    let Some(owns) = files::read_argument(rt, err, b"corpus_fills", i, &mut own) else {
         return;
-    }
-    let owns = own_read.len;
-    let common_read = files::read_argument(rt, err, b"corpus_fills", i + 1, &mut common);
-    if !common_read.all {
+    };
+    let Some(commons) = files::read_argument(rt, err, b"corpus_fills", i + 1, &mut common) else {
         return;
-    }
-    let commons = common_read.len;
+    };
     print_named(rt, err, i + 2, &own[..owns], &common[..commons]);
 }
 

@@ -38,11 +38,9 @@ fn show(rt: &impl Print, text: &[u8]) {
 fn show_book(rt: &(impl Env + Files + Print), err: &impl Print, i: usize) {
     let mut name = [0u8; 4096];
     let mut text = [0u8; 65537];
-    let read = files::read_argument(rt, err, b"count_books", i, &mut text);
-    if !read.all {
+    let Some(got) = files::read_argument(rt, err, b"count_books", i, &mut text) else {
         return;
-    }
-    let got = read.len;
+    };
     let len = files::argument(rt, i, &mut name);
     files::put(rt, &name[..len]);
     show(rt, &text[..got]);

@@ -9,15 +9,13 @@ use std::rt::{Env, Files};
 fn explain_with(rt: &(impl Input + Print), err: &impl Print, own: &[u8], common: &[u8], all: bool) {
     let mut text = [0u8; 65537];
     let mut input = rt.reader();
-    let got = files::read_open(&mut input, &mut text);
-    if !got.all {
+    let Ok(len) = files::read_open(&mut input, &mut text) else {
         files::put(
             err,
             b"explain_book: the book could not be read to its end\n",
         );
         return;
-    }
-    let len = got.len;
+    };
     explain::explain(rt, &text[..len], own, common, all);
 }
 
@@ -36,11 +34,9 @@ fn with_own(
         return;
     }
     let mut text = [0u8; 65537];
-    let got = files::read_argument(rt, err, b"explain_book", common, &mut text);
-    if !got.all {
+    let Some(len) = files::read_argument(rt, err, b"explain_book", common, &mut text) else {
         return;
-    }
-    let len = got.len;
+    };
     explain_with(rt, err, own, &text[..len], all);
 }
 
@@ -66,11 +62,9 @@ fn with_books(
         with_own(rt, err, &text[..0], common, count, all);
         return;
     }
-    let got = files::read_argument(rt, err, b"explain_book", own, &mut text);
-    if !got.all {
+    let Some(len) = files::read_argument(rt, err, b"explain_book", own, &mut text) else {
         return;
-    }
-    let len = got.len;
+    };
     with_own(rt, err, &text[..len], common, count, all);
 }
 

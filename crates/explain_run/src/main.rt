@@ -35,11 +35,9 @@ fn explain_with(
         return;
     }
     let mut text = [0u8; 65537];
-    let got = files::read_argument(rt, err, b"explain_run", i, &mut text);
-    if !got.all {
+    let Some(len) = files::read_argument(rt, err, b"explain_run", i, &mut text) else {
         return;
-    }
-    let len = got.len;
+    };
     explain::explain(rt, book, own, &text[..len], all);
 }
 
@@ -59,11 +57,9 @@ fn explain_book(
         explain_with(rt, err, book, &text[..0], i + 1, all);
         return;
     }
-    let got = files::read_argument(rt, err, b"explain_run", i, &mut text);
-    if !got.all {
+    let Some(len) = files::read_argument(rt, err, b"explain_run", i, &mut text) else {
         return;
-    }
-    let len = got.len;
+    };
     explain_with(rt, err, book, &text[..len], i + 1, all);
 }
 
@@ -77,11 +73,9 @@ fn explain_named(rt: &(impl Env + Files + Print), err: &impl Print, i: usize) {
     print_word(rt, i + 2, b" ");
     print_word(rt, i + 3, b"\n");
     let mut text = [0u8; 65537];
-    let got = files::read_argument(rt, err, b"explain_run", i + 1, &mut text);
-    if !got.all {
+    let Some(len) = files::read_argument(rt, err, b"explain_run", i + 1, &mut text) else {
         return;
-    }
-    let len = got.len;
+    };
     explain_book(rt, err, &text[..len], i + 2, begins_with(rt, i, b'a'));
 }
 

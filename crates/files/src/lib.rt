@@ -7,9 +7,9 @@
 // A file's name may be any bytes, but std opens a file by UTF-8 alone: a name that is not is told as one that cannot be opened.
 #![tactic(auto)]
 
-ghost use Rattle.std.specs.Prelude.{◌≡◌, ◌+◌, ◌<◌, ◌≤◌, length, take, drop, IfOk, OnOk, OnErr, IsTrue};
+ghost use Rattle.std.specs.Prelude.{◌≡◌, ◌+◌, ◌<◌, ◌≤◌, length, take, drop, IfOk, OnErr, IfSome};
 ghost use Rattle.std.specs.Io.KnownBytes.{Consumes, Keeps, IsAtEnd};
-ghost use Rattle.files.specs.Counts.{IsPrefixLen};
+ghost use Rattle.files.specs.Counts.{IsPrefixLen, read_len};
 
 use std::env::FillError;
 use std::fs::File;
@@ -17,11 +17,11 @@ use std::io;
 use std::io::{Cursor, Read, Write};
 use std::rt::{Env, Files};
 
-// How many bytes were read, and whether these are all.
-#[derive(Clone, Copy)]
-pub struct Got {
-    pub all: bool,
+// A read that failed: how many bytes were read before it, and why.
+#[derive(Debug, Drop)]
+pub struct Unfinished {
     pub len: usize,
+    pub why: io::Error,
 }
 
 // The system's number of an argument that is missing, of one that is too long, and of a name that is no text.
@@ -31,14 +31,14 @@ const TOO_LONG: i32 = 36;
 
 const NO_TEXT: i32 = 84;
 
-// Writes bytes, and whether all of them could be written.
-pub fn put<P: Print>(to: &P, bytes: &[u8]) -> bool {
-    to.write_all(bytes).is_ok()
+// Writes bytes. What cannot be written is left out.
+pub fn put<P: Print>(to: &P, bytes: &[u8]) {
+    let _ = to.write_all(bytes);
 }
 
-// Writes a number in decimal digits, and whether it could be written.
-pub fn put_number<P: Print>(to: &P, n: u64) -> bool {
-    to.print(n).is_ok()
+// Writes a number in decimal digits. What cannot be written is left out.
+pub fn put_number<P: Print>(to: &P, n: u64) {
+    let _ = to.print(n);
 }
 
 // How many arguments the program was started with, its own name among them.
@@ -57,10 +57,7 @@ pub fn arg_count<R: Env>(rt: &R) -> usize {
 pub fn argument<R: Env>(rt: &R, i: usize, buf: &mut [u8]) -> usize
     ensures { IsPrefixLen result buf.new }
 {
-    match rt.arg(i, buf) {
-        Ok(len) => len,
-        Err(_) => 0,
-    }
+    rt.arg(i, buf).unwrap_or(0)
 }
 
 // One read, into a buffer from a place on.
@@ -75,22 +72,22 @@ fn read_at<R: Read>(file: &mut R, buf: &mut [u8], at: usize) -> io::Result<usize
     file.read(&mut buf[at..])
 }
 
-// Reads until the buffer is full, or the file ends, or a read fails: how many bytes are at the start of the buffer then, and the failure. Where the
-// file says which bytes it has left, these are the next of them.
-fn fill<R: Read>(file: &mut R, buf: &mut [u8]) -> (usize, io::Result<()>)
-    ensures within { IsPrefixLen result.0 buf.new }
-    ensures bytes { Consumes (R.remaining file.old) (R.remaining file.new) (take result.0 buf.new) }
-    ensures end { OnOk result.1 (result.0 < length buf.new → IsAtEnd (R.remaining file.new)) }
+// Reads until the buffer is full, or the file ends, or a read fails: how many bytes are at the start of the buffer then. Where the file says which bytes
+// it has left, these are the next of them.
+fn fill<R: Read>(file: &mut R, buf: &mut [u8]) -> Result<usize, Unfinished>
+    ensures within { IsPrefixLen (read_len result) buf.new }
+    ensures bytes { Consumes (R.remaining file.old) (R.remaining file.new) (take (read_len result) buf.new) }
+    ensures end { IfOk result (λ n. n < length buf.new → IsAtEnd (R.remaining file.new)) }
 {
     let mut len = 0;
     while len < buf.len() {
         match read_at(file, buf, len) {
-            Ok(0) => return (len, Ok(())),
+            Ok(0) => return Ok(len),
             Ok(n) => len += n,
-            Err(why) => return (len, Err(why)),
+            Err(why) => return Err(Unfinished { len, why }),
         }
     }
-    (len, Ok(()))
+    Ok(len)
 }
 
 // Reads until the buffer is full, or the file ends, or a read fails, and tells how many bytes are at the start of the buffer. Where the file says which
@@ -99,8 +96,10 @@ pub fn read_full<R: Read>(file: &mut R, buf: &mut [u8]) -> usize
     ensures within { IsPrefixLen result buf.new }
     ensures bytes { Consumes (R.remaining file.old) (R.remaining file.new) (take result buf.new) }
 {
-    let (len, _) = fill(file, buf);
-    len
+    match fill(file, buf) {
+        Ok(len) => len,
+        Err(unfinished) => unfinished.len,
+    }
 }
 
 // The words of an error, without the number that std puts behind them.
@@ -133,16 +132,12 @@ fn tell<P: Print>(err: &P, program: &[u8], name: &[u8], why: &io::Error) {
 
 // The bytes of an open file. Where the file says which bytes it has left, the next of them, and all of them where the buffer has room to spare and no
 // read failed.
-pub fn read_open<R: Read>(file: &mut R, text: &mut [u8; 65537]) -> Got
-    ensures within { IsPrefixLen result.len text.new }
-    ensures bytes { Consumes (R.remaining file.old) (R.remaining file.new) (take result.len text.new) }
-    ensures whole { IsTrue result.all → result.len < 65537 → IsAtEnd (R.remaining file.new) }
+pub fn read_open<R: Read>(file: &mut R, text: &mut [u8; 65537]) -> Result<usize, Unfinished>
+    ensures within { IsPrefixLen (read_len result) text.new }
+    ensures bytes { Consumes (R.remaining file.old) (R.remaining file.new) (take (read_len result) text.new) }
+    ensures whole { IfOk result (λ n. n < 65537 → IsAtEnd (R.remaining file.new)) }
 {
-    let (len, end) = fill(file, text);
-    Got {
-        all: end.is_ok(),
-        len,
-    }
+    fill(file, text)
 }
 
 // Opens the file so named.
@@ -154,28 +149,11 @@ fn open_named<R: Files>(rt: &R, name: &[u8]) -> io::Result<R::File> {
 }
 
 // The bytes of the file so named.
-fn read_named<R: Files, P: Print>(
-    rt: &R,
-    err: &P,
-    program: &[u8],
-    name: &[u8],
-    text: &mut [u8; 65537],
-) -> Got
-    ensures { IsPrefixLen result.len text.new }
+fn read_named<R: Files>(rt: &R, name: &[u8], text: &mut [u8; 65537]) -> io::Result<usize>
+    ensures { IfOk result (λ n. IsPrefixLen n text.new) }
 {
-    let mut file = match open_named(rt, name) {
-        Ok(file) => file,
-        Err(why) => {
-            tell(err, program, name, &why);
-            return Got { all: false, len: 0 };
-        }
-    };
-    let (len, end) = fill(&mut file, text);
-    if let Err(why) = end {
-        tell(err, program, name, &why);
-        return Got { all: false, len };
-    }
-    Got { all: true, len }
+    let mut file = open_named(rt, name)?;
+    fill(&mut file, text).map_err(|unfinished| unfinished.why)
 }
 
 // Why an argument did not come.
@@ -193,15 +171,22 @@ pub fn read_argument<R: Env + Files, P: Print>(
     program: &[u8],
     i: usize,
     text: &mut [u8; 65537],
-) -> Got
-    ensures { IsPrefixLen result.len text.new }
+) -> Option<usize>
+    ensures { IfSome result (λ n. IsPrefixLen n text.new) }
 {
     let mut name = [0u8; 4096];
-    match rt.arg(i, &mut name) {
-        Ok(len) => read_named(rt, err, program, &name[..len], text),
+    let len = match rt.arg(i, &mut name) {
+        Ok(len) => len,
         Err(why) => {
             tell(err, program, &name, &missed(why));
-            Got { all: false, len: 0 }
+            return None;
+        }
+    };
+    match read_named(rt, &name[..len], text) {
+        Ok(n) => Some(n),
+        Err(why) => {
+            tell(err, program, &name[..len], &why);
+            None
         }
     }
 }

@@ -85,11 +85,9 @@ fn look_up_with(rt: &(impl Env + Files + Print), err: &impl Print, own: &[u8], c
         return;
     }
     let mut text = [0u8; 65537];
-    let got = files::read_argument(rt, err, b"fill_row", 5, &mut text);
-    if !got.all {
+    let Some(len) = files::read_argument(rt, err, b"fill_row", 5, &mut text) else {
         return;
-    }
-    let len = got.len;
+    };
     look_up(rt, err, own, &text[..len]);
 }
 
@@ -108,10 +106,8 @@ fn main(rt: HostRuntime) {
         look_up_with(&rt, &err, &text[..0], count);
         return;
     }
-    let got = files::read_argument(&rt, &err, b"fill_row", 4, &mut text);
-    if !got.all {
+    let Some(len) = files::read_argument(&rt, &err, b"fill_row", 4, &mut text) else {
         return;
-    }
-    let len = got.len;
+    };
     look_up_with(&rt, &err, &text[..len], count);
 }

@@ -57,7 +57,7 @@ fn tell(err: &impl Print, written: RowWritten) {
 
 // Prints a row; where it cannot be written, that is told.
 fn print_row(rt: &impl Print, err: &impl Print, row: &[u8]) {
-    if !files::put(rt, row) {
+    if rt.write_all(row).is_err() {
         files::put(err, b"reaction_row: the row could not be written\n");
     }
 }
@@ -115,14 +115,12 @@ fn main(rt: HostRuntime) {
     }
     let mut text = [0u8; 65537];
     let mut input = rt.reader();
-    let got = files::read_open(&mut input, &mut text);
-    if !got.all {
+    let Ok(len) = files::read_open(&mut input, &mut text) else {
         files::put(
             &err,
             b"reaction_row: the record could not be read to its end\n",
         );
         return;
-    }
-    let len = got.len;
+    };
     react_as_asked(&rt, &err, &text[..len]);
 }
