@@ -1,85 +1,85 @@
 // Where the refusal of a fill book lies (02, P4, refusal 8), in words.
-use crate::words::say;
-use crate::{text_words, words};
+use crate::text_words::WrongText;
+use crate::words::{FieldCount, Grouped, RowOf};
 use fills::faults::FillFault;
 use fills::fill_rows::Whose;
+use std::fmt;
 
-// What a column of a fill book's row has to be.
-fn tell_column(rt: &impl Print, whose: Whose, column: usize) {
-    match column {
-        1 => match whose {
-            Whose::Own => say(
-                rt,
-                b"  is no member name: 1 to 12 capital letters A to Z, digits and hyphens.",
-            ),
-            Whose::Common => say(rt, b"  has to stay empty: the common book has no members."),
-        },
-        2 => say(rt, b"  is no soil: a whole number from 1 to 5."),
-        3 => say(rt, b"  is no slope: a whole number from 1 to 5."),
-        _ => say(rt, b"  is no value: a whole number from 1 to 40,000."),
-    }
-}
-
-// The name of a column of a fill book.
-fn column_name(rt: &impl Print, column: usize) {
-    match column {
-        1 => say(rt, b"member: "),
-        2 => say(rt, b"soil: "),
-        3 => say(rt, b"slope: "),
-        _ => say(rt, b"value: "),
-    }
-}
-
-// What is wrong, and where.
-fn tell_fault(rt: &impl Print, s: &[u8], whose: Whose, fault: FillFault) {
-    match fault {
-        FillFault::Sound => {}
-        FillFault::TooLong => say(
-            rt,
-            b"the text has more than 65,536 bytes\n  and a fill book has at most 65,536.",
+// The name of a column of a fill book's row, and what it has to be.
+fn column_of(whose: Whose, column: usize) -> (&'static str, &'static str) {
+    match (column, whose) {
+        (1, Whose::Own) => (
+            "member",
+            "is no member name: 1 to 12 capital letters A to Z, digits and hyphens.",
         ),
-        FillFault::Text(why) => text_words::tell(rt, s, why),
-        FillFault::Count(n, count) => {
-            words::row(rt, s, n);
-            words::fields(rt, count);
-            say(
-                rt,
-                b"  where a row of a fill book has five: member, soil, slope, value, note.",
-            );
-        }
-        FillFault::Column(n, column) => {
-            words::row(rt, s, n);
-            say(rt, b", column ");
-            words::number(rt, column as u64);
-            say(rt, b", ");
-            column_name(rt, column);
-            words::field(rt, csv_text::places::cell_of(s, n, column));
-            say(rt, b"\n");
-            tell_column(rt, whose, column);
-        }
-        FillFault::Twice(n, earlier) => {
-            words::row(rt, s, n);
-            match whose {
-                Whose::Own => say(rt, b"\n  lists the member, soil and slope of "),
-                Whose::Common => say(rt, b"\n  lists the soil and slope of "),
+        (1, Whose::Common) => (
+            "member",
+            "has to stay empty: the common book has no members.",
+        ),
+        (2, _) => ("soil", "is no soil: a whole number from 1 to 5."),
+        (3, _) => ("slope", "is no slope: a whole number from 1 to 5."),
+        _ => ("value", "is no value: a whole number from 1 to 40,000."),
+    }
+}
+
+// Where the refusal of a fill book lies.
+#[derive(Clone, Copy)]
+pub(crate) struct WrongFills<'a> {
+    pub(crate) text: &'a [u8],
+    pub(crate) whose: Whose,
+    pub(crate) fault: FillFault,
+}
+
+impl<'a> WrongFills<'a> {
+    // What is wrong, and where.
+    fn fmt_fault<W: fmt::Write>(&self, f: &mut fmt::Formatter<W>) -> fmt::Result {
+        let text = self.text;
+        match self.fault {
+            FillFault::Sound => Ok(()),
+            FillFault::TooLong => write!(
+                f,
+                "the text has more than 65,536 bytes\n  and a fill book has at most 65,536."
+            ),
+            FillFault::Text(fault) => write!(f, "{}", WrongText { text, fault }),
+            FillFault::Count(row, count) => write!(
+                f,
+                "{} has {}\n  where a row of a fill book has five: member, soil, slope, value, note.",
+                RowOf { text, row },
+                FieldCount(count),
+            ),
+            FillFault::Column(row, column) => {
+                let row = RowOf { text, row };
+                let (name, expected) = column_of(self.whose, column);
+                write!(
+                    f,
+                    "{row}, column {}, {name}: {}\n  {expected}",
+                    Grouped(column as u64),
+                    row.field(column)
+                )
             }
-            words::row(rt, s, earlier);
-            say(rt, b" once more: each is listed once.");
+            FillFault::Twice(row, earlier) => {
+                let listed = match self.whose {
+                    Whose::Own => "member, soil and slope",
+                    Whose::Common => "soil and slope",
+                };
+                write!(
+                    f,
+                    "{}\n  lists the {listed} of {} once more: each is listed once.",
+                    RowOf { text, row },
+                    RowOf { text, row: earlier },
+                )
+            }
         }
     }
 }
 
-// Where the refusal of a fill book lies; and whether there is one.
-pub(crate) fn tell(rt: &impl Print, s: &[u8], whose: Whose) -> bool {
-    let fault = fills::faults::fill_fault(s, whose);
-    if let FillFault::Sound = fault {
-        return false;
+impl<'a> fmt::Display for WrongFills<'a> {
+    fn fmt<W: fmt::Write>(&self, f: &mut fmt::Formatter<W>) -> fmt::Result {
+        match self.whose {
+            Whose::Own => write!(f, "the own fill book: ")?,
+            Whose::Common => write!(f, "the common fill book: ")?,
+        }
+        self.fmt_fault(f)?;
+        writeln!(f, "   [refusal 8]")
     }
-    match whose {
-        Whose::Own => say(rt, b"the own fill book: "),
-        Whose::Common => say(rt, b"the common fill book: "),
-    }
-    tell_fault(rt, s, whose, fault);
-    words::refusal(rt, 8);
-    true
 }

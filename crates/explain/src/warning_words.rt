@@ -1,127 +1,67 @@
 // What is odd in a job that is not refused, in words: a warning is no refusal, and no verdict rests on it.
-use crate::words::say;
-use crate::{job_words, words};
-use jobs::Job;
+use crate::job_words::{JobOf, JobRow};
+use crate::words::Grouped;
 use kinds::Row;
 use lines::Answer;
+use std::io;
 use warnings::OneWay;
 
-// The end of a warning.
-fn warned(rt: &impl Print) {
-    say(rt, b"   [warning]\n");
+// Forces, so named, that act one way only.
+fn tell_way(rt: &impl Print, job: JobOf, forces: &str, way: OneWay) -> io::Result<()> {
+    let toward = match way {
+        OneWay::Neither => return Ok(()),
+        OneWay::Forward => "+x",
+        OneWay::Backward => "-x",
+    };
+    println!(rt;
+        "{}\n  {forces} acts toward {toward} only: a row with the other sign tries the other way.   [warning]",
+        job.row(1)
+    )
 }
 
-// A warning of a job as a whole.
-fn tell_job(rt: &impl Print, book: &[u8], first: usize, words: &[u8]) {
-    job_words::tell_row(rt, book, first);
-    say(rt, words);
-    warned(rt);
-}
-
-// Forces that act one way only.
-fn tell_way(
-    rt: &impl Print,
-    book: &[u8],
-    first: usize,
-    way: OneWay,
-    forward: &[u8],
-    backward: &[u8],
-) {
-    match way {
-        OneWay::Neither => {}
-        OneWay::Forward => tell_job(rt, book, first, forward),
-        OneWay::Backward => tell_job(rt, book, first, backward),
-    }
-}
-
-// What is odd in a load row.
-fn tell_load(rt: &impl Print, book: &[u8], n: usize, width: u32, row: Row) {
+// What is odd in a load row, on a base of this width.
+fn tell_load(rt: &impl Print, place: JobRow, width: u32, row: Row) -> io::Result<()> {
     let odd = warnings::row_warnings(width, row);
-    let kind = row.kind;
     if odd.outside {
-        job_words::tell_number(rt, book, n, kind, 5);
-        say(
-            rt,
-            b"  V stands outside the base: x is measured from the middle of the base, which is ",
-        );
-        words::number(rt, width as u64);
-        say(rt, b" mm wide.");
-        warned(rt);
+        println!(rt;
+            "{}\n  V stands outside the base: x is measured from the middle of the base, which is {} mm wide.   [warning]",
+            place.number(row.kind, 5),
+            Grouped(width as u64)
+        )?;
     }
     if odd.low {
-        job_words::tell_number(rt, book, n, kind, 7);
-        say(
-            rt,
-            b"  is below 100 mm, and H is not 0: metres written for millimetres?",
-        );
-        warned(rt);
+        println!(rt;
+            "{}\n  is below 100 mm, and H is not 0: metres written for millimetres?   [warning]",
+            place.number(row.kind, 7)
+        )?;
     }
+    Ok(())
 }
 
-// What is odd in the load rows, of which the first stands at this row of the book.
-fn tell_loads(rt: &impl Print, book: &[u8], from: usize, job: Job) {
-    let width = job.base.n1.size;
-    let rows = job.loads;
-    let mut n = from;
-    let mut i: usize = 0;
-    while i < job.count {
-        if 16 <= i {
-            return;
-        }
-        if 65536 < n {
-            return;
-        }
-        let row = rows[i];
-        tell_load(rt, book, n, width, row);
-        n += 1;
-        i += 1;
+// What is odd in the load rows, the last of the job.
+fn tell_loads(rt: &impl Print, told: JobOf) -> io::Result<()> {
+    let job = told.job;
+    let before = job_faults::row_count(*job).saturating_sub(job.count);
+    for (i, row) in job.loads.iter().take(job.count).enumerate() {
+        let place = JobRow(told.base.behind(before).behind(i));
+        tell_load(rt, place, job.base.n1.size, *row)?;
     }
+    Ok(())
 }
 
-// What is odd in a job that is not refused, of which the B row is this row of the book.
-pub(crate) fn tell(rt: &impl Print, book: &[u8], first: usize, job: Job, answer: Answer) {
+// What is odd in a job that is not refused.
+pub(crate) fn tell(rt: &impl Print, told: JobOf, answer: Answer) -> io::Result<()> {
+    let base = told.row(1);
     if warnings::unserved(answer) {
-        tell_job(
-            rt,
-            book,
-            first,
-            b"\n  No service combination was checked: no set of its load rows stands in I, II or III.",
-        );
+        println!(rt;
+            "{base}\n  No service combination was checked: no set of its load rows stands in I, II or III.   [warning]"
+        )?;
     }
-    let rows = job.loads;
-    let odd = warnings::job_warnings(rows, job.count);
+    let odd = warnings::job_warnings(told.job.loads, told.job.count);
     if odd.no_dead {
-        tell_job(rt, book, first, b"\n  The job has no DL row.");
+        println!(rt; "{base}\n  The job has no DL row.   [warning]")?;
     }
-    let wind = odd.wind;
-    tell_way(
-        rt,
-        book,
-        first,
-        wind,
-        b"\n  Wind (WL) acts toward +x only: a row with the other sign tries the other way.",
-        b"\n  Wind (WL) acts toward -x only: a row with the other sign tries the other way.",
-    );
-    let earthquake = odd.earthquake;
-    tell_way(
-        rt,
-        book,
-        first,
-        earthquake,
-        b"\n  Earthquake (SF) acts toward +x only: a row with the other sign tries the other way.",
-        b"\n  Earthquake (SF) acts toward -x only: a row with the other sign tries the other way.",
-    );
-    let count = job_faults::row_count(job);
-    let loads = job.count;
-    if count < loads {
-        return;
-    }
-    let before = count - loads;
-    if 65536 < before {
-        return;
-    }
-    if 65536 < first {
-        return;
-    }
-    tell_loads(rt, book, first + before, job);
+    tell_way(rt, told, "Wind (WL)", odd.wind)?;
+    tell_way(rt, told, "Earthquake (SF)", odd.earthquake)?;
+    tell_loads(rt, told)
 }

@@ -1,144 +1,168 @@
-// What is told, piece by piece, to what is lent for printing: words, numbers, a field's bytes, and where a row stands.
+// What is told, piece by piece, each a value that prints itself: numbers, a field's bytes, and where a row stands.
 //
 // A field is shown as it lies in the book, and safely: a byte that is not printable by its number, and a long field by its first bytes.
+use csv_text::places;
+use kinds::letters::KindRead;
+use std::fmt;
 
 // How many bytes of a field are shown.
 const SHOWN: usize = 60;
 
-// Words.
-pub(crate) fn say(rt: &impl Print, words: &[u8]) {
-    files::put(rt, words);
-}
-
-// Three digits of a number, behind those before them.
-fn group(rt: &impl Print, n: u64) {
-    say(rt, b",");
-    if n < 100 {
-        say(rt, b"0");
-    }
-    if n < 10 {
-        say(rt, b"0");
-    }
-    files::put_number(rt, n);
-}
-
 // A number, its digits in threes.
-pub(crate) fn number(rt: &impl Print, n: u64) {
-    let thousands = n / 1000;
-    let millions = n / 1000000;
-    if 0 < millions {
-        files::put_number(rt, millions);
-        group(rt, thousands % 1000);
-        group(rt, n % 1000);
-        return;
+#[derive(Clone, Copy)]
+pub(crate) struct Grouped(pub(crate) u64);
+
+impl fmt::Display for Grouped {
+    fn fmt<W: fmt::Write>(&self, f: &mut fmt::Formatter<W>) -> fmt::Result {
+        let n = self.0;
+        let thousands = n / 1000;
+        let millions = n / 1_000_000;
+        if 0 < millions {
+            write!(f, "{millions},{:03},{:03}", thousands % 1000, n % 1000)
+        } else if 0 < thousands {
+            write!(f, "{thousands},{:03}", n % 1000)
+        } else {
+            write!(f, "{n}")
+        }
     }
-    if 0 < thousands {
-        files::put_number(rt, thousands);
-        group(rt, n % 1000);
-        return;
-    }
-    files::put_number(rt, n);
 }
 
 // A byte as it is, or by its number where it is not printable.
-pub(crate) fn byte(rt: &impl Print, b: u8) {
-    if (0x20 <= b) & (b <= 0x7E) {
-        let one = [b; 1];
-        say(rt, &one);
-        return;
+#[derive(Clone, Copy)]
+struct Byte(u8);
+
+impl fmt::Display for Byte {
+    fn fmt<W: fmt::Write>(&self, f: &mut fmt::Formatter<W>) -> fmt::Result {
+        let byte = self.0;
+        match byte {
+            b' '..=b'~' => write!(f, "{}", char::from(byte)),
+            _ => write!(f, "<{byte}>"),
+        }
     }
-    say(rt, b"<");
-    number(rt, b as u64);
-    say(rt, b">");
 }
 
 // The first bytes of a stretch.
-pub(crate) fn bytes(rt: &impl Print, raw: &[u8]) {
-    let mut i: usize = 0;
-    while i < raw.len() {
-        if SHOWN <= i {
-            say(rt, b"..");
-            return;
-        }
-        byte(rt, raw[i]);
-        i += 1;
-    }
-}
+#[derive(Clone, Copy)]
+struct Bytes<'a>(&'a [u8]);
 
-// Whether a field is quoted.
-fn is_quoted(raw: &[u8]) -> bool {
-    if raw.len() < 2 {
-        return false;
+impl<'a> fmt::Display for Bytes<'a> {
+    fn fmt<W: fmt::Write>(&self, f: &mut fmt::Formatter<W>) -> fmt::Result {
+        for byte in self.0.iter().take(SHOWN) {
+            write!(f, "{}", Byte(*byte))?;
+        }
+        if SHOWN < self.0.len() {
+            return write!(f, "..");
+        }
+        Ok(())
     }
-    raw[0] == 0x22
 }
 
 // A field as it lies in the book, between quotes: its own, where it has them.
-pub(crate) fn field(rt: &impl Print, raw: &[u8]) {
-    if is_quoted(raw) {
-        bytes(rt, raw);
-        return;
+#[derive(Clone, Copy)]
+pub(crate) struct Field<'a>(pub(crate) &'a [u8]);
+
+impl<'a> fmt::Display for Field<'a> {
+    fn fmt<W: fmt::Write>(&self, f: &mut fmt::Formatter<W>) -> fmt::Result {
+        match self.0 {
+            [b'"', _, ..] => write!(f, "{}", Bytes(self.0)),
+            _ => write!(f, "\"{}\"", Bytes(self.0)),
+        }
     }
-    say(rt, b"\"");
-    bytes(rt, raw);
-    say(rt, b"\"");
 }
 
 // What a field of good form says, without its quotes.
-fn content(rt: &impl Print, raw: &[u8]) {
-    if raw.len() < 2 {
-        bytes(rt, raw);
-        return;
+fn content(raw: &[u8]) -> Bytes<'_> {
+    match raw {
+        [b'"', inside @ .., _] => Bytes(inside),
+        _ => Bytes(raw),
     }
-    if raw[0] == 0x22 {
-        let end = raw.len() - 1;
-        bytes(rt, &raw[1..end]);
-        return;
+}
+
+// A row of a text.
+#[derive(Clone, Copy)]
+pub(crate) struct RowOf<'a> {
+    pub(crate) text: &'a [u8],
+    pub(crate) row: usize,
+}
+
+impl<'a> RowOf<'a> {
+    // The row so many rows behind.
+    pub(crate) fn behind(self, rows: usize) -> RowOf<'a> {
+        RowOf {
+            text: self.text,
+            row: self.row.saturating_add(rows),
+        }
     }
-    bytes(rt, raw);
+
+    // Whether the text has such a row.
+    pub(crate) fn is_there(self) -> bool {
+        places::start_of(self.text, self.row) < self.text.len()
+    }
+
+    // The kind that its third field is.
+    pub(crate) fn kind(self) -> KindRead {
+        kinds::letters::kind_at(places::cell_of(self.text, self.row, 3))
+    }
+
+    // What a field of the row says.
+    fn says(self, column: usize) -> Bytes<'a> {
+        content(places::cell_of(self.text, self.row, column))
+    }
+
+    // A field of the row as it lies there.
+    pub(crate) fn field(self, column: usize) -> Field<'a> {
+        Field(places::cell_of(self.text, self.row, column))
+    }
+
+    // Member and job, where the row is of good form.
+    pub(crate) fn key(self) -> KeyOf<'a> {
+        KeyOf(self)
+    }
 }
 
 // A row as a sheet counts it, and the line on which it begins as an editor counts it.
-pub(crate) fn row(rt: &impl Print, book: &[u8], n: usize) {
-    let start = csv_text::places::start_of(book, n);
-    say(rt, b"row ");
-    number(rt, n as u64);
-    say(rt, b" (line ");
-    number(rt, csv_text::places::line_of(book, start) as u64);
-    say(rt, b" of the text)");
+impl<'a> fmt::Display for RowOf<'a> {
+    fn fmt<W: fmt::Write>(&self, f: &mut fmt::Formatter<W>) -> fmt::Result {
+        let start = places::start_of(self.text, self.row);
+        let line = places::line_of(self.text, start);
+        write!(
+            f,
+            "row {} (line {} of the text)",
+            Grouped(self.row as u64),
+            Grouped(line as u64),
+        )
+    }
 }
 
-// Member and job of a row of good form.
-pub(crate) fn key(rt: &impl Print, book: &[u8], n: usize) {
-    content(rt, csv_text::places::cell_of(book, n, 1));
-    say(rt, b",");
-    content(rt, csv_text::places::cell_of(book, n, 2));
+// Member and job of a row.
+#[derive(Clone, Copy)]
+pub(crate) struct KeyOf<'a>(RowOf<'a>);
+
+impl<'a> fmt::Display for KeyOf<'a> {
+    fn fmt<W: fmt::Write>(&self, f: &mut fmt::Formatter<W>) -> fmt::Result {
+        write!(f, "{},{}", self.0.says(1), self.0.says(2))
+    }
 }
 
 // A row with its kind and key.
-pub(crate) fn keyed_row(rt: &impl Print, book: &[u8], n: usize) {
-    row(rt, book, n);
-    say(rt, b", ");
-    content(rt, csv_text::places::cell_of(book, n, 3));
-    say(rt, b" of ");
-    key(rt, book, n);
-    say(rt, b"\n");
+#[derive(Clone, Copy)]
+pub(crate) struct Keyed<'a>(pub(crate) RowOf<'a>);
+
+impl<'a> fmt::Display for Keyed<'a> {
+    fn fmt<W: fmt::Write>(&self, f: &mut fmt::Formatter<W>) -> fmt::Result {
+        let row = self.0;
+        write!(f, "{row}, {} of {}", row.says(3), row.key())
+    }
 }
 
 // How many fields a row has.
-pub(crate) fn fields(rt: &impl Print, count: usize) {
-    say(rt, b" has ");
-    number(rt, count as u64);
-    if count == 1 {
-        say(rt, b" field\n");
-        return;
-    }
-    say(rt, b" fields\n");
-}
+#[derive(Clone, Copy)]
+pub(crate) struct FieldCount(pub(crate) usize);
 
-// The number of a refusal, behind what is told of it.
-pub(crate) fn refusal(rt: &impl Print, n: u64) {
-    say(rt, b"   [refusal ");
-    number(rt, n);
-    say(rt, b"]\n");
+impl fmt::Display for FieldCount {
+    fn fmt<W: fmt::Write>(&self, f: &mut fmt::Formatter<W>) -> fmt::Result {
+        let count = self.0;
+        let noun = if count == 1 { "field" } else { "fields" };
+        write!(f, "{} {noun}", Grouped(count as u64))
+    }
 }
