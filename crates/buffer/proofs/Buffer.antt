@@ -8,8 +8,8 @@ use lib.ListN.{length, take, drop, length-take}
 use lib.Seq.{take_all}
 use Rattle.arithmetic.proofs.Cases.{impossible}
 use Rattle.block.specs.declared.Block.{Block}
-use Rattle.buffer.specs.declared.Copied.{Copied}
-use Rattle.buffer.specs.declared.Copied.TheVariants.{Length, TooShort}
+use Rattle.std.specs.Prelude.{Result, Ok, Err}
+use Rattle.buffer.specs.declared.TooShort.{TooShort}
 use Rattle.block.specs.Block.{text_held}
 use Rattle.buffer.specs.Copying.{CopyTold, wrote, refused, copy_told, Wrote}
 
@@ -25,12 +25,12 @@ module _ (block : Block) (n : ℕ) (whole : length block.bytes ≡ 2048) (cut : 
     | no h ↦ take_all n block.bytes (omega arith) ∙ sym (take_all block.len block.bytes (omega arith))
   ]
 
-  pub too_short : (before : List ℕ) → length before < n → Wrote (text_held block) before before (copy_told TooShort)
+  pub too_short : (before : List ℕ) (short : TooShort) → length before < n → Wrote (text_held block) before before (copy_told (Err short))
   unfolding Wrote copy_told
-  too_short before h = (rw held_length h, refl, refl, refl)
+  too_short before short h = (rw held_length h, refl, refl, refl)
 
   pub written_whole : (before after source : List ℕ) → n ≤ length before → source ≡ take n block.bytes
-      → after ≡ source ++ drop n before → Wrote (text_held block) before after (copy_told (Length n))
+      → after ≡ source ++ drop n before → Wrote (text_held block) before after (copy_told (Ok n))
   unfolding Wrote copy_told
   written_whole before after source h e copied =
       let s : source ≡ text_held block = e ∙ held_bytes in
@@ -43,9 +43,9 @@ wrote_one t before after after' (wrote m) (refused k row) p q = absurd (omega ar
 wrote_one t before after after' (refused k row) (wrote n) p q = absurd (omega arith)
 wrote_one t before after after' (refused k row) (refused j line) p q = (cc (p.1, p.2, q.1, q.2), p.3 ∙ sym q.3)
 
-pub copy_told_one : (a b : Copied) → copy_told a ≡ copy_told b → a ≡ b
+pub copy_told_one : (a b : Result ℕ TooShort) → copy_told a ≡ copy_told b → a ≡ b
 unfolding copy_told
-copy_told_one (Length m) (Length n) e = cc
-copy_told_one (Length m) TooShort e = impossible cc
-copy_told_one TooShort (Length n) e = impossible cc
-copy_told_one TooShort TooShort e = refl
+copy_told_one (Ok m) (Ok n) e = cc
+copy_told_one (Ok m) (Err t) e = impossible cc
+copy_told_one (Err s) (Ok n) e = impossible cc
+copy_told_one (Err s) (Err t) e = refl

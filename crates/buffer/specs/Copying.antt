@@ -1,17 +1,16 @@
 -- Document 01, Refusals of a book: "7, the buffer lent is shorter than the lines", with row 0. "Nothing is written by a call refused ..
 -- Otherwise exactly the lines' bytes are written from the start and the rest is untouched."
-use Rattle.std.specs.Prelude.{ℕ, ◌≤◌, ◌<◌, ◌≡◌, List, ◌++◌, length, drop}
-use Rattle.buffer.specs.declared.Copied.{Copied}
-use Rattle.buffer.specs.declared.Copied.TheVariants.{Length, TooShort}
+use Rattle.std.specs.Prelude.{ℕ, ◌≤◌, ◌<◌, ◌≡◌, List, ◌++◌, length, drop, Result, Ok, Err}
+use Rattle.buffer.specs.declared.TooShort.{TooShort}
 
 -- the length written, or a refusal and its row
 pub data CopyTold : Type 0 where
   wrote : ℕ → CopyTold
   refused : ℕ → ℕ → CopyTold
 
-unfoldable pub copy_told : Copied → CopyTold
-copy_told (Length n) = wrote n
-copy_told TooShort = refused 7 0
+unfoldable pub copy_told : Result ℕ TooShort → CopyTold
+copy_told (Ok n) = wrote n
+copy_told (Err short) = refused 7 0
 
 -- what is said of writing the text t into a buffer that held before and holds after then
 unfoldable pub Wrote : List ℕ → List ℕ → List ℕ → CopyTold → Type 0

@@ -10,22 +10,19 @@ ghost use Rattle.buffer.specs.Copying.{Wrote, copy_told};
 
 use block::Block;
 
-// What came of writing into a lent buffer: the length written, or refusal 7.
+// Refusal 7: a lent buffer is shorter than the text.
 #[derive(Clone, Copy)]
-pub enum Copied {
-    Length(usize),
-    TooShort,
-}
+pub struct TooShort;
 
-// A block's text at the start of a lent buffer, if it has room; else nothing.
-pub fn write_block(block: Block, out: &mut [u8]) -> Copied
+// A block's text at the start of a lent buffer, if it has room, and its length; else nothing.
+pub fn write_block(block: Block, out: &mut [u8]) -> Result<usize, TooShort>
     ensures { Wrote (text_held block) out.old out.new (copy_told result) }
 {
-    let len = if block.len < 2048 { block.len } else { 2048 };
+    let len = block.len.min(2048);
     if out.len() < len {
-        return Copied::TooShort;
+        return Err(TooShort);
     }
     let page = block.bytes;
     out[..len].copy_from_slice(&page[..len]);
-    Copied::Length(len)
+    Ok(len)
 }

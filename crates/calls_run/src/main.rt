@@ -11,7 +11,7 @@
 ghost use Rattle.std.specs.Prelude.{◌≤◌};
 ghost use Rattle.files.specs.Counts.{IsPrefixLen};
 
-use debtarush::Written;
+use debtarush::CallRefusal;
 use std::fs::File;
 use std::rt::Files;
 
@@ -43,15 +43,15 @@ fn call_with(rt: &impl Print, book: &[u8], own: &[u8], common: &[u8], place: usi
     show_number(rt, b" buffer ", lent);
     let told = debtarush::job_lines(book, own, common, place, out);
     match told {
-        Written::Length(n) => show_number(rt, b": written ", n),
-        Written::BookRefused(why, row) => put_refusal(
+        Ok(n) => show_number(rt, b": written ", n),
+        Err(CallRefusal::BookRefused { why, row }) => put_refusal(
             rt,
             rows::refusals::number_of(why) as usize,
             row,
         ),
-        Written::FillsRefused => put_refusal(rt, 8, 0),
-        Written::NoPlace => put_refusal(rt, 10, 0),
-        Written::TooShort => put_refusal(rt, 7, 0),
+        Err(CallRefusal::FillsRefused) => put_refusal(rt, 8, 0),
+        Err(CallRefusal::NoPlace) => put_refusal(rt, 10, 0),
+        Err(CallRefusal::TooShort) => put_refusal(rt, 7, 0),
     }
     put_bytes(rt, out);
 }

@@ -7,8 +7,8 @@ use lib.ListN.{length, take, drop, length-append, length-drop, length-take, drop
 use lib.Seq.{take_all, drop-drop, take-append_seam, drop-append-add}
 use Rattle.block.specs.declared.Block.{Block}
 use Rattle.block.specs.Block.{text_held}
-use Rattle.buffer.specs.declared.Copied.{Copied}
-use Rattle.buffer.specs.declared.Copied.TheVariants.{Length, TooShort}
+use Rattle.std.specs.Prelude.{Result, Ok, Err}
+use Rattle.buffer.specs.declared.TooShort.{TooShort}
 use Rattle.buffer.specs.Copying.{copy_told, Wrote}
 use Rattle.debtarush.specs.steps.Behind.{Behind}
 
@@ -28,25 +28,25 @@ module _ (at : ℕ) (text out last : List ℕ) where
   nothing_behind : drop (length out - at) (drop at out) ≡ []
   nothing_behind = drop_of_length-le (drop at out) {i = length out - at} (rw length-drop (omega arith))
 
-  pub appended : {w : Copied} {n : ℕ} → w ≡ Length n → Wrote text part last (copy_told w)
+  pub appended : {w : Result ℕ TooShort} {n : ℕ} → w ≡ Ok n → Wrote text part last (copy_told w)
       → Behind at text out (take at out ++ (last ++ drop (length out - at) (drop at out))) (at + n)
   unfolding Wrote copy_told
   appended e v =
-      let u = subst (λ (x : Copied). Wrote text part last (copy_told x)) e v in
+      let u = subst (λ (x : Result ℕ TooShort). Wrote text part last (copy_told x)) e v in
       record { ends = ap (λ (m : ℕ). at + m) u.1; whole = rw (nothing_behind, append-nil, u.2, part_whole, drop-drop, u.1) }
 
   -- there is room, so that nothing is refused, and the end fits
-  pub no_room : at + length text ≤ length out → {w : Copied} → w ≡ TooShort → Wrote text part last (copy_told w) → ⊥
+  pub no_room : at + length text ≤ length out → {w : Result ℕ TooShort} {short : TooShort} → w ≡ Err short → Wrote text part last (copy_told w) → ⊥
   unfolding Wrote copy_told
   no_room room e v =
-      let u = subst (λ (x : Copied). Wrote text part last (copy_told x)) e v in
+      let u = subst (λ (x : Result ℕ TooShort). Wrote text part last (copy_told x)) e v in
       let short = u.0 in
       omega (arith, ap length part_whole, length-drop at out)
 
-  pub ends_within : at + length text ≤ length out → {w : Copied} {n : ℕ} → w ≡ Length n → Wrote text part last (copy_told w) → at + n ≤ length out
+  pub ends_within : at + length text ≤ length out → {w : Result ℕ TooShort} {n : ℕ} → w ≡ Ok n → Wrote text part last (copy_told w) → at + n ≤ length out
   unfolding Wrote copy_told
   ends_within room e v =
-      let u = subst (λ (x : Copied). Wrote text part last (copy_told x)) e v in
+      let u = subst (λ (x : Result ℕ TooShort). Wrote text part last (copy_told x)) e v in
       omega (arith, u.1)
 
 -- a text at the start of a buffer, and the rest of the buffer as it was

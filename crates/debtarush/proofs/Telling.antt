@@ -5,8 +5,9 @@ use mathlib.Core.Path.{◌≡◌, refl, sym, ap}
 use Rattle.arithmetic.proofs.Cases.{impossible}
 use Rattle.rows.proofs.refusals.Numbers.{number_low, number_one}
 use Rattle.debtarush.specs.CallTold.{written, refused, call_told}
-use Rattle.debtarush.specs.declared.Written.{Written}
-use Rattle.debtarush.specs.declared.Written.TheVariants.{Length, BookRefused, FillsRefused, NoPlace, TooShort}
+use Rattle.std.specs.Prelude.{Result, Ok, Err}
+use Rattle.debtarush.specs.declared.CallRefusal.{CallRefusal}
+use Rattle.debtarush.specs.declared.CallRefusal.TheVariants.{BookRefused, FillsRefused, NoPlace, TooShort}
 
 same_length : {m n : ℕ} → written m ≡ written n → m ≡ n
 same_length e = cc
@@ -20,29 +21,29 @@ same_row e = cc
 length_or_refusal : {m n r : ℕ} → written m ≡ refused n r → ⊥
 length_or_refusal e = impossible cc
 
-pub call_told_one : (a b : Written) → call_told a ≡ call_told b → a ≡ b
-call_told_one (Length m) (Length n) e = ap Length (same_length e)
-call_told_one (Length m) (BookRefused why row) e = absurd (length_or_refusal e)
-call_told_one (Length m) FillsRefused e = absurd (length_or_refusal e)
-call_told_one (Length m) NoPlace e = absurd (length_or_refusal e)
-call_told_one (Length m) TooShort e = absurd (length_or_refusal e)
-call_told_one (BookRefused why row) (Length n) e = absurd (length_or_refusal (sym e))
-call_told_one (BookRefused why row) (BookRefused other place) e = λ i. BookRefused (number_one why other (same_number e) i) (same_row e i)
-call_told_one (BookRefused why row) FillsRefused e = absurd (omega (arith, number_low why, same_number e))
-call_told_one (BookRefused why row) NoPlace e = absurd (omega (arith, number_low why, same_number e))
-call_told_one (BookRefused why row) TooShort e = absurd (omega (arith, number_low why, same_number e))
-call_told_one FillsRefused (Length n) e = absurd (length_or_refusal (sym e))
-call_told_one FillsRefused (BookRefused why row) e = absurd (omega (arith, number_low why, same_number e))
-call_told_one FillsRefused FillsRefused e = refl
-call_told_one FillsRefused NoPlace e = absurd (omega (arith, same_number e))
-call_told_one FillsRefused TooShort e = absurd (omega (arith, same_number e))
-call_told_one NoPlace (Length n) e = absurd (length_or_refusal (sym e))
-call_told_one NoPlace (BookRefused why row) e = absurd (omega (arith, number_low why, same_number e))
-call_told_one NoPlace FillsRefused e = absurd (omega (arith, same_number e))
-call_told_one NoPlace NoPlace e = refl
-call_told_one NoPlace TooShort e = absurd (omega (arith, same_number e))
-call_told_one TooShort (Length n) e = absurd (length_or_refusal (sym e))
-call_told_one TooShort (BookRefused why row) e = absurd (omega (arith, number_low why, same_number e))
-call_told_one TooShort FillsRefused e = absurd (omega (arith, same_number e))
-call_told_one TooShort NoPlace e = absurd (omega (arith, same_number e))
-call_told_one TooShort TooShort e = refl
+pub call_told_one : (a b : Result ℕ CallRefusal) → call_told a ≡ call_told b → a ≡ b
+call_told_one (Ok m) (Ok n) e = ap Ok (same_length e)
+call_told_one (Ok m) (Err (BookRefused why row)) e = absurd (length_or_refusal e)
+call_told_one (Ok m) (Err FillsRefused) e = absurd (length_or_refusal e)
+call_told_one (Ok m) (Err NoPlace) e = absurd (length_or_refusal e)
+call_told_one (Ok m) (Err TooShort) e = absurd (length_or_refusal e)
+call_told_one (Err (BookRefused why row)) (Ok n) e = absurd (length_or_refusal (sym e))
+call_told_one (Err (BookRefused why row)) (Err (BookRefused other place)) e = λ i. Err (BookRefused (number_one why other (same_number e) i) (same_row e i))
+call_told_one (Err (BookRefused why row)) (Err FillsRefused) e = absurd (omega (arith, number_low why, same_number e))
+call_told_one (Err (BookRefused why row)) (Err NoPlace) e = absurd (omega (arith, number_low why, same_number e))
+call_told_one (Err (BookRefused why row)) (Err TooShort) e = absurd (omega (arith, number_low why, same_number e))
+call_told_one (Err FillsRefused) (Ok n) e = absurd (length_or_refusal (sym e))
+call_told_one (Err FillsRefused) (Err (BookRefused why row)) e = absurd (omega (arith, number_low why, same_number e))
+call_told_one (Err FillsRefused) (Err FillsRefused) e = refl
+call_told_one (Err FillsRefused) (Err NoPlace) e = absurd (omega (arith, same_number e))
+call_told_one (Err FillsRefused) (Err TooShort) e = absurd (omega (arith, same_number e))
+call_told_one (Err NoPlace) (Ok n) e = absurd (length_or_refusal (sym e))
+call_told_one (Err NoPlace) (Err (BookRefused why row)) e = absurd (omega (arith, number_low why, same_number e))
+call_told_one (Err NoPlace) (Err FillsRefused) e = absurd (omega (arith, same_number e))
+call_told_one (Err NoPlace) (Err NoPlace) e = refl
+call_told_one (Err NoPlace) (Err TooShort) e = absurd (omega (arith, same_number e))
+call_told_one (Err TooShort) (Ok n) e = absurd (length_or_refusal (sym e))
+call_told_one (Err TooShort) (Err (BookRefused why row)) e = absurd (omega (arith, number_low why, same_number e))
+call_told_one (Err TooShort) (Err FillsRefused) e = absurd (omega (arith, same_number e))
+call_told_one (Err TooShort) (Err NoPlace) e = absurd (omega (arith, same_number e))
+call_told_one (Err TooShort) (Err TooShort) e = refl

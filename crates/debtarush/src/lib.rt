@@ -19,18 +19,28 @@ ghost use Rattle.debtarush.specs.BookText.{BookPrinted};
 
 use block::Block;
 use book::counted::Count;
-use buffer::Copied;
+use buffer::TooShort;
 use jobs::Job;
 use rows::refusals::Refusal;
 
-// The length written; or the refusal of the book with its row, of the fill books, of the place, or of the buffer.
+// Why a call is refused: the refusal of the book with its row, of the fill books, of the place, or of the buffer.
 #[derive(Clone, Copy)]
-pub enum Written {
-    Length(usize),
-    BookRefused(Refusal, usize),
+pub enum CallRefusal {
+    BookRefused { why: Refusal, row: usize },
     FillsRefused,
     NoPlace,
     TooShort,
+}
+
+impl From<TooShort> for CallRefusal {
+    ghost use Rattle.std.specs.Prelude.{◌≡◌};
+    ghost use Rattle.debtarush.specs.declared.CallRefusal as call;
+
+    ghost from_gives = { λ _ e. e ≡ call.CallRefusal.TooShort };
+
+    fn from(_short: TooShort) -> CallRefusal {
+        CallRefusal::TooShort
+    }
 }
 
 // The bytes of a job's lines: its answer, with what is held of fills for its member, printed.
@@ -48,8 +58,8 @@ fn append(out: &mut [u8], at: usize, block: Block) -> usize
     ensures { Behind at (text_held block) out.old out.new result }
 {
     match buffer::write_block(block, &mut out[at..]) {
-        Copied::Length(len) => at + len,
-        Copied::TooShort => at,
+        Ok(len) => at + len,
+        Err(_) => at,
     }
 }
 
@@ -76,35 +86,30 @@ fn gather(
     fills::values_for(own, common, members, n, values)
 }
 
-// The lines of the job at a place of a book, written to the start of a lent buffer.
-pub fn job_lines(book: &[u8], own: &[u8], common: &[u8], place: usize, out: &mut [u8]) -> Written
+// The lines of the job at a place of a book, written to the start of a lent buffer, and their length.
+pub fn job_lines(
+    book: &[u8],
+    own: &[u8],
+    common: &[u8],
+    place: usize,
+    out: &mut [u8],
+) -> Result<usize, CallRefusal>
     ensures { Called own.now common.now book.now place out.old out.new (call_told result) }
 {
     let read = book::read_book(book);
-    let count = read.count;
-    match count {
-        Count::Refused(why, row) => Written::BookRefused(why, row),
-        Count::Given(n) => {
-            let blank = [[0u32; 5]; 5];
-            let mut values = [blank; 64];
-            if !gather(own, common, read.jobs, n, &mut values) {
-                return Written::FillsRefused;
-            }
-            if place == 0 {
-                return Written::NoPlace;
-            }
-            if n < place {
-                return Written::NoPlace;
-            }
-            let at = place - 1;
-            let job = read.jobs[at];
-            let held = values[at];
-            match buffer::write_block(lines_of(held, job), out) {
-                Copied::Length(len) => Written::Length(len),
-                Copied::TooShort => Written::TooShort,
-            }
-        }
+    let n = match read.count {
+        Count::Refused(why, row) => return Err(CallRefusal::BookRefused { why, row }),
+        Count::Given(n) => n,
+    };
+    let mut values = [[[0u32; 5]; 5]; 64];
+    if !gather(own, common, read.jobs, n, &mut values) {
+        return Err(CallRefusal::FillsRefused);
     }
+    if place == 0 || n < place {
+        return Err(CallRefusal::NoPlace);
+    }
+    let at = place - 1;
+    Ok(buffer::write_block(lines_of(values[at], read.jobs[at]), out)?)
 }
 
 // The text of a whole book: its jobs' lines in book order, or the one line of a refused book, or of refused fill books, at the start of a

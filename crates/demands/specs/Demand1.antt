@@ -1,7 +1,7 @@
 -- Demand 1: every string of bytes is a book, whatever two strings are lent as fill books. A call has one answer, lines or a numbered refusal in the
 -- paper's order; a refused call writes nothing, and a refused job has its one line. (That each call ends, with an answer as `Called` has it, is the
 -- promise of `job_lines`.)
-use Rattle.std.specs.Prelude.{ℕ, ◌≤◌, ◌<◌, ◌≡◌, ◌⊎◌, List, ◌++◌, length, drop}
+use Rattle.std.specs.Prelude.{ℕ, ◌≤◌, ◌<◌, ◌≡◌, ◌⊎◌, List, ◌++◌, length, drop, Result}
 use Rattle.jobs.specs.declared.Job.{Job}
 use Rattle.book.specs.JobBook.{Jobs, count, JobBook}
 use Rattle.book.specs.Values.{values}
@@ -14,7 +14,7 @@ use Rattle.answer.specs.Rules.{Refuses}
 use Rattle.printing.specs.Text.{line_text}
 use Rattle.fills.specs.Says.{Accepted, FillFor}
 use Rattle.debtarush.specs.Lines.{JobText}
-use Rattle.debtarush.specs.declared.Written.{Written}
+use Rattle.debtarush.specs.declared.CallRefusal.{CallRefusal}
 use Rattle.debtarush.specs.CallTold.{CallTold, written, refused, call_told}
 use Rattle.debtarush.specs.Called.{Called}
 
@@ -44,6 +44,6 @@ pub record Demand1 : Type 0 where
   -- one answer, and one state of the buffer
   pub one : {own common b : List ℕ} {place : ℕ} {before x y : List ℕ} {t u : CallTold} → Called own common b place before x t → Called own common b place before y u → (x ≡ y) × (t ≡ u)
   -- and no two answers of `job_lines` are told alike
-  pub told_one : (a b : Written) → call_told a ≡ call_told b → a ≡ b
+  pub told_one : (a b : Result ℕ CallRefusal) → call_told a ≡ call_told b → a ≡ b
   -- lines or a numbered refusal, in the paper's order
   pub in_order : {own common b : List ℕ} {place : ℕ} {before after : List ℕ} {t : CallTold} → Called own common b place before after t → CallInOrder own common b place before after t

@@ -4,14 +4,13 @@
 // zero: it is worked out on the bits, and said of the double's exact value. A NaN has no bits of its own in Rattle, so it is made, never read.
 #![tactic(auto)]
 
-ghost use Rattle.std.specs.Prelude.{◌≡◌, pos};
+ghost use Rattle.std.specs.Prelude.{◌≡◌, pos, Some};
 ghost use Rattle.std.specs.Float.Ieee as Ieee;
 ghost use Rattle.std.specs.Float.{binary64};
 ghost use Rattle.arithmetic.specs.decides.Decides.{Decides};
 ghost use Rattle.arithmetic.specs.signed.Whole.{amount};
 ghost use Rattle.doubles.specs.Doubles.{Finite};
 ghost use Rattle.doubles.specs.Answers.{NearestIs};
-ghost use Rattle.doubles.specs.declared.Whole.TheVariants.{Is};
 
 use arithmetic::signed::Amount;
 
@@ -27,12 +26,12 @@ const ENDLESS: u64 = 0x7FF0000000000000;
 // The first whole number of more than 32 bits.
 const BEYOND: u64 = 0x100000000;
 
-// A double to the nearest whole number, and whether it is that number exactly (02, P7: "Every rounding is to tell also whether it was exact"); or that the
-// nearest has more than 32 bits, or that there is none.
+// A whole number of at most 32 bits that a double goes to, and whether the double is that number exactly (02, P7: "Every rounding is to tell also whether it
+// was exact").
 #[derive(Clone, Copy)]
-pub enum Whole {
-    Is { amount: Amount, exact: bool },
-    Beyond,
+pub struct Whole {
+    pub amount: Amount,
+    pub exact: bool,
 }
 
 // The double that a pattern of 64 bits stands for.
@@ -54,33 +53,33 @@ pub fn is_finite(x: f64) -> bool
     (x < endless) & (-endless < x)
 }
 
-// The nearest whole number, halves away from zero.
-pub fn nearest(x: f64) -> Whole
+// The nearest whole number, halves away from zero; none where the nearest has more than 32 bits, or there is no nearest one.
+pub fn nearest(x: f64) -> Option<Whole>
     ensures { NearestIs x result }
 {
     if x != x {
-        return Whole::Beyond;
+        return None;
     }
     nearest_of(f64::to_bits(x))
 }
 
 // The same by a double's bits. From a half on it is its digits over 2^(1075 - field), and half of that power is added before dividing.
-fn nearest_of(bits: u64) -> Whole
+fn nearest_of(bits: u64) -> Option<Whole>
     ensures { NearestIs (Ieee.of_bits binary64 bits) result }
 {
     let magnitude = bits % SIGN;
     let field = magnitude / FIELD;
     // 2^32 and more, and what is not finite
     if 1054 < field {
-        return Whole::Beyond;
+        return None;
     }
     // zero, of either sign
     if magnitude == 0 {
-        return nothing(true);
+        return Some(nothing(true));
     }
     // what else is less than a half
     if field < 1022 {
-        return nothing(false);
+        return Some(nothing(false));
     }
     let digits = FIELD + bits % FIELD;
     let half = 1u64 << (1074 - field);
@@ -88,28 +87,24 @@ fn nearest_of(bits: u64) -> Whole
     let raised = digits + half;
     let size = arithmetic::rounding::down(raised, unit).value;
     if BEYOND <= size {
-        return Whole::Beyond;
+        return None;
     }
     // asked of the digits as they are: with half a unit added, 2.5 would leave nothing, and 3 something
     let exact = arithmetic::rounding::down(digits, unit).exact;
-    Whole::Is {
-        amount: Amount {
-            minus: SIGN <= bits,
-            size,
-        },
+    let minus = SIGN <= bits;
+    Some(Whole {
+        amount: Amount { minus, size },
         exact,
-    }
+    })
 }
 
 // The number 0, which has no sign.
 fn nothing(exact: bool) -> Whole
-    ensures { result ≡ Is (amount (pos 0)) exact }
+    ensures { result ≡ record { amount = amount (pos 0); exact = exact } }
 {
-    Whole::Is {
-        amount: Amount {
-            minus: false,
-            size: 0,
-        },
-        exact,
-    }
+    let amount = Amount {
+        minus: false,
+        size: 0,
+    };
+    Whole { amount, exact }
 }

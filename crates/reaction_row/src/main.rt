@@ -3,7 +3,7 @@
 // arguments that are missing or too many, and an input that cannot be read to its end. Nothing is printed then.
 #![tactic(auto)]
 
-use reactions::RowWritten;
+use reactions::RowRefusal;
 use std::rt::Env;
 
 // A phase that no row has.
@@ -30,28 +30,27 @@ fn refuse(err: &impl Print, words: &[u8]) {
 }
 
 // Tells what is wrong with what is asked, the record or its numbers.
-fn tell(err: &impl Print, written: RowWritten) {
-    match written {
-        RowWritten::Length(_) => {}
-        RowWritten::NoRow => refuse(
+fn tell(err: &impl Print, why: RowRefusal) {
+    match why {
+        RowRefusal::NoRow => refuse(
             err,
             b"(26): member and job are 1 to 12 of A-Z, 0-9 and hyphen, the kind is DL, EP, LL, WC, BU, TM, EX, WL or SF, and the phase is 0, 1 or 2\n",
         ),
-        RowWritten::NoRecord => refuse(
+        RowRefusal::NoRecord => refuse(
             err,
             b"(21): standard input is not exactly one record of 40 to 72 bytes, or a load has an unknown case\n",
         ),
-        RowWritten::NotFinite => {
+        RowRefusal::NotFinite => {
             refuse(
                 err,
                 b"(22): a number, or the product of a load, is not finite\n",
             )
         }
-        RowWritten::OutOfRange => refuse(
+        RowRefusal::OutOfRange => refuse(
             err,
             b"(23): V or H is outside -50,000 to 50,000 kN, x outside -30,000 to 30,000 mm, or y outside 0 to 60,000 mm, after rounding\n",
         ),
-        RowWritten::TooShort => refuse(err, b"(27): the buffer is shorter than the row\n"),
+        RowRefusal::TooShort => refuse(err, b"(27): the buffer is shorter than the row\n"),
     }
 }
 
@@ -74,12 +73,10 @@ fn react(
 ) {
     // a row has at most 61 bytes
     let mut row = [0u8; 64];
-    let written = reactions::reaction_row(member, job, kind, phase, sent, &mut row);
-    if let RowWritten::Length(len) = written {
-        print_row(rt, err, &row[..len]);
-        return;
+    match reactions::reaction_row(member, job, kind, phase, sent, &mut row) {
+        Ok(len) => print_row(rt, err, &row[..len]),
+        Err(why) => tell(err, why),
     }
-    tell(err, written);
 }
 
 // The row of a record with what the arguments are. One that is longer than its buffer counts as empty, so that no name is cut.

@@ -11,8 +11,9 @@ use Rattle.kinds.specs.declared.Kind.{Kind}
 use Rattle.kinds.specs.ranges.Range.{Ranged}
 use Rattle.kinds.proofs.letters.Letters.{letters_one}
 use Rattle.rows.specs.declared.keys.Key.{Key}
-use Rattle.reactions.specs.declared.RowWritten.{RowWritten}
-use Rattle.reactions.specs.declared.RowWritten.TheVariants.{Length, NoRow, NoRecord, NotFinite, OutOfRange, TooShort}
+use Rattle.std.specs.Prelude.{Result, Ok, Err}
+use Rattle.reactions.specs.declared.RowRefusal.{RowRefusal}
+use Rattle.reactions.specs.declared.RowRefusal.TheVariants.{NoRow, NoRecord, NotFinite, OutOfRange, TooShort}
 use Rattle.reactions.specs.declared.xdr.Reaction.{Reaction}
 use Rattle.reactions.specs.xdr.Record.{IsRecord}
 use Rattle.reactions.specs.Force.{kilonewtons, AllFinite}
@@ -102,20 +103,20 @@ module _ {member job kind : List ℕ} {phase : ℕ} {sent before : List ℕ} whe
       (e ∙ ap (λ (t : List ℕ). t ++ drop (length t) before) z ∙ sym e', f ∙ ap (λ (t : List ℕ). written (length t)) z ∙ sym f')
 
 -- no two answers are told alike: what is told tells the answer
-unfoldable answer_of : RowTold → RowWritten
-answer_of (written n) = Length n
-answer_of (refused n) = cond (eqb n 26) NoRow (cond (eqb n 21) NoRecord (cond (eqb n 22) NotFinite (cond (eqb n 23) OutOfRange TooShort)))
+unfoldable answer_of : RowTold → Result ℕ RowRefusal
+answer_of (written n) = Ok n
+answer_of (refused n) = Err (cond (eqb n 26) NoRow (cond (eqb n 21) NoRecord (cond (eqb n 22) NotFinite (cond (eqb n 23) OutOfRange TooShort))))
 
-told_back : (a : RowWritten) → answer_of (row_told a) ≡ a
+told_back : (a : Result ℕ RowRefusal) → answer_of (row_told a) ≡ a
 unfolding answer_of
-told_back (Length n) = refl
-told_back NoRow = refl
-told_back NoRecord = refl
-told_back NotFinite = refl
-told_back OutOfRange = refl
-told_back TooShort = refl
+told_back (Ok n) = refl
+told_back (Err NoRow) = refl
+told_back (Err NoRecord) = refl
+told_back (Err NotFinite) = refl
+told_back (Err OutOfRange) = refl
+told_back (Err TooShort) = refl
 
-pub row_told_one : (a b : RowWritten) → row_told a ≡ row_told b → a ≡ b
+pub row_told_one : (a b : Result ℕ RowRefusal) → row_told a ≡ row_told b → a ≡ b
 row_told_one a b e = sym (told_back a) ∙ ap answer_of e ∙ told_back b
 
 pub rows_of_records : RowsOfRecords

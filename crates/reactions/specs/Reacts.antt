@@ -1,13 +1,13 @@
 -- Document 02, P6: a call for the load row of a record: "26 ..; 21, not exactly one record, or an unknown union case; 22, a number or a product is not
 -- finite; 23, outside the row's ranges after rounding; 27, the lent buffer is shorter than the row; in that order, writing nothing."
-use Rattle.std.specs.Prelude.{ℕ, ◌≤◌, ◌<◌, ◌≡◌, List, ◌++◌, length, drop}
+use Rattle.std.specs.Prelude.{ℕ, ◌≤◌, ◌<◌, ◌≡◌, List, ◌++◌, length, drop, Result, Ok, Err}
 use Rattle.doubles.specs.Doubles.{Nearest}
 use Rattle.kinds.specs.declared.Kind.{Kind}
 use Rattle.kinds.specs.ranges.Range.{Ranged}
 use Rattle.rows.specs.declared.keys.Key.{Key}
 use Rattle.reactions.specs.declared.xdr.Reaction.{Reaction}
-use Rattle.reactions.specs.declared.RowWritten.{RowWritten}
-use Rattle.reactions.specs.declared.RowWritten.TheVariants.{Length, NoRow, NoRecord, NotFinite, OutOfRange, TooShort}
+use Rattle.reactions.specs.declared.RowRefusal.{RowRefusal}
+use Rattle.reactions.specs.declared.RowRefusal.TheVariants.{NoRow, NoRecord, NotFinite, OutOfRange, TooShort}
 use Rattle.reactions.specs.xdr.Record.{IsRecord}
 use Rattle.reactions.specs.Force.{kilonewtons, AllFinite}
 use Rattle.reactions.specs.row.Text.{Rounded, row_numbers, row_text}
@@ -18,13 +18,13 @@ pub data RowTold : Type 0 where
   written : ℕ → RowTold
   refused : ℕ → RowTold
 
-abbrev pub row_told : RowWritten → RowTold
-row_told (Length n) = written n
-row_told NoRow = refused 26
-row_told NoRecord = refused 21
-row_told NotFinite = refused 22
-row_told OutOfRange = refused 23
-row_told TooShort = refused 27
+abbrev pub row_told : Result ℕ RowRefusal → RowTold
+row_told (Ok n) = written n
+row_told (Err NoRow) = refused 26
+row_told (Err NoRecord) = refused 21
+row_told (Err NotFinite) = refused 22
+row_told (Err OutOfRange) = refused 23
+row_told (Err TooShort) = refused 27
 
 -- "The result goes to the nearest whole kN or mm, halves away from zero"
 pub record Rounds (r : Reaction) (q : Rounded) : Type 0 where

@@ -1,7 +1,7 @@
 -- Document 02, P6: what holds of the rows that records give, beside that `reaction_row` meets `Reacts` on every input.
-use Rattle.std.specs.Prelude.{ℕ, ◌≡◌, List}
+use Rattle.std.specs.Prelude.{ℕ, ◌≡◌, List, Result}
 use Rattle.reactions.specs.declared.xdr.Reaction.{Reaction}
-use Rattle.reactions.specs.declared.RowWritten.{RowWritten}
+use Rattle.reactions.specs.declared.RowRefusal.{RowRefusal}
 use Rattle.reactions.specs.xdr.Record.{IsRecord}
 use Rattle.reactions.specs.Exact.{ExactWhereWhole}
 use Rattle.reactions.specs.row.Text.{row_numbers}
@@ -15,7 +15,7 @@ pub record RowsOfRecords : Type 0 where
   pub one_answer : (member job kind : List ℕ) (phase : ℕ) (sent before x y : List ℕ) (t u : RowTold)
       → Reacts member job kind phase sent before x t → Reacts member job kind phase sent before y u → (x ≡ y) × (t ≡ u)
   -- and no two answers are told alike
-  pub told_apart : (a b : RowWritten) → row_told a ≡ row_told b → a ≡ b
+  pub told_apart : (a b : Result ℕ RowRefusal) → row_told a ≡ row_told b → a ≡ b
   -- the row is a load row of the job book, and has exactly this key, kind and numbers
   pub load_row : (member job kind : List ℕ) (phase : ℕ) (sent bytes : List ℕ) (g : GivesRow member job kind phase sent bytes)
       → IsLoadRow bytes (record { key = g.key; row = record { kind = g.of; numbers = row_numbers g.rounded phase } })

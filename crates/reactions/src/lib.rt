@@ -16,17 +16,16 @@ ghost use Rattle.reactions.specs.Asked.{Taken};
 ghost use Rattle.reactions.specs.Reacts.{Reacts, row_told};
 ghost use Rattle.reactions.specs.steps.Calling.{AskedIs, EntryIs, NumbersIs};
 
-use buffer::Copied;
+use buffer::TooShort;
 use doubles::Whole;
 use fields::Entry;
 use kinds::letters::KindRead;
 use kinds::{Kind, Numbers};
-use xdr::{FrameLoad, RecordRead};
+use xdr::FrameLoad;
 
-// The length written; or the refusal of what is asked, of the record, of its numbers, or of the buffer.
+// Why a call is refused: what is asked for, the record, its numbers, or the buffer.
 #[derive(Clone, Copy)]
-pub enum RowWritten {
-    Length(usize),
+pub enum RowRefusal {
     NoRow,
     NoRecord,
     NotFinite,
@@ -34,13 +33,15 @@ pub enum RowWritten {
     TooShort,
 }
 
-// The numbers of the row that a record gives; or why it gives none.
-#[derive(Clone, Copy)]
-enum NumbersRead {
-    Is(Numbers),
-    NoRecord,
-    NotFinite,
-    OutOfRange,
+impl From<TooShort> for RowRefusal {
+    ghost use Rattle.std.specs.Prelude.{◌≡◌};
+    ghost use Rattle.reactions.specs.declared.RowRefusal as row;
+
+    ghost from_gives = { λ _ e. e ≡ row.RowRefusal.TooShort };
+
+    fn from(_short: TooShort) -> RowRefusal {
+        RowRefusal::TooShort
+    }
 }
 
 // Whether a kind is taken: the load rows that give their own forces and come without a train.
@@ -95,28 +96,24 @@ fn entry_of(x: f64) -> Entry
     ensures { EntryIs x result }
 {
     match doubles::nearest(x) {
-        Whole::Is { amount, exact: _ } => Entry {
+        Some(Whole { amount, exact: _ }) => Entry {
             filled: true,
             minus: amount.minus,
             size: amount.size as u32,
         },
-        Whole::Beyond => fields::blank_entry(),
+        None => fields::blank_entry(),
     }
 }
 
 // The numbers of the row of a kind and a phase that a record gives.
-fn numbers_of(sent: &[u8], kind: Kind, phase: u32) -> NumbersRead
+fn numbers_of(sent: &[u8], kind: Kind, phase: u32) -> Result<Numbers, RowRefusal>
     requires { Taken kind }
     ensures { NumbersIs sent.now kind phase result }
 {
-    let RecordRead::Is(reaction) = xdr::read_record(sent) else {
-        return NumbersRead::NoRecord;
-    };
-    let vertical = reaction.vertical;
-    let horizontal = reaction.horizontal;
-    let v = kilonewtons(vertical);
+    let reaction = xdr::read_record(sent).ok_or(RowRefusal::NoRecord)?;
+    let v = kilonewtons(reaction.vertical);
     let x = reaction.x;
-    let h = kilonewtons(horizontal);
+    let h = kilonewtons(reaction.horizontal);
     let y = reaction.y;
     // a product is finite only if its factors are
     if !(doubles::is_finite(v)
@@ -124,33 +121,27 @@ fn numbers_of(sent: &[u8], kind: Kind, phase: u32) -> NumbersRead
         & doubles::is_finite(h)
         & doubles::is_finite(y))
     {
-        return NumbersRead::NotFinite;
+        return Err(RowRefusal::NotFinite);
     }
-    let n1 = entry_of(v);
-    let n2 = entry_of(x);
-    let n3 = entry_of(h);
-    let n4 = entry_of(y);
-    let n5 = Entry {
-        filled: true,
-        minus: false,
-        size: phase,
-    };
-    let n6 = fields::blank_entry();
     let numbers = Numbers {
-        n1,
-        n2,
-        n3,
-        n4,
-        n5,
-        n6,
+        n1: entry_of(v),
+        n2: entry_of(x),
+        n3: entry_of(h),
+        n4: entry_of(y),
+        n5: Entry {
+            filled: true,
+            minus: false,
+            size: phase,
+        },
+        n6: fields::blank_entry(),
     };
     if !kinds::ranges::is_ranged(kind, numbers) {
-        return NumbersRead::OutOfRange;
+        return Err(RowRefusal::OutOfRange);
     }
-    NumbersRead::Is(numbers)
+    Ok(numbers)
 }
 
-// The load row of a record, written to the start of a lent buffer.
+// The load row of a record, written to the start of a lent buffer, and its length.
 pub fn reaction_row(
     member: &[u8],
     job: &[u8],
@@ -158,21 +149,12 @@ pub fn reaction_row(
     phase: u32,
     sent: &[u8],
     out: &mut [u8],
-) -> RowWritten
+) -> Result<usize, RowRefusal>
     ensures { Reacts member.now job.now kind.now phase sent.now out.old out.new (row_told result) }
 {
     let KindRead::Known(of) = asked_kind(member, job, kind, phase) else {
-        return RowWritten::NoRow;
+        return Err(RowRefusal::NoRow);
     };
-    match numbers_of(sent, of, phase) {
-        NumbersRead::NoRecord => RowWritten::NoRecord,
-        NumbersRead::NotFinite => RowWritten::NotFinite,
-        NumbersRead::OutOfRange => RowWritten::OutOfRange,
-        NumbersRead::Is(numbers) => {
-            match buffer::write_block(row::row_block(member, job, kind, numbers), out) {
-                Copied::Length(len) => RowWritten::Length(len),
-                Copied::TooShort => RowWritten::TooShort,
-            }
-        }
-    }
+    let numbers = numbers_of(sent, of, phase)?;
+    Ok(buffer::write_block(row::row_block(member, job, kind, numbers), out)?)
 }

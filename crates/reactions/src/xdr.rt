@@ -22,30 +22,14 @@ pub struct Reaction {
     pub y: f64,
 }
 
-// The load that bytes begin with, and how many bytes it has; or that they begin with none.
-#[derive(Clone, Copy)]
-enum LoadRead {
-    Is(FrameLoad, usize),
-    Unknown,
-}
-
-// What a record holds, or that bytes are no record.
-#[derive(Clone, Copy)]
-pub enum RecordRead {
-    Is(Reaction),
-    Unknown,
-}
-
 // The number that the first bytes stand for, the highest first.
 fn first_number(s: &[u8], count: usize) -> u64
     requires { (count ≤ 8) × (count ≤ length s.now) }
     ensures { result ≡ behind 0 (take count s.now) }
 {
     let mut number: u64 = 0;
-    let mut i: usize = 0;
-    while i < count {
-        number = number * 256 + s[i] as u64;
-        i += 1;
+    for byte in &s[..count] {
+        number = number * 256 + u64::from(*byte);
     }
     number
 }
@@ -58,54 +42,50 @@ fn first_double(s: &[u8]) -> f64
     doubles::of_bits(first_number(s, 8))
 }
 
-// The load that bytes begin with.
-fn first_load(s: &[u8]) -> LoadRead
+// The load that bytes begin with, and how many bytes it has.
+fn first_load(s: &[u8]) -> Option<(FrameLoad, usize)>
     ensures { BeginsWith s.now result }
 {
     if s.len() < 12 {
-        return LoadRead::Unknown;
+        return None;
     }
     let case = first_number(s, 4);
     if 2 < case {
-        return LoadRead::Unknown;
+        return None;
     }
     let size = 12 + 8 * case as usize;
     if s.len() < size {
-        return LoadRead::Unknown;
+        return None;
     }
     let first = first_double(&s[4..]);
     if case == 0 {
-        return LoadRead::Is(FrameLoad::Force(first), size);
+        return Some((FrameLoad::Force(first), size));
     }
     let second = first_double(&s[12..]);
     if case == 1 {
-        return LoadRead::Is(FrameLoad::Line(first, second), size);
+        return Some((FrameLoad::Line(first, second), size));
     }
     let third = first_double(&s[20..]);
-    LoadRead::Is(FrameLoad::Pressure(first, second, third), size)
+    Some((FrameLoad::Pressure(first, second, third), size))
 }
 
 // What a record holds.
-pub(crate) fn read_record(s: &[u8]) -> RecordRead
+pub(crate) fn read_record(s: &[u8]) -> Option<Reaction>
     ensures { RecordIs s.now result }
 {
-    let LoadRead::Is(vertical, at) = first_load(s) else {
-        return RecordRead::Unknown;
-    };
+    let (vertical, at) = first_load(s)?;
     if s.len() < at + 8 {
-        return RecordRead::Unknown;
+        return None;
     }
     let x = first_double(&s[at..]);
     let behind = at + 8;
-    let LoadRead::Is(horizontal, size) = first_load(&s[behind..]) else {
-        return RecordRead::Unknown;
-    };
+    let (horizontal, size) = first_load(&s[behind..])?;
     let last = behind + size;
     if s.len() != last + 8 {
-        return RecordRead::Unknown;
+        return None;
     }
     let y = first_double(&s[last..]);
-    RecordRead::Is(Reaction {
+    Some(Reaction {
         vertical,
         x,
         horizontal,

@@ -6,7 +6,7 @@
 
 use csv_text::cells::Cells;
 use fields::Entered;
-use reactions::RowWritten;
+use reactions::RowRefusal;
 
 // What each byte of the buffer is before a call.
 const UNTOUCHED: u8 = 0xaa;
@@ -38,23 +38,15 @@ fn is_untouched(out: &[u8], from: usize) -> bool {
 }
 
 // The number of a refusal; 0 where a row was written.
-fn refusal_of(written: RowWritten) -> u64 {
+fn refusal_of(written: Result<usize, RowRefusal>) -> u64 {
     match written {
-        RowWritten::Length(_) => 0,
-        RowWritten::NoRow => 26,
-        RowWritten::NoRecord => 21,
-        RowWritten::NotFinite => 22,
-        RowWritten::OutOfRange => 23,
-        RowWritten::TooShort => 27,
+        Ok(_) => 0,
+        Err(RowRefusal::NoRow) => 26,
+        Err(RowRefusal::NoRecord) => 21,
+        Err(RowRefusal::NotFinite) => 22,
+        Err(RowRefusal::OutOfRange) => 23,
+        Err(RowRefusal::TooShort) => 27,
     }
-}
-
-// How many bytes were written.
-fn length_of(written: RowWritten) -> usize {
-    let RowWritten::Length(len) = written else {
-        return 0;
-    };
-    len
 }
 
 // Bytes in hex, of a buffer of at most 200.
@@ -76,10 +68,10 @@ fn put_row(rt: &impl Print, out: &[u8], len: usize) {
 }
 
 // What a call was told, and what it wrote to the buffer.
-fn put_written(rt: &impl Print, written: RowWritten, out: &[u8]) {
+fn put_written(rt: &impl Print, written: Result<usize, RowRefusal>, out: &[u8]) {
     files::put_number(rt, refusal_of(written));
     files::put(rt, b",");
-    put_row(rt, out, length_of(written));
+    put_row(rt, out, written.unwrap_or(0));
     files::put(rt, b"\r\n");
 }
 

@@ -1,5 +1,5 @@
 -- What `asked_kind`, `entry_of` and `numbers_of` answer.
-use Rattle.std.specs.Prelude.{ℕ, ◌^◌, ◌≤◌, ◌≡◌, ◌⊎◌, List, ℤ, nat_abs, Float}
+use Rattle.std.specs.Prelude.{ℕ, ◌^◌, ◌≤◌, ◌≡◌, ◌⊎◌, List, ℤ, nat_abs, Float, Result, Ok, Err}
 use Rattle.doubles.specs.Doubles.{Nearest}
 use Rattle.fields.specs.Numbers.{absent}
 use Rattle.fields.specs.declared.Entry.{Entry}
@@ -9,8 +9,9 @@ use Rattle.kinds.specs.declared.letters.KindRead.{KindRead}
 use Rattle.kinds.specs.declared.letters.KindRead.TheVariants.{Known, Unknown}
 use Rattle.rows.specs.declared.keys.Key.{Key}
 use Rattle.reactions.specs.declared.xdr.Reaction.{Reaction}
-use Rattle.reactions.specs.declared.NumbersRead.{NumbersRead}
-use Rattle.reactions.specs.declared.NumbersRead.TheVariants.{Is, NoRecord, NotFinite, OutOfRange}
+use Rattle.kinds.specs.declared.Numbers.{Numbers}
+use Rattle.reactions.specs.declared.RowRefusal.{RowRefusal}
+use Rattle.reactions.specs.declared.RowRefusal.TheVariants.{NoRow, NoRecord, NotFinite, OutOfRange, TooShort}
 use Rattle.reactions.specs.xdr.Record.{IsRecord}
 use Rattle.reactions.specs.Force.{AllFinite}
 use Rattle.reactions.specs.row.Text.{Rounded, entry, row_numbers}
@@ -27,10 +28,12 @@ abbrev pub EntryIs : Float → Entry → Type 0
 EntryIs x e = ((z : ℤ) × Nearest x z × (e ≡ entry z)) ⊎ ((e ≡ absent) × ((z : ℤ) → Nearest x z → 2 ^ 32 ≤ nat_abs z))
 
 -- the numbers of a row in its ranges, or the first of 21, 22 and 23 that holds
-abbrev pub NumbersIs : List ℕ → Kind → ℕ → NumbersRead → Type 0
-NumbersIs sent kind phase (Is n) =
+abbrev pub NumbersIs : List ℕ → Kind → ℕ → Result Numbers RowRefusal → Type 0
+NumbersIs sent kind phase (Ok n) =
     (r : Reaction) × (q : Rounded) × IsRecord sent r × AllFinite r × Rounds r q × Ranged kind (row_numbers q phase) × (n ≡ row_numbers q phase)
-NumbersIs sent kind phase NoRecord = (r : Reaction) → IsRecord sent r → ⊥
-NumbersIs sent kind phase NotFinite = (r : Reaction) × IsRecord sent r × (AllFinite r → ⊥)
-NumbersIs sent kind phase OutOfRange =
+NumbersIs sent kind phase (Err NoRow) = ⊥
+NumbersIs sent kind phase (Err NoRecord) = (r : Reaction) → IsRecord sent r → ⊥
+NumbersIs sent kind phase (Err NotFinite) = (r : Reaction) × IsRecord sent r × (AllFinite r → ⊥)
+NumbersIs sent kind phase (Err OutOfRange) =
     (r : Reaction) × (q : Rounded) × IsRecord sent r × AllFinite r × Rounds r q × (Ranged kind (row_numbers q phase) → ⊥)
+NumbersIs sent kind phase (Err TooShort) = ⊥

@@ -9,7 +9,8 @@ use lib.Dec.{leb, lit<}
 use lib.Pow.{pow_mono, pow_pos, shl_exact}
 use lib.IntN.{pos, nat_abs}
 use lib.Ieee.{binary64, of_bits}
-use borrow.Author.Rules.{rules}
+use Rattle.std.specs.Prelude.{Some}
+use Rattle.doubles.specs.declared.Whole.{Whole}
 use Rattle.arithmetic.specs.rounding.Least.{RoundedDown}
 use Rattle.arithmetic.specs.rounding.Rounding.{Rounding}
 use Rattle.arithmetic.specs.rounding.Rounding as rounding
@@ -22,8 +23,7 @@ use Rattle.doubles.specs.Answers.{NearestIs}
 use Rattle.doubles.proofs.Signs.{size_signed, amount_signed}
 use Rattle.doubles.proofs.Wholes.{nearest_one, exactly_nearest}
 use Rattle.doubles.proofs.Patterns.{below_half, from_half, beyond, reached, zero_exactly, exactly_zero, digits_exactly, exactly_digits}
-use Rattle.doubles.proofs.nearest_of.Statement.{statement}
-use Rattle.doubles.proofs.nearest_of.Tie as tie
+use Rattle.doubles.proofs.nearest_of.Goals as goal
 
 -- a pattern's field
 abbrev field : ℕ → ℕ
@@ -104,72 +104,47 @@ module _ (b : ℕ) (small : field b < 1022) where
         told = λ w. let zero = exactly_zero s (field b) (b % 2 ^ 52) small w in some zero.0 zero.1;
       }
 
-returns : tie.Need-returns-then-field-gt1054
+pub returns-then-field-gt1054 : goal.returns-then-field-gt1054
 unfolding of_bits
-returns c = let b = c.args.bits in beyond (leb (2 ^ 63) b) (field b) (b % 2 ^ 52) (omega arith)
+returns-then-field-gt1054 c = let b = c.args.bits in beyond (leb (2 ^ 63) b) (field b) (b % 2 ^ 52) (omega arith)
 
-nothing-requires : tie.Need-nothing-requires
-nothing-requires c κs = search rules
-
-returns-2 : tie.Need-returns-then-magnitude-eq0
-returns-2 c =
+pub returns-then-magnitude-eq0 : goal.returns-then-magnitude-eq0
+returns-then-magnitude-eq0 c =
     let none = c.if-magnitude-eq0.true in
     let b = c.args.bits in
-    subst⁻¹ (NearestIs (of_bits binary64 b)) c.nothing.ensures (pos 0, zero_told b (omega (arith, none)) (omega (arith, none)) (omega (arith, none)), refl, lit< tt)
+    subst⁻¹ (λ (w : Whole). NearestIs (of_bits binary64 b) (Some w)) c.nothing.ensures (pos 0, zero_told b (omega (arith, none)) (omega (arith, none)) (omega (arith, none)), refl, lit< tt)
 
-nothing-requires-2 : tie.Need-nothing-requires-then-field-lt1022
-nothing-requires-2 c κs = search rules
-
-returns-3 : tie.Need-returns-then-field-lt1022
-returns-3 c =
+pub returns-then-field-lt1022 : goal.returns-then-field-lt1022
+returns-then-field-lt1022 c =
     let b = c.args.bits in
-    subst⁻¹ (NearestIs (of_bits binary64 b)) c.nothing-then-field-lt1022.ensures (pos 0, below_told b (omega arith) (λ e k. omega (arith, e, k, c.if-magnitude-eq0.false)), refl, lit< tt)
+    subst⁻¹ (λ (w : Whole). NearestIs (of_bits binary64 b) (Some w)) c.nothing-then-field-lt1022.ensures
+    (pos 0, below_told b (omega arith) (λ e k. omega (arith, e, k, c.if-magnitude-eq0.false)), refl, lit< tt)
 
-add-digits : tie.Need-overflow_add-digits
-add-digits c = search rules
-
-sub-half : tie.Need-overflow_sub-half
-sub-half c = search rules
-
-shl-half : tie.Need-overflow_shl-half
-shl-half c = search rules
-
-mul-unit : tie.Need-overflow_mul-unit
-mul-unit c = omega (arith, half_most c.args.bits (omega arith))
-
-add-raised : tie.Need-overflow_add-raised
-add-raised c = omega (arith, half_most c.args.bits (omega arith))
-
-down-requires : tie.Need-down-size-requires
-down-requires c κs = omega (arith, half_pos c.args.bits (omega arith))
+pub overflow_mul-unit : goal.overflow_mul-unit
+overflow_mul-unit c = omega (arith, half_most c.args.bits (omega arith))
 
 -- the size that is told is that of the nearest number
-module _ (c : tie.After-down-size) where
-  abbrev b : ℕ
-  b = c.args.bits
+module _ (b : ℕ) (n : ℕ) (low : 1022 ≤ field b) (high : field b ≤ 1054) (rounded : RoundedDown (2 ^ 52 + b % 2 ^ 52 + half b) (2 * half b) n) where
+  close : Nearest (of_bits binary64 b) (signed (leb (2 ^ 63) b) n)
+  close = subst⁻¹ (λ (n : ℕ). Nearest (of_bits binary64 b) (signed (leb (2 ^ 63) b) n)) (size_is b low n rounded) (near b low high)
 
-  is : c.down-size.result.value ≡ size b
-  is = size_is b (omega arith) c.down-size.result.value c.down-size.ensures.rounded
+  some : 0 < n
+  some = omega (arith, size_is b low n rounded, size_pos b low)
 
-  close : Nearest (of_bits binary64 b) (signed (leb (2 ^ 63) b) c.down-size.result.value)
-  close = subst⁻¹ (λ (n : ℕ). Nearest (of_bits binary64 b) (signed (leb (2 ^ 63) b) n)) is (near b (omega arith) (omega arith))
+pub returns-then-size-ge-BEYOND : goal.returns-then-size-ge-BEYOND
+returns-then-size-ge-BEYOND c =
+    let b = c.args.bits in
+    let n = c.down-size.result.value in
+    reached (of_bits binary64 b) (leb (2 ^ 63) b) n (close b n (omega arith) (omega arith) c.down-size.ensures.rounded) (omega arith)
 
-returns-4 : tie.Need-returns-then-size-ge-BEYOND
-returns-4 c =
-    reached (of_bits binary64 (b c.before)) (leb (2 ^ 63) (b c.before)) c.down-size.result.value (close c.before) (omega arith)
-
-down-requires-2 : tie.Need-down-exact-requires
-down-requires-2 c κs = omega (arith, half_pos (b c.before) (omega arith))
-
-returns-5 : tie.Need-returns
-returns-5 c =
-    let s = leb (2 ^ 63) (b c.before.before) in
-    let n = c.down-size.result.value in (
+pub returns : goal.returns
+returns c =
+    let b = c.args.bits in
+    let s = leb (2 ^ 63) b in
+    let n = c.down-size.result.value in
+    let near = close b n (omega arith) (omega arith) c.down-size.ensures.rounded in (
       signed s n,
-      exact_told (b c.before.before) (omega arith) n (omega arith) (close c.before.before) c.down-exact.ensures (omega arith),
-      amount_signed s n (omega (arith, is c.before.before, size_pos (b c.before.before) (omega arith))),
+      exact_told b (omega arith) n (omega arith) near c.down-exact.ensures (omega arith),
+      amount_signed s n (some b n (omega arith) (omega arith) c.down-size.ensures.rounded),
       omega (arith, size_signed s n),
     )
-
-pub nearest_of_spec : {M : Type 1} → statement M
-nearest_of_spec = tie.close (tie.spec returns nothing-requires returns-2 nothing-requires-2 returns-3 add-digits sub-half shl-half mul-unit add-raised down-requires returns-4 down-requires-2 returns-5)
