@@ -4,8 +4,6 @@
 // to its end is told, and no job is printed.
 #![tactic(auto)]
 
-use std::rt::{Env, Files};
-
 // Prints the lines of a book; where they cannot be written, that is told.
 fn print_lines(rt: &impl Print, err: &impl Print, book: &[u8], own: &[u8], common: &[u8]) {
     let mut lines = [0u8; 131072];
@@ -26,37 +24,24 @@ fn check(rt: &(impl Input + Print), err: &impl Print, own: &[u8], common: &[u8])
     print_lines(rt, err, &text[..len], own, common);
 }
 
-// With this own book, and the common book that the second argument names, or Table 2.
-fn check_with(rt: &(impl Env + Files + Input + Print), err: &impl Print, own: &[u8], count: usize) {
-    if count < 3 {
-        let table2 = fills::table2_book::bytes();
-        check(rt, err, own, &table2);
-        return;
-    }
-    let mut text = [0u8; 65537];
-    let Some(len) = files::read_argument(rt, err, b"check_book", 2, &mut text) else {
-        return;
-    };
-    check(rt, err, own, &text[..len]);
-}
-
 fn main(rt: HostRuntime) {
     let err = rt.stderr();
-    let count = files::arg_count(&rt);
-    if 3 < count {
+    if 3 < files::arg_count(&rt) {
         files::put(
             &err,
             b"check_book: it takes at most two arguments, the files of the own and the common fill book, and reads a book from standard input\n",
         );
         return;
     }
-    let mut text = [0u8; 65537];
-    if count < 2 {
-        check_with(&rt, &err, &text[..0], count);
-        return;
-    }
-    let Some(len) = files::read_argument(&rt, &err, b"check_book", 1, &mut text) else {
+    let mut own = [0u8; 65537];
+    let Some(owns) = files::read_argument_or(&rt, &err, b"check_book", 1, b"", &mut own) else {
         return;
     };
-    check_with(&rt, &err, &text[..len], count);
+    let table2 = fills::table2_book::bytes();
+    let mut common = [0u8; 65537];
+    let Some(commons) = files::read_argument_or(&rt, &err, b"check_book", 2, &table2, &mut common)
+    else {
+        return;
+    };
+    check(&rt, &err, &own[..owns], &common[..commons]);
 }

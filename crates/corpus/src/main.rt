@@ -38,10 +38,7 @@ fn print_named(rt: &(impl Env + Files + Print), err: &impl Print, i: usize) {
 
 fn main(rt: HostRuntime) {
     let err = rt.stderr();
-    let count = files::arg_count(&rt);
-    let mut i: usize = 1;
-    while i < count {
+    for i in 1..files::arg_count(&rt) {
         print_named(&rt, &err, i);
-        i += 1;
     }
 }

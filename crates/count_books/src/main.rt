@@ -4,37 +4,19 @@
 #![tactic(auto)]
 
 use book::counted::Count;
+use std::io;
 use std::rt::{Env, Files};
 
-// Two figures, each behind its name, and the line's end.
-fn show_figures(rt: &impl Print, first: &[u8], a: u64, second: &[u8], b: u64) {
-    files::put(rt, first);
-    files::put_number(rt, a);
-    files::put(rt, second);
-    files::put_number(rt, b);
-    files::put(rt, b"\n");
-}
-
-fn show(rt: &impl Print, text: &[u8]) {
-    let count = book::count_jobs(text);
-    match count {
-        Count::Given(n) => {
-            let note = book::note_of(text, 1);
-            show_figures(rt, b" jobs ", n as u64, b" note ", note.len() as u64);
-        }
+fn show(rt: &impl Print, text: &[u8]) -> io::Result<()> {
+    match book::count_jobs(text) {
+        Count::Given(n) => println!(rt; " jobs {n} note {}", book::note_of(text, 1).len()),
         Count::Refused(why, row) => {
-            show_figures(
-                rt,
-                b" refused ",
-                rows::refusals::number_of(why) as u64,
-                b" row ",
-                row as u64,
-            );
+            println!(rt; " refused {} row {row}", rows::refusals::number_of(why))
         }
     }
 }
 
-// The book that an argument names.
+// The book that an argument names. What cannot be written is left out.
 fn show_book(rt: &(impl Env + Files + Print), err: &impl Print, i: usize) {
     let mut name = [0u8; 4096];
     let mut text = [0u8; 65537];
@@ -43,15 +25,12 @@ fn show_book(rt: &(impl Env + Files + Print), err: &impl Print, i: usize) {
     };
     let len = files::argument(rt, i, &mut name);
     files::put(rt, &name[..len]);
-    show(rt, &text[..got]);
+    let _ = show(rt, &text[..got]);
 }
 
 fn main(rt: HostRuntime) {
     let err = rt.stderr();
-    let count = files::arg_count(&rt);
-    let mut i: usize = 1;
-    while i < count {
+    for i in 1..files::arg_count(&rt) {
         show_book(&rt, &err, i);
-        i += 1;
     }
 }

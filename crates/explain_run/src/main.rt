@@ -3,7 +3,12 @@
 // told, and nothing is said of it.
 #![tactic(auto)]
 
+ghost use Rattle.std.specs.Prelude.{◌≤◌};
+
 use std::rt::{Env, Files};
+
+// How many arguments are looked at.
+const MOST: usize = 65536;
 
 // Prints an argument.
 fn print_word(rt: &(impl Env + Print), i: usize, end: &[u8]) {
@@ -20,74 +25,49 @@ fn begins_with(rt: &impl Env, i: usize, byte: u8) -> bool {
     word[0] == byte
 }
 
-// A book with its own fill book, and the common one that the argument i names.
-fn explain_with(
-    rt: &(impl Env + Files + Print),
+// The fill book that an argument names, or this other one, where the argument is "-".
+fn fills_named<'a>(
+    rt: &(impl Env + Files),
     err: &impl Print,
-    book: &[u8],
-    own: &[u8],
     i: usize,
-    all: bool,
-) {
+    other: &'a [u8],
+    text: &'a mut [u8; 65537],
+) -> Option<&'a [u8]> {
     if begins_with(rt, i, b'-') {
-        let table2 = fills::table2_book::bytes();
-        explain::explain(rt, book, own, &table2, all);
-        return;
+        return Some(other);
     }
-    let mut text = [0u8; 65537];
-    let Some(len) = files::read_argument(rt, err, b"explain_run", i, &mut text) else {
-        return;
-    };
-    explain::explain(rt, book, own, &text[..len], all);
-}
-
-// A book, with the fill books that the arguments i and i + 1 name.
-fn explain_book(
-    rt: &(impl Env + Files + Print),
-    err: &impl Print,
-    book: &[u8],
-    i: usize,
-    all: bool,
-) {
-    if 65536 < i {
-        return;
-    }
-    let mut text = [0u8; 65537];
-    if begins_with(rt, i, b'-') {
-        explain_with(rt, err, book, &text[..0], i + 1, all);
-        return;
-    }
-    let Some(len) = files::read_argument(rt, err, b"explain_run", i, &mut text) else {
-        return;
-    };
-    explain_with(rt, err, book, &text[..len], i + 1, all);
+    let len = files::read_argument(rt, err, b"explain_run", i, text)?;
+    Some(&text[..len])
 }
 
 // The four arguments from i on.
-fn explain_named(rt: &(impl Env + Files + Print), err: &impl Print, i: usize) {
-    if 65536 < i {
-        return;
-    }
+fn explain_named(rt: &(impl Env + Files + Print), err: &impl Print, i: usize)
+    requires { i ≤ 65536 }
+{
     print_word(rt, i, b" ");
     print_word(rt, i + 1, b" ");
     print_word(rt, i + 2, b" ");
     print_word(rt, i + 3, b"\n");
-    let mut text = [0u8; 65537];
-    let Some(len) = files::read_argument(rt, err, b"explain_run", i + 1, &mut text) else {
+    let mut book = [0u8; 65537];
+    let Some(len) = files::read_argument(rt, err, b"explain_run", i + 1, &mut book) else {
         return;
     };
-    explain_book(rt, err, &text[..len], i + 2, begins_with(rt, i, b'a'));
+    let mut own = [0u8; 65537];
+    let Some(own) = fills_named(rt, err, i + 2, b"", &mut own) else {
+        return;
+    };
+    let table2 = fills::table2_book::bytes();
+    let mut common = [0u8; 65537];
+    let Some(common) = fills_named(rt, err, i + 3, &table2, &mut common) else {
+        return;
+    };
+    explain::explain(rt, &book[..len], own, common, begins_with(rt, i, b'a'));
 }
 
 fn main(rt: HostRuntime) {
     let err = rt.stderr();
     let count = files::arg_count(&rt);
-    let mut i: usize = 1;
-    while i < count {
-        if 65536 < i {
-            return;
-        }
+    for i in (1..count.min(MOST)).step_by(4) {
         explain_named(&rt, &err, i);
-        i += 4;
     }
 }

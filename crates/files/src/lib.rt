@@ -190,3 +190,23 @@ pub fn read_argument<R: Env + Files, P: Print>(
         }
     }
 }
+
+// The bytes of the file that an argument names, or these, where there is no such argument.
+pub fn read_argument_or<R: Env + Files, P: Print>(
+    rt: &R,
+    err: &P,
+    program: &[u8],
+    i: usize,
+    other: &[u8],
+    text: &mut [u8; 65537],
+) -> Option<usize>
+    requires { length other.now ≤ 65537 }
+    ensures { IfSome result (λ n. IsPrefixLen n text.new) }
+{
+    if i < arg_count(rt) {
+        return read_argument(rt, err, program, i, text);
+    }
+    let len = other.len();
+    text[..len].copy_from_slice(other);
+    Some(len)
+}

@@ -6,7 +6,7 @@
 
 use fields::Entered;
 use fills::lookup::Place;
-use std::rt::{Env, Files};
+use std::rt::Env;
 
 // Whether both fill books are accepted.
 fn are_accepted(own: &[u8], common: &[u8]) -> bool {
@@ -77,20 +77,6 @@ fn look_up<'a>(rt: &(impl Env + Print), err: &impl Print, own: &'a [u8], common:
     print_row(rt, err, own, common, &member[..len], soil, slope);
 }
 
-// With this own book, and the common book that the fifth argument names, or Table 2.
-fn look_up_with(rt: &(impl Env + Files + Print), err: &impl Print, own: &[u8], count: usize) {
-    if count < 6 {
-        let table2 = fills::table2_book::bytes();
-        look_up(rt, err, own, &table2);
-        return;
-    }
-    let mut text = [0u8; 65537];
-    let Some(len) = files::read_argument(rt, err, b"fill_row", 5, &mut text) else {
-        return;
-    };
-    look_up(rt, err, own, &text[..len]);
-}
-
 fn main(rt: HostRuntime) {
     let err = rt.stderr();
     let count = files::arg_count(&rt);
@@ -101,13 +87,15 @@ fn main(rt: HostRuntime) {
         );
         return;
     }
-    let mut text = [0u8; 65537];
-    if count < 5 {
-        look_up_with(&rt, &err, &text[..0], count);
-        return;
-    }
-    let Some(len) = files::read_argument(&rt, &err, b"fill_row", 4, &mut text) else {
+    let mut own = [0u8; 65537];
+    let Some(owns) = files::read_argument_or(&rt, &err, b"fill_row", 4, b"", &mut own) else {
         return;
     };
-    look_up_with(&rt, &err, &text[..len], count);
+    let table2 = fills::table2_book::bytes();
+    let mut common = [0u8; 65537];
+    let Some(commons) = files::read_argument_or(&rt, &err, b"fill_row", 5, &table2, &mut common)
+    else {
+        return;
+    };
+    look_up(&rt, &err, &own[..owns], &common[..commons]);
 }
