@@ -34,7 +34,3 @@ puts b (x ∷ xs) = puts (pushed b x) xs
 pub record Put (b : Block) (t : List ℕ) (most : ℕ) (r : Block) : Type 0 where
   pub is : r ≡ puts b t
   pub short : length t ≤ most
-
--- the same of the bytes and the length before and after
-abbrev pub Adds : List ℕ → ℕ → List ℕ → ℕ → List ℕ → ℕ → Type 0
-Adds before at t most after end = Put (page before at) t most (page after end)

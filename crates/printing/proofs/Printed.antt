@@ -1,7 +1,7 @@
 -- The fields of a line, put one behind the other, are the line; VERDICT, and the lines put behind it, are the answer.
 use Prim.Native.Nat.{ℕ, ◌+◌, ◌≤◌}
 use mathlib.Core.Path.{◌≡◌, refl, sym, ap, ◌∙◌}
-use mathlib.Core.Bool.{Bool, true, false}
+use mathlib.Core.Bool.{Bool, true, false, cond}
 use mathlib.Core.List.{List, [], ◌∷◌, ◌++◌, append_assoc, append-nil}
 use native.Mathlib.Omega.{arith}
 use lib.ListN.{length}
@@ -9,9 +9,7 @@ use Rattle.arithmetic.specs.declared.signed.Amount.{Amount}
 use Rattle.arithmetic.proofs.Cases.{impossible}
 use Rattle.rows.specs.declared.keys.Key.{Key}
 use Rattle.sets.specs.declared.Combination.{Combination}
-use Rattle.sets.specs.declared.Combination.TheVariants.{I, II, III, IV}
 use Rattle.checks.specs.declared.Check.{Check}
-use Rattle.checks.specs.declared.Check.TheVariants.{OP, OM, SL, PR, RK}
 use Rattle.checks.specs.declared.Figure.{Figure}
 use Rattle.lines.specs.declared.Line.{Line}
 use Rattle.lines.specs.declared.Line.TheVariants as line
@@ -58,27 +56,15 @@ no_line b key ls n e = rw e (put_nothing b n)
 
 -- ---- one line
 
-combination_short : (of : Combination) → length (combination_text of) ≤ 3
-unfolding combination_text
-combination_short I = omega arith
-combination_short II = omega arith
-combination_short III = omega arith
-combination_short IV = omega arith
+-- SC or CL, by its two letters
+pub letters_put : (b r : Block) (name : LineName) (t : List ℕ) → t ≡ name_text name → length t ≡ 2 → r ≡ puts b t → Put b (name_text name) 2 r
+letters_put b r name t e two f = record { is = f ∙ ap (puts b) e; short = omega (arith, ap length e) }
 
--- the letters of a combination, and of a check behind its hyphen
-pub combination_put : (b r : Block) (of : Combination) (t : List ℕ) → t ≡ combination_text of → r ≡ puts b t → Put b (combination_text of) 3 r
-combination_put b r of t e f = record { is = f ∙ ap (puts b) e; short = combination_short of }
-
-check_short : (by : Check) → length (check_text by) ≤ 2
-unfolding check_text
-check_short OP = omega arith
-check_short OM = omega arith
-check_short SL = omega arith
-check_short PR = omega arith
-check_short RK = omega arith
-
-pub check_put : (b r : Block) (by : Check) (t : List ℕ) → t ≡ HYPHEN ∷ check_text by → r ≡ puts b t → Put b (HYPHEN ∷ check_text by) 3 r
-check_put b r by t e f = record { is = f ∙ ap (puts b) e; short = omega (arith, check_short by) }
+-- Y or N
+pub mark_put : (b r : Block) (passes : Bool) → Put b (field (cond passes 0x59 0x4E ∷ [])) 2 r → Put b (field (mark_text (mark_of passes))) 2 r
+unfolding mark_text mark_of
+mark_put b r true p = p
+mark_put b r false p = p
 
 module _ (key : Key) (b₀ b₁ b₂ b₃ b₄ b₅ : Block) where
   pub check_printed : (b₆ b₇ b₈ : Block) (of : Combination) (by : Check) (l : Line) (figure : Figure) (limit set : ℕ) (passes exact : Bool)
@@ -87,20 +73,21 @@ module _ (key : Key) (b₀ b₁ b₂ b₃ b₄ b₅ : Block) where
       → Put b₁ (combination_text of) 3 b₂
       → Put b₂ (HYPHEN ∷ check_text by) 3 b₃
       → Put b₃ (field (value_text (value_of figure))) 21 b₄
-      → Put b₄ (field (decimal limit)) (1 + length (decimal limit)) b₅ × (length (decimal limit) ≤ 20)
-      → Put b₅ (field (decimal set)) (1 + length (decimal set)) b₆ × (length (decimal set) ≤ 20)
+      → Put b₄ (field (decimal limit)) (1 + length (decimal limit)) b₅
+      → length (decimal limit) ≤ 20
+      → Put b₅ (field (decimal set)) (1 + length (decimal set)) b₆
       → Put b₆ (field (mark_text (mark_of passes))) 2 b₇
       → Put b₇ (ending (figure_exactness figure exact)) 4 b₈
       → Put b₀ (texts key (check_line of by l)) (line_room l) b₈
   unfolding shown_line check_line line_room line_text name_text number_text
-  check_printed b₆ b₇ b₈ of by l figure limit set passes exact e p₁ p₂ p₃ p₄ p₅ p₆ p₇ p₈ =
+  check_printed b₆ b₇ b₈ of by l figure limit set passes exact e p₁ p₂ p₃ p₄ p₅ few p₆ p₇ p₈ =
       rw e
-      (put_as b₀ b₈ _ _ _ _ (texts_one key _) (omega (arith, p₅.1))
+      (put_as b₀ b₈ _ _ _ _ (texts_one key _) (omega (arith, few))
       (then_put b₀ b₁ b₈ _ _ _ _ p₁
       (then_put b₁ b₃ b₈ _ _ _ _ (then_put b₁ b₂ b₃ _ _ _ _ p₂ p₃)
       (then_put b₃ b₄ b₈ _ _ _ _ p₄
-      (then_put b₄ b₅ b₈ _ _ _ _ p₅.0
-      (then_put b₅ b₆ b₈ _ _ _ _ p₆.0
+      (then_put b₄ b₅ b₈ _ _ _ _ p₅
+      (then_put b₅ b₆ b₈ _ _ _ _ p₆
       (then_put b₆ b₇ b₈ _ _ _ _ p₇ p₈)))))))
 
   pub river_printed : (b₆ b₇ : Block) (name : LineName) (l : RiverLine) (value : Amount) (limit : ℕ) (passes exact : Bool)
@@ -108,19 +95,20 @@ module _ (key : Key) (b₀ b₁ b₂ b₃ b₄ b₅ : Block) where
       → Put b₀ (key_text key) 26 b₁
       → Put b₁ (name_text name) 2 b₂
       → Put b₂ (field (value_text (signed_value value))) 22 b₃
-      → Put b₃ (field (decimal limit)) (1 + length (decimal limit)) b₄ × (length (decimal limit) ≤ 20)
+      → Put b₃ (field (decimal limit)) (1 + length (decimal limit)) b₄
+      → length (decimal limit) ≤ 20
       → b₅ ≡ puts b₄ (field [])
       → Put b₅ (field (mark_text (mark_of passes))) 2 b₆
       → Put b₆ (ending (exactness_of exact)) 4 b₇
       → Put b₀ (texts key (river_line name l)) 78 b₇
   unfolding river_line river_shown line_text number_text
-  river_printed b₆ b₇ name l value limit passes exact e p₁ p₂ p₃ p₄ p₅ p₆ p₇ =
+  river_printed b₆ b₇ name l value limit passes exact e p₁ p₂ p₃ p₄ few p₅ p₆ p₇ =
       rw e
-      (put_as b₀ b₇ _ _ _ _ (texts_one key _) (omega (arith, p₄.1))
+      (put_as b₀ b₇ _ _ _ _ (texts_one key _) (omega (arith, few))
       (then_put b₀ b₁ b₇ _ _ _ _ p₁
       (then_put b₁ b₂ b₇ _ _ _ _ p₂
       (then_put b₂ b₃ b₇ _ _ _ _ p₃
-      (then_put b₃ b₄ b₇ _ _ _ _ p₄.0
+      (then_put b₃ b₄ b₇ _ _ _ _ p₄
       (then_put b₄ b₅ b₇ _ _ 1 _ (spelled _ _ _ _ _ refl p₅ tt)
       (then_put b₅ b₆ b₇ _ _ _ _ p₆ p₇)))))))
 

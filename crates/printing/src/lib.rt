@@ -1,7 +1,7 @@
 // The bytes of a job's lines, exactly those of document 01, The printed answer, with the eighth field of 02, P7: VERDICT, the lines of the
 // checks, SC and CL.
 //
-// Each function puts a field, a line or lines behind the text that a page of 2,048 bytes holds, or nothing where a line is missing. What is
+// Each function puts a field, a line or lines behind the text that a page holds, a block of 2,048 bytes, or nothing where a line is missing. What is
 // hard is that nothing is cut: each says how many bytes it puts at most, and the sum is below 2,048 where the set numbers are those of
 // at most 16 load rows; and that what a line says is read back from its text (`proofs/`).
 #![tactic(auto)]
@@ -10,85 +10,101 @@ mod line_fields;
 mod line_key;
 pub mod refused_book;
 
-ghost use Rattle.std.specs.Prelude.{◌≡◌, [], ◌∷◌, ◌≤◌, length};
-ghost use Rattle.sets.specs.declared.Combination.{Combination};
-ghost use Rattle.checks.specs.declared.Check.{Check};
-ghost use Rattle.lines.specs.Lines.{LineName, combination_lines, later_lines, value_of, mark_of, exactness_of, figure_exactness, verdict_line, check_line, river_line};
+ghost use Rattle.std.specs.Prelude.{◌≡◌, [], ◌∷◌, ◌≤◌, length, cond};
+ghost use Rattle.lines.specs.Lines.{LineName, combination_lines, later_lines, value_of, exactness_of, figure_exactness, verdict_line, check_line, river_line};
 ghost use Rattle.lines.specs.Numbered.{Numbered};
-ghost use Rattle.block.specs.Block.{Adds, block_of};
+ghost use Rattle.block.specs.Block.{Put, block_of};
 ghost use Rattle.block.specs.Fields.{field};
-ghost use Rattle.printing.specs.line_fields.Text.{HYPHEN, combination_text, check_text, name_text, value_text, mark_text};
+ghost use Rattle.printing.specs.line_fields.Text.{HYPHEN, combination_text, check_text, name_text, value_text};
 ghost use Rattle.printing.specs.steps.Ending.{ending};
 ghost use Rattle.printing.specs.Text.{texts, line_text};
 ghost use Rattle.printing.specs.AnswerText.{text};
 ghost use Rattle.printing.specs.steps.Room.{lines_room, answer_room, line_room};
 
 use block::Block;
-use checks::Figure;
+use checks::{Check, Figure};
 use lines::{Answer, Line, Lines, RiverLine, Verdict};
 use rows::keys::Key;
+use sets::Combination;
 
-// The value of a check.
-fn put_figure(out: &mut [u8; 2048], at: usize, figure: Figure) -> usize
-    ensures { Adds out.old at (field (value_text (value_of figure))) 21 out.new result }
+// The letters of a combination.
+fn put_combination(page: &mut Block, combination: Combination)
+    ensures { Put page.old (combination_text combination) 3 page.new }
 {
-    match figure {
-        Figure::Nothing => block::put(out, at, b",none"),
-        Figure::Number(n) => block::put_number(out, at, n),
-        Figure::Off => block::put(out, at, b",off"),
+    match combination {
+        Combination::I => page.put(b"I"),
+        Combination::II => page.put(b"II"),
+        Combination::III => page.put(b"III"),
+        Combination::IV => page.put(b"IV"),
     }
 }
 
-// Y or N.
-fn put_mark(out: &mut [u8; 2048], at: usize, passes: bool) -> usize
-    ensures { Adds out.old at (field (mark_text (mark_of passes))) 2 out.new result }
+// The letters of a check, behind a hyphen.
+fn put_check(page: &mut Block, check: Check)
+    ensures { Put page.old (HYPHEN ∷ check_text check) 3 page.new }
 {
-    let letter = if passes { b'Y' } else { b'N' };
-    block::put(out, at, &[b',', letter])
+    match check {
+        Check::OP => page.put(b"-OP"),
+        Check::OM => page.put(b"-OM"),
+        Check::SL => page.put(b"-SL"),
+        Check::PR => page.put(b"-PR"),
+        Check::RK => page.put(b"-RK"),
+    }
+}
+
+// The value of a check.
+fn put_figure(page: &mut Block, figure: Figure)
+    ensures { Put page.old (field (value_text (value_of figure))) 21 page.new }
+{
+    match figure {
+        Figure::Nothing => page.put(b",none"),
+        Figure::Number(n) => page.put_number(n),
+        Figure::Off => page.put(b",off"),
+    }
+}
+
+// One letter of two, as Y or N, and E or R.
+fn put_letter(page: &mut Block, holds: bool, yes: u8, no: u8)
+    ensures { Put page.old (field (cond holds yes no ∷ [])) 2 page.new }
+{
+    page.push(b',');
+    page.push(if holds { yes } else { no });
 }
 
 // E or R of a number (02, P7), and the end of the line.
-fn put_exactness(out: &mut [u8; 2048], at: usize, exact: bool) -> usize
-    ensures { Adds out.old at (ending (exactness_of exact)) 4 out.new result }
+fn put_exactness(page: &mut Block, exact: bool)
+    ensures { Put page.old (ending (exactness_of exact)) 4 page.new }
 {
-    let letter = if exact { b'E' } else { b'R' };
-    block::put(out, at, &[b',', letter, b'\r', b'\n'])
+    put_letter(page, exact, b'E', b'R');
+    page.put(b"\r\n");
 }
 
 // The eighth field of a check's line, which words have empty (02, P7), and the end of the line.
-fn put_ending(out: &mut [u8; 2048], at: usize, figure: Figure, exact: bool) -> usize
-    ensures { Adds out.old at (ending (figure_exactness figure exact)) 4 out.new result }
+fn put_ending(page: &mut Block, figure: Figure, exact: bool)
+    ensures { Put page.old (ending (figure_exactness figure exact)) 4 page.new }
 {
     match figure {
-        Figure::Nothing | Figure::Off => block::put(out, at, b",\r\n"),
-        Figure::Number(_) => put_exactness(out, at, exact),
+        Figure::Nothing | Figure::Off => page.put(b",\r\n"),
+        Figure::Number(_) => put_exactness(page, exact),
     }
 }
 
 // VERDICT, which every job has.
-fn put_verdict(out: &mut [u8; 2048], at: usize, key: Key, verdict: Verdict) -> usize
-    ensures { Adds out.old at (line_text key (verdict_line verdict)) 43 out.new result }
+fn put_verdict(page: &mut Block, key: Key, verdict: Verdict)
+    ensures { Put page.old (line_text key (verdict_line verdict)) 43 page.new }
 {
-    let end = line_key::put_key(out, at, key);
-    let end = block::put(out, end, b"VERDICT");
-    let end = line_fields::put_verdict_value(out, end, verdict);
-    block::put(out, end, b",,,,\r\n")
+    line_key::put_key(page, key);
+    page.put(b"VERDICT");
+    line_fields::put_verdict_value(page, verdict);
+    page.put(b",,,,\r\n");
 }
 
-// The line of a check in a combination, if there is one: each is given by its letters, as I and -OP.
-fn put_line(
-    out: &mut [u8; 2048],
-    at: usize,
-    key: Key,
-    combination: &[u8],
-    check: &[u8],
-    line: Line,
-) -> usize
-    ensures { (of : Combination) (by : Check) → combination.now ≡ combination_text of → check.now ≡ HYPHEN ∷ check_text by
-        → Adds out.old at (texts key (check_line of by line)) (line_room line) out.new result }
+// The line of a check in a combination, if there is one.
+fn put_line(page: &mut Block, key: Key, combination: Combination, check: Check, line: Line)
+    ensures { Put page.old (texts key (check_line combination check line)) (line_room line) page.new }
 {
     match line {
-        Line::Missing => at,
+        Line::Missing => {}
         Line::Shown {
             figure,
             limit,
@@ -96,78 +112,63 @@ fn put_line(
             passes,
             exact,
         } => {
-            let end = line_key::put_key(out, at, key);
-            let end = block::put(out, end, combination);
-            let end = block::put(out, end, check);
-            let end = put_figure(out, end, figure);
-            let end = block::put_number(out, end, limit);
-            let end = block::put_number(out, end, set);
-            let end = put_mark(out, end, passes);
-            put_ending(out, end, figure, exact)
+            line_key::put_key(page, key);
+            put_combination(page, combination);
+            put_check(page, check);
+            put_figure(page, figure);
+            page.put_number(limit);
+            page.put_number(set);
+            put_letter(page, passes, b'Y', b'N');
+            put_ending(page, figure, exact);
         }
     }
 }
 
 // SC or CL, given by its letters, if there is one.
-fn put_river_line(
-    out: &mut [u8; 2048],
-    at: usize,
-    key: Key,
-    first: u8,
-    second: u8,
-    line: RiverLine,
-) -> usize
-    ensures { (name : LineName) → first ∷ second ∷ [] ≡ name_text name
-        → Adds out.old at (texts key (river_line name line)) 78 out.new result }
+fn put_river_line(page: &mut Block, key: Key, letters: &[u8; 2], line: RiverLine)
+    ensures { (name : LineName) → letters.now ≡ name_text name
+        → Put page.old (texts key (river_line name line)) 78 page.new }
 {
     match line {
-        RiverLine::Missing => at,
+        RiverLine::Missing => {}
         RiverLine::Shown {
             value,
             limit,
             passes,
             exact,
         } => {
-            let end = line_key::put_key(out, at, key);
-            let end = block::put(out, end, &[first, second]);
-            let end = line_fields::put_signed(out, end, value);
-            let end = block::put_number(out, end, limit);
-            let end = block::push(out, end, b',');
-            let end = put_mark(out, end, passes);
-            put_exactness(out, end, exact)
+            line_key::put_key(page, key);
+            page.put(letters);
+            line_fields::put_signed(page, value);
+            page.put_number(limit);
+            page.push(b',');
+            put_letter(page, passes, b'Y', b'N');
+            put_exactness(page, exact);
         }
     }
 }
 
-// The lines of a combination, which is given by its letters.
-fn put_lines(out: &mut [u8; 2048], at: usize, key: Key, combination: &[u8], lines: Lines) -> usize
-    ensures { (of : Combination) → combination.now ≡ combination_text of
-        → Adds out.old at (texts key (combination_lines of lines)) (lines_room lines) out.new result }
+// The lines of a combination. Five calls and no loop over pairs: `lines_room` counts the room line by line.
+fn put_lines(page: &mut Block, key: Key, combination: Combination, lines: Lines)
+    ensures { Put page.old (texts key (combination_lines combination lines)) (lines_room lines) page.new }
 {
-    let op = lines.op;
-    let end = put_line(out, at, key, combination, b"-OP", op);
-    let om = lines.om;
-    let end = put_line(out, end, key, combination, b"-OM", om);
-    let sl = lines.sl;
-    let end = put_line(out, end, key, combination, b"-SL", sl);
-    let pr = lines.pr;
-    let end = put_line(out, end, key, combination, b"-PR", pr);
-    let rk = lines.rk;
-    put_line(out, end, key, combination, b"-RK", rk)
+    put_line(page, key, combination, Check::OP, lines.op);
+    put_line(page, key, combination, Check::OM, lines.om);
+    put_line(page, key, combination, Check::SL, lines.sl);
+    put_line(page, key, combination, Check::PR, lines.pr);
+    put_line(page, key, combination, Check::RK, lines.rk);
 }
 
 // The lines after VERDICT.
-fn put_later(out: &mut [u8; 2048], at: usize, key: Key, answer: Answer) -> usize
-    ensures { Adds out.old at (texts key (later_lines answer)) (answer_room answer) out.new result }
+fn put_later(page: &mut Block, key: Key, answer: Answer)
+    ensures { Put page.old (texts key (later_lines answer)) (answer_room answer) page.new }
 {
-    let end = put_lines(out, at, key, b"I", answer.one);
-    let end = put_lines(out, end, key, b"II", answer.two);
-    let end = put_lines(out, end, key, b"III", answer.three);
-    let end = put_lines(out, end, key, b"IV", answer.four);
-    let depth = answer.depth;
-    let end = put_river_line(out, end, key, b'S', b'C', depth);
-    let clear = answer.clear;
-    put_river_line(out, end, key, b'C', b'L', clear)
+    put_lines(page, key, Combination::I, answer.one);
+    put_lines(page, key, Combination::II, answer.two);
+    put_lines(page, key, Combination::III, answer.three);
+    put_lines(page, key, Combination::IV, answer.four);
+    put_river_line(page, key, b"SC", answer.depth);
+    put_river_line(page, key, b"CL", answer.clear);
 }
 
 // The bytes of a job's lines, of a refused job those of VERDICT alone. Where its set numbers are those of at most 16 load rows they
@@ -176,13 +177,10 @@ pub fn answer_text(key: Key, answer: Answer) -> Block
     ensures value { result ≡ block_of (text key answer) }
     ensures whole { Numbered answer → length (text key answer) ≤ 2048 }
 {
-    let mut bytes = [0u8; 2048];
-    let verdict = answer.verdict;
-    let end = put_verdict(&mut bytes, 0, key, verdict);
-    let len = if lines::stands_alone(verdict) {
-        end
-    } else {
-        put_later(&mut bytes, end, key, answer)
-    };
-    Block { bytes, len }
+    let mut page = Block::new();
+    put_verdict(&mut page, key, answer.verdict);
+    if !lines::stands_alone(answer.verdict) {
+        put_later(&mut page, key, answer);
+    }
+    page
 }

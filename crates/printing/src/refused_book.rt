@@ -13,10 +13,10 @@ pub fn book_line(number: u8, row: usize) -> Block
     ensures value { result ≡ block_of (book_text number row) }
     ensures whole { length (book_text number row) ≤ 2048 }
 {
-    let mut bytes = [0u8; 2048];
-    let end = block::put(&mut bytes, 0, b",,BOOK");
-    let end = block::put_number(&mut bytes, end, number as u64);
-    let end = block::put_number(&mut bytes, end, row as u64);
-    let len = block::put(&mut bytes, end, b",,,\r\n");
-    Block { bytes, len }
+    let mut page = Block::new();
+    page.put(b",,BOOK");
+    page.put_number(u64::from(number));
+    page.put_number(row as u64);
+    page.put(b",,,\r\n");
+    page
 }

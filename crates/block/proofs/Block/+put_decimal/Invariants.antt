@@ -1,5 +1,5 @@
 -- The number falls at each call.
-use Rattle.block.proofs.+put_decimal.Given as goal
+use Rattle.block.proofs.Block.+put_decimal.Given as goal
 
 abbrev pub decreases-put_decimal : goal.decreases-put_decimal
 decreases-put_decimal l = l.n
