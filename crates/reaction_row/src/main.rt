@@ -11,47 +11,31 @@ const NO_PHASE: u32 = 255;
 
 // The phase that an argument is; or one that no row has.
 fn phase_of(text: &[u8]) -> u32 {
-    if text.len() != 1 {
-        return NO_PHASE;
-    }
-    let digit = text[0];
-    match digit {
-        b'0' => 0,
-        b'1' => 1,
-        b'2' => 2,
+    match text {
+        [b'0'] => 0,
+        [b'1'] => 1,
+        [b'2'] => 2,
         _ => NO_PHASE,
     }
 }
 
-// Tells a refusal.
-fn refuse(err: &impl Print, words: &[u8]) {
-    files::put(err, b"reaction_row: refused ");
-    files::put(err, words);
+// What is wrong with what is asked, the record or its numbers, behind the number of the refusal.
+fn words_of(why: RowRefusal) -> &'static str {
+    match why {
+        RowRefusal::NoRow =>
+            "(26): member and job are 1 to 12 of A-Z, 0-9 and hyphen, the kind is DL, EP, LL, WC, BU, TM, EX, WL or SF, and the phase is 0, 1 or 2",
+        RowRefusal::NoRecord =>
+            "(21): standard input is not exactly one record of 40 to 72 bytes, or a load has an unknown case",
+        RowRefusal::NotFinite => "(22): a number, or the product of a load, is not finite",
+        RowRefusal::OutOfRange =>
+            "(23): V or H is outside -50,000 to 50,000 kN, x outside -30,000 to 30,000 mm, or y outside 0 to 60,000 mm, after rounding",
+        RowRefusal::TooShort => "(27): the buffer is shorter than the row",
+    }
 }
 
-// Tells what is wrong with what is asked, the record or its numbers.
+// Tells a refusal.
 fn tell(err: &impl Print, why: RowRefusal) {
-    match why {
-        RowRefusal::NoRow => refuse(
-            err,
-            b"(26): member and job are 1 to 12 of A-Z, 0-9 and hyphen, the kind is DL, EP, LL, WC, BU, TM, EX, WL or SF, and the phase is 0, 1 or 2\n",
-        ),
-        RowRefusal::NoRecord => refuse(
-            err,
-            b"(21): standard input is not exactly one record of 40 to 72 bytes, or a load has an unknown case\n",
-        ),
-        RowRefusal::NotFinite => {
-            refuse(
-                err,
-                b"(22): a number, or the product of a load, is not finite\n",
-            )
-        }
-        RowRefusal::OutOfRange => refuse(
-            err,
-            b"(23): V or H is outside -50,000 to 50,000 kN, x outside -30,000 to 30,000 mm, or y outside 0 to 60,000 mm, after rounding\n",
-        ),
-        RowRefusal::TooShort => refuse(err, b"(27): the buffer is shorter than the row\n"),
-    }
+    let _ = println!(err; "reaction_row: refused {}", words_of(why));
 }
 
 // Prints a row; where it cannot be written, that is told.
@@ -82,23 +66,18 @@ fn react(
 // The row of a record with what the arguments are. One that is longer than its buffer counts as empty, so that no name is cut.
 fn react_as_asked(rt: &(impl Env + Print), err: &impl Print, sent: &[u8]) {
     let mut member = [0u8; 4096];
-    let members = files::argument(rt, 1, &mut member);
+    let len = files::argument(rt, 1, &mut member);
+    let member = &member[..len];
     let mut job = [0u8; 4096];
-    let jobs = files::argument(rt, 2, &mut job);
+    let len = files::argument(rt, 2, &mut job);
+    let job = &job[..len];
     let mut kind = [0u8; 4096];
-    let kinds = files::argument(rt, 3, &mut kind);
+    let len = files::argument(rt, 3, &mut kind);
+    let kind = &kind[..len];
     let mut phase = [0u8; 4096];
-    let phases = files::argument(rt, 4, &mut phase);
-    let number = phase_of(&phase[..phases]);
-    react(
-        rt,
-        err,
-        &member[..members],
-        &job[..jobs],
-        &kind[..kinds],
-        number,
-        sent,
-    );
+    let len = files::argument(rt, 4, &mut phase);
+    let phase = phase_of(&phase[..len]);
+    react(rt, err, member, job, kind, phase, sent);
 }
 
 fn main(rt: HostRuntime) {

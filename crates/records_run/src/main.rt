@@ -25,18 +25,6 @@ fn number_of(raw: &[u8]) -> u32 {
     entry.size
 }
 
-// Whether each byte from a place on is what it was before the call.
-fn is_untouched(out: &[u8], from: usize) -> bool {
-    let mut i = from;
-    while i < out.len() {
-        if out[i] != UNTOUCHED {
-            return false;
-        }
-        i += 1;
-    }
-    true
-}
-
 // The number of a refusal; 0 where a row was written.
 fn refusal_of(written: Result<usize, RowRefusal>) -> u64 {
     match written {
@@ -58,13 +46,11 @@ fn put_hex(rt: &impl Print, bytes: &[u8]) {
 
 // The bytes that were written, in hex; or that a byte behind them is another than it was.
 fn put_row(rt: &impl Print, out: &[u8], len: usize) {
-    if len <= out.len() {
-        if is_untouched(out, len) {
-            put_hex(rt, &out[..len]);
-            return;
-        }
+    let untouched = out.iter().skip(len).all(|byte| *byte == UNTOUCHED);
+    match out.get(..len) {
+        Some(row) if untouched => put_hex(rt, row),
+        _ => files::put(rt, b"touched"),
     }
-    files::put(rt, b"touched");
 }
 
 // What a call was told, and what it wrote to the buffer.
