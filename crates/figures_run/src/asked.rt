@@ -2,67 +2,46 @@
 //
 // What is written no contract can say; how many figures agree is said.
 ghost use Rattle.std.specs.Prelude.{◌≡◌};
-ghost use Rattle.figures_run.specs.steps.Asked.{agreeing};
+ghost use Rattle.figures_run.specs.steps.Asked.{with_one, agreeing};
 
-// Words, and the number that they end with.
-pub(crate) fn write(rt: &impl Print, words: &[u8], number: u64) {
-    files::put(rt, words);
-    files::put_number(rt, number);
+use std::fmt::Display;
+
+// Where the lines are written, and how many figures agree so far.
+#[derive(Drop)]
+pub(crate) struct Tally<'a, P> {
+    pub(crate) to: &'a P,
+    pub(crate) agree: u64,
 }
 
-// How many figures agree, with one more where what came is what it should be.
-pub(crate) fn counted(agree: u64, came: u64, says: u64) -> u64
-    ensures { result ≡ agreeing agree came says }
-{
-    if came == says {
-        return std::num::wrapping_add_u64(agree, 1);
+impl<'a, P: Print> Tally<'a, P> {
+    // One more, where what came is what it should be.
+    pub(crate) fn count(&mut self, agrees: bool)
+        ensures { self.new.agree ≡ with_one agrees self.old.agree }
+    {
+        if agrees {
+            self.agree = self.agree.wrapping_add(1);
+        }
     }
-    agree
-}
 
-// The line of a figure, by the words and the number that ask for it, and by the words of who says what it should be.
-fn told(
-    rt: &impl Print,
-    agree: u64,
-    words: &[u8],
-    number: u64,
-    came: u64,
-    whose: &[u8],
-    says: u64,
-) -> u64
-    ensures { result ≡ agreeing agree came says }
-{
-    write(rt, words, number);
-    write(rt, b" came ", came);
-    write(rt, whose, says);
-    files::put(rt, b"\n");
-    counted(agree, came, says)
-}
+    // The line of a figure, by what was asked and by who says what it should be. What cannot be written is left out.
+    fn line(&mut self, asked: impl Display + Drop, came: u64, whose: &str, says: u64)
+        ensures { self.new.agree ≡ agreeing self.old.agree came says }
+    {
+        let _ = println!(self.to; "{asked} came {came}, {whose} {says}");
+        self.count(came == says);
+    }
 
-// The line of a figure of 01.
-pub(crate) fn figure(
-    rt: &impl Print,
-    agree: u64,
-    words: &[u8],
-    number: u64,
-    came: u64,
-    says: u64,
-) -> u64
-    ensures { result ≡ agreeing agree came says }
-{
-    told(rt, agree, words, number, came, b", 01 says ", says)
-}
+    // The line of a figure of 01.
+    pub(crate) fn figure(&mut self, asked: impl Display + Drop, came: u64, says: u64)
+        ensures { self.new.agree ≡ agreeing self.old.agree came says }
+    {
+        self.line(asked, came, "01 says", says);
+    }
 
-// The line of a figure of 02, which docs/DECISIONS.md works out by hand.
-pub(crate) fn worked(
-    rt: &impl Print,
-    agree: u64,
-    words: &[u8],
-    number: u64,
-    came: u64,
-    says: u64,
-) -> u64
-    ensures { result ≡ agreeing agree came says }
-{
-    told(rt, agree, words, number, came, b", by hand ", says)
+    // The line of a figure of 02, which docs/DECISIONS.md works out by hand.
+    pub(crate) fn worked(&mut self, asked: impl Display + Drop, came: u64, says: u64)
+        ensures { self.new.agree ≡ agreeing self.old.agree came says }
+    {
+        self.line(asked, came, "by hand", says);
+    }
 }

@@ -4,6 +4,7 @@
 ghost use Rattle.sets.specs.Bounded.{Bounded};
 ghost use Rattle.checks.specs.Sized.{Sized};
 
+use crate::asked::Tally;
 use checks::{Base, Check, Figure};
 use earth::EarthAnswer;
 use fields::Entry;
@@ -40,20 +41,10 @@ fn row(a: u32, b: u32, c: u32, d: u32) -> Numbers {
 }
 
 // The thrust and the height of a fill of soil a, level; no line where it is refused.
-fn pushed(rt: &impl Print, agree: u64) -> u64 {
-    match earth::pressure(TABLE2, row(1, 1, 6000, 8000)) {
-        EarthAnswer::OutOfRange | EarthAnswer::NoCoefficient => agree,
-        EarthAnswer::Push { thrust, arm } => {
-            let next = crate::asked::figure(
-                rt,
-                agree,
-                b"H of soil a, level, 6000 by ",
-                8000,
-                thrust,
-                664,
-            );
-            crate::asked::figure(rt, next, b"y of the same, 6000 by ", 8000, arm, 2000)
-        }
+fn pushed(tally: &mut Tally<'_, impl Print>) {
+    if let EarthAnswer::Push { thrust, arm } = earth::pressure(TABLE2, row(1, 1, 6000, 8000)) {
+        tally.figure("H of soil a, level, 6000 by 8000", thrust, 664);
+        tally.figure("y of the same, 6000 by 8000", arm, 2000);
     }
 }
 
@@ -100,34 +91,28 @@ fn figure_of_row(check: Check, numbers: Numbers) -> u64 {
     figure_number(checks::set_figures::figure_of(check, example_base(), loads, 1))
 }
 
-fn overturning(rt: &impl Print, agree: u64, y: u32, says: u64) -> u64 {
-    let came = figure_of_row(Check::OP, row(1000, 0, 100, y));
-    crate::asked::figure(
-        rt,
-        agree,
-        b"OP on B 4000 of V 1000, x 0, H 100, y ",
-        y as u64,
-        came,
-        says,
-    )
-}
-
-// PR on that base of a row of V, and of an H at 1,000 mm that makes M.
-fn pressed(rt: &impl Print, agree: u64, words: &[u8], v: u32, h: u32, says: u64) -> u64 {
-    let numbers = row(v, 0, h, 1000);
-    let totals = sums::set_sums::totals_of(4000, loads_of_row(numbers), 1);
-    let came = figure_of_row(Check::PR, numbers);
-    crate::asked::figure(rt, agree, words, totals.m.size, came, says)
-}
-
-// Earth pressure, OP and PR, figure by figure: how many agree.
-pub(crate) fn borne(rt: &impl Print, agree: u64) -> u64 {
-    let a = overturning(
-        rt,
-        overturning(rt, pushed(rt, agree), 10_000, 200),
-        10_001,
-        199,
-    );
-    let b = pressed(rt, a, b"PR on B 4000, L 8000 of N 1000, M ", 1000, 1000, 84);
-    pressed(rt, b, b"PR on the same of N 900, M ", 900, 600, 57)
+// Earth pressure, OP and PR, figure by figure; in PR an H at 1,000 mm makes M.
+pub(crate) fn borne(tally: &mut Tally<'_, impl Print>) {
+    pushed(tally);
+    for (y, says) in [(10_000, 200), (10_001, 199)] {
+        let came = figure_of_row(Check::OP, row(1000, 0, 100, y));
+        tally.figure(
+            format_args!("OP on B 4000 of V 1000, x 0, H 100, y {y}"),
+            came,
+            says,
+        );
+    }
+    for (words, v, h, says) in [
+        ("B 4000, L 8000 of N 1000", 1000, 1000, 84),
+        ("the same of N 900", 900, 600, 57),
+    ] {
+        let numbers = row(v, 0, h, 1000);
+        let totals = sums::set_sums::totals_of(4000, loads_of_row(numbers), 1);
+        let came = figure_of_row(Check::PR, numbers);
+        tally.figure(
+            format_args!("PR on {words}, M {}", totals.m.size),
+            came,
+            says,
+        );
+    }
 }

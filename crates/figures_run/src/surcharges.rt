@@ -1,14 +1,10 @@
 // The figures of surcharge (document 02, P5), which docs/DECISIONS.md works out by hand.
 //
 // A row that is refused has its number for its first force, and 0 for the other figures: none of the forces here is 11, 19 or 20.
-ghost use Rattle.std.specs.Prelude.{◌<◌};
-
-use crate::{asked, forces};
+use crate::asked::Tally;
+use crate::forces;
 use kinds::Numbers;
-use surcharge::{Part, Parts, SurchargeAnswer};
-
-// How many rows there are.
-const COUNT: usize = 30;
+use surcharge::SurchargeAnswer;
 
 // A G row's standard, dead surcharge, soil, depth and length; and its first force and arm, and its second, by hand. Every standard and every soil, both cases
 // and where they meet, what is rounded when, the largest rows and the smallest, and each refusal, on both sides where it has two.
@@ -45,105 +41,51 @@ const ROWS: [[u32; 9]; 30] = [
     [1, 0, 1, 1000, 60001, 11, 0, 0, 0],
 ];
 
-// A number of a row.
-fn number(i: usize, j: usize) -> u32
-    requires { (i < 30) × (j < 9) }
-{
-    ROWS[i][j]
-}
-
 // A G row, in service.
-fn row(i: usize) -> Numbers
-    requires { i < 30 }
-{
+fn row(standard: u32, dead: u32, soil: u32, depth: u32, length: u32) -> Numbers {
     Numbers {
-        n1: forces::filled(number(i, 0)),
-        n2: forces::filled(number(i, 1)),
-        n3: forces::filled(number(i, 2)),
-        n4: forces::filled(number(i, 3)),
-        n5: forces::filled(number(i, 4)),
+        n1: forces::filled(standard),
+        n2: forces::filled(dead),
+        n3: forces::filled(soil),
+        n4: forces::filled(depth),
+        n5: forces::filled(length),
         n6: forces::filled(0),
     }
 }
 
-// A refusal's number in the place of the first force.
-fn refused(number: u64) -> Parts {
-    let first = Part {
-        force: number,
-        arm: 0,
-    };
-    let second = Part { force: 0, arm: 0 };
-    Parts { first, second }
-}
-
-// The figures of a row.
-fn came(i: usize) -> Parts
-    requires { i < 30 }
-{
-    match surcharge::pressure(row(i)) {
-        SurchargeAnswer::OutOfRange => refused(11),
-        SurchargeAnswer::LengthNotAbove => refused(19),
-        SurchargeAnswer::SoilTypeE => refused(20),
-        SurchargeAnswer::Pushes(parts) => parts,
+// The two forces and arms of a row.
+fn pushes_of(row: Numbers) -> [u64; 4] {
+    match surcharge::pressure(row) {
+        SurchargeAnswer::OutOfRange => [11, 0, 0, 0],
+        SurchargeAnswer::LengthNotAbove => [19, 0, 0, 0],
+        SurchargeAnswer::SoilTypeE => [20, 0, 0, 0],
+        SurchargeAnswer::Pushes(parts) => [
+            parts.first.force,
+            parts.first.arm,
+            parts.second.force,
+            parts.second.arm,
+        ],
     }
 }
 
-// The figures of a row by hand.
-fn by_hand(i: usize) -> Parts
-    requires { i < 30 }
-{
-    let first = Part {
-        force: number(i, 5) as u64,
-        arm: number(i, 6) as u64,
-    };
-    let second = Part {
-        force: number(i, 7) as u64,
-        arm: number(i, 8) as u64,
-    };
-    Parts { first, second }
-}
-
-// Words, and the four figures of a row behind them.
-fn write_parts(rt: &impl Print, words: &[u8], parts: Parts) {
-    let first = parts.first;
-    let second = parts.second;
-    asked::write(rt, words, first.force);
-    asked::write(rt, b" ", first.arm);
-    asked::write(rt, b" ", second.force);
-    asked::write(rt, b" ", second.arm);
-}
-
-// The line of a row: how many agree, with one more where all four figures are what they should be.
-fn told(rt: &impl Print, agree: u64, i: usize) -> u64
-    requires { i < 30 }
-{
-    asked::write(rt, b"G ", number(i, 0) as u64);
-    asked::write(rt, b" ", number(i, 1) as u64);
-    asked::write(rt, b" ", number(i, 2) as u64);
-    asked::write(rt, b" ", number(i, 3) as u64);
-    asked::write(rt, b" ", number(i, 4) as u64);
-    let parts = came(i);
-    let hand = by_hand(i);
-    write_parts(rt, b" came ", parts);
-    write_parts(rt, b", by hand ", hand);
-    files::put(rt, b"\n");
-    let first = parts.first;
-    let second = parts.second;
-    let one = hand.first;
-    let two = hand.second;
-    let forces = (first.force == one.force) & (second.force == two.force);
-    let arms = (first.arm == one.arm) & (second.arm == two.arm);
-    let same = if forces & arms { 1 } else { 0 };
-    asked::counted(agree, same, 1)
-}
-
-// Surcharge, row by row: how many agree.
-pub(crate) fn laden(rt: &impl Print, agree: u64) -> u64 {
-    let mut count = agree;
-    let mut i: usize = 0;
-    while i < COUNT {
-        count = told(rt, count, i);
-        i = i + 1;
+// Surcharge, row by row, of which all four figures are to agree.
+pub(crate) fn laden(tally: &mut Tally<'_, impl Print>) {
+    for [
+        standard,
+        dead,
+        soil,
+        depth,
+        length,
+        force,
+        arm,
+        second,
+        second_arm,
+    ] in ROWS {
+        let came = pushes_of(row(standard, dead, soil, depth, length));
+        let [a, b, c, d] = came;
+        let _ = println!(tally.to;
+            "G {standard} {dead} {soil} {depth} {length} came {a} {b} {c} {d}, by hand {force} {arm} {second} {second_arm}"
+        );
+        tally.count(came == [force, arm, second, second_arm].map(u64::from));
     }
-    count
 }

@@ -1,4 +1,4 @@
--- What `counted` and `figure` answer: how many figures agree behind one more.
+-- How many figures agree behind `count`, and behind `figure`.
 use Rattle.std.specs.Prelude.{ℕ, ◌+◌, ◌%◌, ◌^◌, Bool, true, false, ◌==◌}
 
 abbrev pub with_one : Bool → ℕ → ℕ
