@@ -47,9 +47,7 @@ impl From<TooShort> for CallRefusal {
 fn lines_of(held: [[u32; 5]; 5], job: Job) -> Block
     ensures { LinesIn (fill_of held) job result }
 {
-    let key = job.key;
-    let answer = answer::answer_of(held, job);
-    printing::answer_text(key, answer)
+    printing::answer_text(job.key, answer::answer_of(held, job))
 }
 
 // A block's text behind the first so many bytes of a buffer, which has room for a whole block there; and where it ends.
@@ -74,14 +72,9 @@ fn gather(
     requires { (n ≤ 64) × (length values.old ≡ 64) }
     ensures { FillsGiven result own.now common.now jobs n values.new }
 {
-    let nobody = fields::names::blank_name();
-    let mut members = [nobody; 64];
-    let mut k: usize = 0;
-    while k < n {
-        let job = jobs[k];
-        let member = job.key.member;
-        members[k] = member;
-        k += 1;
+    let mut members = [fields::names::blank_name(); 64];
+    for k in 0..n {
+        members[k] = jobs[k].key.member;
     }
     fills::values_for(own, common, members, n, values)
 }
@@ -119,28 +112,20 @@ pub fn book_lines(book: &[u8], own: &[u8], common: &[u8], out: &mut [u8; 131072]
     ensures within { result ≤ length out.new }
 {
     let read = book::read_book(book);
-    let count = read.count;
-    match count {
+    let n = match read.count {
         Count::Refused(why, row) => {
             let line = printing::refused_book::book_line(rows::refusals::number_of(why), row);
-            append(out, 0, line)
+            return append(out, 0, line);
         }
-        Count::Given(n) => {
-            let blank = [[0u32; 5]; 5];
-            let mut values = [blank; 64];
-            if !gather(own, common, read.jobs, n, &mut values) {
-                let line = printing::refused_book::book_line(8, 0);
-                return append(out, 0, line);
-            }
-            let mut end: usize = 0;
-            let mut i: usize = 0;
-            while i < n {
-                let job = read.jobs[i];
-                let held = values[i];
-                end = append(out, end, lines_of(held, job));
-                i += 1;
-            }
-            end
-        }
+        Count::Given(n) => n,
+    };
+    let mut values = [[[0u32; 5]; 5]; 64];
+    if !gather(own, common, read.jobs, n, &mut values) {
+        return append(out, 0, printing::refused_book::book_line(8, 0));
     }
+    let mut end: usize = 0;
+    for i in 0..n {
+        end = append(out, end, lines_of(values[i], read.jobs[i]));
+    }
+    end
 }
