@@ -4,14 +4,14 @@ use crate::words::Grouped;
 use kinds::Row;
 use lines::Answer;
 use std::io;
-use warnings::OneWay;
+use warnings::Way;
 
-// Forces, so named, that act one way only.
-fn tell_way(rt: &impl Print, job: JobOf, forces: &str, way: OneWay) -> io::Result<()> {
+// Forces, so named, where they act one way only.
+fn tell_way(rt: &impl Print, job: JobOf, forces: &str, way: Option<Way>) -> io::Result<()> {
     let toward = match way {
-        OneWay::Neither => return Ok(()),
-        OneWay::Forward => "+x",
-        OneWay::Backward => "-x",
+        None => return Ok(()),
+        Some(Way::Forward) => "+x",
+        Some(Way::Backward) => "-x",
     };
     println!(rt;
         "{}\n  {forces} acts toward {toward} only: a row with the other sign tries the other way.   [warning]",

@@ -7,27 +7,28 @@ use Rattle.arithmetic.proofs.Deciding.{decides_one}
 use Rattle.kinds.specs.declared.Kind.{Kind}
 use Rattle.kinds.specs.declared.Kind.TheVariants.{WL, SF}
 use Rattle.kinds.specs.declared.Row.{Row}
-use Rattle.warnings.specs.declared.OneWay.{OneWay}
-use Rattle.warnings.specs.declared.OneWay.TheVariants.{Neither, Forward, Backward}
+use Rattle.std.specs.Prelude.{Option, Some, None}
+use Rattle.warnings.specs.declared.Way.{Way}
+use Rattle.warnings.specs.declared.Way.TheVariants.{Forward, Backward}
 use Rattle.warnings.specs.declared.JobWarnings.{JobWarnings}
 use Rattle.warnings.specs.declared.RowWarnings.{RowWarnings}
 use Rattle.warnings.specs.Warnings.{Outside, Low, NoDead, WayIs, JobWarned, RowWarned}
 
-pub one_way_one : (kind : Kind) (rows : List Row) (a b : OneWay) → WayIs kind rows a → WayIs kind rows b → a ≡ b
+pub one_way_one : (kind : Kind) (rows : List Row) (a b : Option Way) → WayIs kind rows a → WayIs kind rows b → a ≡ b
 unfolding WayIs
-one_way_one kind rows Neither Neither p q = refl
-one_way_one kind rows Neither Forward (inl p) q = absurd (q.1 p.1)
-one_way_one kind rows Neither Forward (inr p) q = absurd (p.0 q.0)
-one_way_one kind rows Neither Backward (inl p) q = absurd (q.0 p.0)
-one_way_one kind rows Neither Backward (inr p) q = absurd (p.1 q.1)
-one_way_one kind rows Forward Neither p (inl q) = absurd (p.1 q.1)
-one_way_one kind rows Forward Neither p (inr q) = absurd (q.0 p.0)
-one_way_one kind rows Forward Forward p q = refl
-one_way_one kind rows Forward Backward p q = absurd (q.0 p.0)
-one_way_one kind rows Backward Neither p (inl q) = absurd (p.0 q.0)
-one_way_one kind rows Backward Neither p (inr q) = absurd (q.1 p.1)
-one_way_one kind rows Backward Forward p q = absurd (p.0 q.0)
-one_way_one kind rows Backward Backward p q = refl
+one_way_one kind rows None None p q = refl
+one_way_one kind rows None (Some Forward) (inl p) q = absurd (q.1 p.1)
+one_way_one kind rows None (Some Forward) (inr p) q = absurd (p.0 q.0)
+one_way_one kind rows None (Some Backward) (inl p) q = absurd (q.0 p.0)
+one_way_one kind rows None (Some Backward) (inr p) q = absurd (p.1 q.1)
+one_way_one kind rows (Some Forward) None p (inl q) = absurd (p.1 q.1)
+one_way_one kind rows (Some Forward) None p (inr q) = absurd (q.0 p.0)
+one_way_one kind rows (Some Forward) (Some Forward) p q = refl
+one_way_one kind rows (Some Forward) (Some Backward) p q = absurd (q.0 p.0)
+one_way_one kind rows (Some Backward) None p (inl q) = absurd (p.0 q.0)
+one_way_one kind rows (Some Backward) None p (inr q) = absurd (q.1 p.1)
+one_way_one kind rows (Some Backward) (Some Forward) p q = absurd (p.0 q.0)
+one_way_one kind rows (Some Backward) (Some Backward) p q = refl
 
 pub job_warnings_one : (rows : List Row) (a b : JobWarnings) → JobWarned rows a → JobWarned rows b → a ≡ b
 job_warnings_one rows a b p q =

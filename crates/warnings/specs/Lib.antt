@@ -1,3 +1,2 @@
 pub mod Warnings
 pub mod Served
-pub mod steps

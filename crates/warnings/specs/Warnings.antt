@@ -1,6 +1,6 @@
 -- Where a refusal lies, "Warnings, of jobs that are not refused": what is asked of a job's load rows, and of its answer. V in kN, x in mm from the
 -- base centre, H in kN, positive toward +x, and y in mm above the base are n1 to n4 of a row that gives its own forces (document 01, the job book).
-use Rattle.std.specs.Prelude.{◌≡◌, ◌⊎◌, Bool, true, false, ℕ, ◌*◌, ◌<◌}
+use Rattle.std.specs.Prelude.{◌≡◌, ◌⊎◌, Bool, true, false, ℕ, ◌*◌, ◌<◌, Option, Some, None}
 use mathlib.Core.List.{List, Memᴰ}
 use Rattle.arithmetic.specs.decides.Decides.{Decides}
 use Rattle.kinds.specs.declared.Kind.{Kind}
@@ -10,8 +10,8 @@ use Rattle.kinds.specs.declared.classes.Source.TheVariants.{Own}
 use Rattle.kinds.specs.classes.Classes.{source}
 use Rattle.lines.specs.declared.Line.TheVariants.{Missing}
 use Rattle.lines.specs.declared.Answer.{Answer}
-use Rattle.warnings.specs.declared.OneWay.{OneWay}
-use Rattle.warnings.specs.declared.OneWay.TheVariants.{Neither, Forward, Backward}
+use Rattle.warnings.specs.declared.Way.{Way}
+use Rattle.warnings.specs.declared.Way.TheVariants.{Forward, Backward}
 use Rattle.warnings.specs.declared.JobWarnings.{JobWarnings}
 use Rattle.warnings.specs.declared.RowWarnings.{RowWarnings}
 
@@ -28,14 +28,14 @@ pub record Low (row : Row) : Type 0 where
   pub below : row.numbers.n4.size < 100
 
 -- P holds of one of the rows
-pub record Some (P : Row → Type 0) (rows : List Row) : Type 0 where
+pub record Among (P : Row → Type 0) (rows : List Row) : Type 0 where
   pub row : Row
   pub among : Memᴰ row rows
   pub has : P row
 
 -- "no DL row"
 unfoldable pub NoDead : List Row → Type 0
-NoDead rows = Some (λ row. row.kind ≡ DL) rows → ⊥
+NoDead rows = Among (λ row. row.kind ≡ DL) rows → ⊥
 
 -- a row of the kind with an H above 0, or, backward, with one below 0
 pub record Pushes (kind : Kind) (backward : Bool) (row : Row) : Type 0 where
@@ -44,10 +44,10 @@ pub record Pushes (kind : Kind) (backward : Bool) (row : Row) : Type 0 where
   pub way : row.numbers.n3.minus ≡ backward
 
 -- "one way only"; neither is both ways, or none at all
-unfoldable pub WayIs : Kind → List Row → OneWay → Type 0
-WayIs kind rows Neither = (Some (Pushes kind false) rows × Some (Pushes kind true) rows) ⊎ ((Some (Pushes kind false) rows → ⊥) × (Some (Pushes kind true) rows → ⊥))
-WayIs kind rows Forward = Some (Pushes kind false) rows × (Some (Pushes kind true) rows → ⊥)
-WayIs kind rows Backward = (Some (Pushes kind false) rows → ⊥) × Some (Pushes kind true) rows
+unfoldable pub WayIs : Kind → List Row → Option Way → Type 0
+WayIs kind rows None = (Among (Pushes kind false) rows × Among (Pushes kind true) rows) ⊎ ((Among (Pushes kind false) rows → ⊥) × (Among (Pushes kind true) rows → ⊥))
+WayIs kind rows (Some Forward) = Among (Pushes kind false) rows × (Among (Pushes kind true) rows → ⊥)
+WayIs kind rows (Some Backward) = (Among (Pushes kind false) rows → ⊥) × Among (Pushes kind true) rows
 
 -- what is warned of the load rows of a job
 pub record JobWarned (rows : List Row) (warnings : JobWarnings) : Type 0 where

@@ -1,19 +1,15 @@
 // Warnings of a job that is not refused (where a refusal lies): what is lawful, and is yet more likely a slip of the pen than meant. They stand
 // apart from the refusals, and nothing here touches the verdict.
 //
-// Each warning is one question, yes or no, of the load rows or of the answer, and is stated as that question (`specs/Warnings.antt`). One loop
-// asks every row once. That no service combination was checked is read off the lines of the answer; what it means, that none of I, II and III
+// Each warning is one question, yes or no, of the load rows or of the answer, and is stated as that question (`specs/Warnings.antt`).
+// That no service combination was checked is read off the lines of the answer; what it means, that none of I, II and III
 // has a permitted set, is a theorem (`proofs/Served.antt`).
 #![tactic(auto)]
 
 ghost use Rattle.std.specs.Prelude.{◌≡◌, ◌*◌, ◌<◌, take};
 ghost use Rattle.arithmetic.specs.decides.Decides.{Decides};
-ghost use Rattle.kinds.specs.declared.Kind.TheVariants.{DL, WL, SF};
-ghost use Rattle.kinds.specs.declared.classes.Source.TheVariants.{Own};
-ghost use Rattle.kinds.specs.classes.Classes.{source};
-ghost use Rattle.lines.specs.declared.Line.TheVariants.{Missing};
-ghost use Rattle.warnings.specs.Warnings.{JobWarned, RowWarned, Unserved};
-ghost use Rattle.warnings.specs.steps.Ways.{way_of};
+ghost use Rattle.kinds.specs.declared.Kind.TheVariants.{DL};
+ghost use Rattle.warnings.specs.Warnings.{Among, Pushes, WayIs, JobWarned, RowWarned, Unserved};
 
 use kinds::classes::Source;
 use kinds::{Kind, Row};
@@ -22,20 +18,19 @@ use lines::{Answer, Line};
 // The height above the base, in mm, below which an H is warned of: metres written for millimetres?
 const EXPECTED_HEIGHT: u32 = 100;
 
-// Which way the forces of a kind act, where they act one way only: both ways or none at all; toward +x only; toward -x only.
+// A way in which forces act: toward +x, or toward -x.
 #[derive(Clone, Copy)]
-pub enum OneWay {
-    Neither,
+pub enum Way {
     Forward,
     Backward,
 }
 
-// What is odd about the load rows of a job: no DL row; wind one way only; earthquake one way only.
+// What is odd about the load rows of a job: no DL row; the way of the wind, and that of the earthquake, where these act one way only.
 #[derive(Clone, Copy)]
 pub struct JobWarnings {
     pub no_dead: bool,
-    pub wind: OneWay,
-    pub earthquake: OneWay,
+    pub wind: Option<Way>,
+    pub earthquake: Option<Way>,
 }
 
 // What is odd about a load row: its V stands outside the base; its H acts low.
@@ -45,142 +40,75 @@ pub struct RowWarnings {
     pub low: bool,
 }
 
-// Whether a row is one of dead load.
-fn is_dead(kind: Kind) -> bool
-    ensures { Decides result (kind ≡ DL) }
+// Whether a row is of the kind and has an H above 0, or, backward, one below 0.
+fn pushes(row: &Row, kind: Kind, backward: bool) -> bool
+    ensures { Decides result (Pushes kind backward row.now) }
 {
-    if let Kind::DL = kind {
-        return true;
-    }
-    false
+    let h = row.numbers.n3;
+    row.kind == kind && 0 < h.size && h.minus == backward
 }
 
-// Whether a row is one of wind.
-fn is_wind(kind: Kind) -> bool
-    ensures { Decides result (kind ≡ WL) }
+// Whether one of the rows pushes so.
+fn some_push(rows: &[Row], kind: Kind, backward: bool) -> bool
+    ensures { Decides result (Among (Pushes kind backward) rows.now) }
 {
-    if let Kind::WL = kind {
-        return true;
-    }
-    false
+    rows.iter().any(|row| pushes(row, kind, backward))
 }
 
-// Whether a row is one of earthquake.
-fn is_earthquake(kind: Kind) -> bool
-    ensures { Decides result (kind ≡ SF) }
+// Whether there is a DL row.
+fn has_dead(rows: &[Row]) -> bool
+    ensures { Decides result (Among (λ row. row.kind ≡ DL) rows.now) }
 {
-    if let Kind::SF = kind {
-        return true;
-    }
-    false
+    rows.iter().any(|row| row.kind == Kind::DL)
 }
 
-// The one way in which forces act, by whether some act forward and whether some act backward.
-fn way_of(forward: bool, backward: bool) -> OneWay
-    ensures { result ≡ way_of forward backward }
+// The way in which the rows of a kind push, where they push one way only.
+fn way_of(rows: &[Row], kind: Kind) -> Option<Way>
+    ensures { WayIs kind rows.now result }
 {
-    if forward & !backward {
-        return OneWay::Forward;
+    match (some_push(rows, kind, false), some_push(rows, kind, true)) {
+        (true, false) => Some(Way::Forward),
+        (false, true) => Some(Way::Backward),
+        (true, true) | (false, false) => None,
     }
-    if backward & !forward {
-        return OneWay::Backward;
-    }
-    OneWay::Neither
 }
 
 // The warnings of a job's load rows, which are the first `count` of `rows`, at most 16.
 pub fn job_warnings(rows: [Row; 16], count: usize) -> JobWarnings
     ensures { JobWarned (take count rows) result }
 {
-    let mut dead = false;
-    let mut wind_forward = false;
-    let mut wind_backward = false;
-    let mut earthquake_forward = false;
-    let mut earthquake_backward = false;
-    let mut i: usize = 0;
-    while (i < count) & (i < 16) {
-        let row = rows[i];
-        let kind = row.kind;
-        let h = row.numbers.n3;
-        let forward = (0 < h.size) & !h.minus;
-        let backward = (0 < h.size) & h.minus;
-        let wind = is_wind(kind);
-        let earthquake = is_earthquake(kind);
-        dead = dead | is_dead(kind);
-        wind_forward = wind_forward | (wind & forward);
-        wind_backward = wind_backward | (wind & backward);
-        earthquake_forward = earthquake_forward | (earthquake & forward);
-        earthquake_backward = earthquake_backward | (earthquake & backward);
-        i = i + 1;
-    }
-    let wind = way_of(wind_forward, wind_backward);
-    let earthquake = way_of(earthquake_forward, earthquake_backward);
+    let rows = &rows[..count.min(16)];
     JobWarnings {
-        no_dead: !dead,
-        wind,
-        earthquake,
+        no_dead: !has_dead(rows),
+        wind: way_of(rows, Kind::WL),
+        earthquake: way_of(rows, Kind::SF),
     }
-}
-
-// Whether a row gives its own forces: V, x, H and y.
-fn is_own(kind: Kind) -> bool
-    ensures { Decides result (source kind ≡ Own) }
-{
-    let source = kinds::classes::source_of(kind);
-    if let Source::Own = source {
-        return true;
-    }
-    false
 }
 
 // Whether there is a V, and x lies outside a base of this width, both in mm; at the edge it stands within.
 fn is_outside(width: u32, v: u32, x: u32) -> bool
     ensures { Decides result ((0 < v) × (width < 2 * x)) }
 {
-    if v == 0 {
-        return false;
-    }
-    if (width as u64) < 2 * (x as u64) {
-        return true;
-    }
-    false
+    0 < v && u64::from(width) < 2 * u64::from(x)
 }
 
 // Whether there is an H, and y, in mm, is lower than expected.
 fn is_low(h: u32, y: u32) -> bool
     ensures { Decides result ((0 < h) × (y < 100)) }
 {
-    if h == 0 {
-        return false;
-    }
-    if y < EXPECTED_HEIGHT {
-        return true;
-    }
-    false
+    0 < h && y < EXPECTED_HEIGHT
 }
 
 // The warnings of a load row, on a base of this width in mm. Only a row that gives its own forces has V, x, H and y in its columns.
 pub fn row_warnings(width: u32, row: Row) -> RowWarnings
     ensures { RowWarned width row result }
 {
-    let kind = row.kind;
-    let own = is_own(kind);
-    let outside = is_outside(width, row.numbers.n1.size, row.numbers.n2.size);
-    let low = is_low(row.numbers.n3.size, row.numbers.n4.size);
+    let numbers = row.numbers;
+    let own = kinds::classes::source_of(row.kind) == Source::Own;
     RowWarnings {
-        outside: own & outside,
-        low: own & low,
+        outside: own && is_outside(width, numbers.n1.size, numbers.n2.size),
+        low: own && is_low(numbers.n3.size, numbers.n4.size),
     }
-}
-
-// Whether a check has no line.
-fn is_missing(line: Line) -> bool
-    ensures { Decides result (line ≡ Missing) }
-{
-    if let Line::Missing = line {
-        return true;
-    }
-    false
 }
 
 // Whether no service combination was checked: OP, which each of I, II and III has where it is checked, is missing in all three. Of a refused job,
@@ -188,14 +116,7 @@ fn is_missing(line: Line) -> bool
 pub fn unserved(answer: Answer) -> bool
     ensures { Decides result (Unserved answer) }
 {
-    let one = answer.one;
-    let two = answer.two;
-    let three = answer.three;
-    let first = one.op;
-    let second = two.op;
-    let third = three.op;
-    let no_first = is_missing(first);
-    let no_second = is_missing(second);
-    let no_third = is_missing(third);
-    no_first & no_second & no_third
+    [answer.one, answer.two, answer.three]
+        .iter()
+        .all(|lines| matches!(lines.op, Line::Missing))
 }
