@@ -3,7 +3,7 @@ use Prim.Native.Nat.{ℕ}
 use Rattle.kinds.specs.declared.Kind.TheVariants.{B, S, C}
 use Rattle.kinds.proofs.ranges.Ranges.{ranged_unless}
 use Rattle.jobs.specs.declared.Job.{Job}
-use Rattle.earth.specs.declared.coefficients.Coefficient.{Coefficient}
+use Rattle.earth.specs.coefficients.Coefficients.{Coefficient}
 use Rattle.loads.proofs.InRange.{all_ranged}
 use Rattle.answer.specs.Rules.{load_rows_of, AllInRange, out_of_range, Unrefused}
 

@@ -14,26 +14,25 @@ use Rattle.kinds.specs.declared.Kind.TheVariants.{B}
 use Rattle.kinds.specs.declared.Numbers.{Numbers}
 use Rattle.kinds.specs.declared.Row.{Row}
 use Rattle.jobs.specs.declared.Job.{Job}
-use Rattle.earth.specs.declared.coefficients.Coefficient.{Coefficient}
+use Rattle.earth.specs.coefficients.Coefficients.{Coefficient}
 use Rattle.checks.specs.Sized.{Sized}
 use Rattle.loads.specs.forces.Blank.{BlankThere}
 use Rattle.loads.specs.forces.Wetted.{UpperBelowLower}
 use Rattle.loads.specs.forces.Laden.{LengthNotAbove, SoilTypeE}
-use Rattle.loads.specs.LoadRows.{AllRanged, NoneBlank, AllUpright, AllNamed, AllAbove, NoTypeE, optionals, AreLoads}
+use Rattle.loads.specs.LoadRows.{AllRanged, NoneBlank, AllUpright, AllNamed, AllAbove, NoTypeE, optionals}
 use Rattle.loads.specs.Answer as loads
-use Rattle.loads.specs.Answer.{LoadsTold, refused, loads_told, loads_told_by, LoadsSays, LoadsAnswered}
-use Rattle.loads.proofs.Answering.{given_loads}
+use Rattle.loads.specs.Answer.{LoadsAnswered}
+use Rattle.std.proofs.Common.{Result, Ok, Err}
+use Rattle.kinds.specs.declared.refusals.JobRefusal.{JobRefusal}
+use Rattle.kinds.specs.refusals.Refusals.{refusal_number}
+use Rattle.sets.specs.declared.Loads.{Loads}
+use Rattle.answer.specs.river.steps.Rows.{both}
 use Rattle.loads.proofs.InRange.{all_ranged, every_unless}
 use Rattle.loads.proofs.Naming.{all_named}
-use Rattle.loads.specs.declared.LoadsAnswer as answering
-use Rattle.loads.specs.declared.LoadsAnswer.TheVariants as taking
-use Rattle.loads.specs.declared.LoadsRead.{LoadsRead}
 use Rattle.scour.proofs.Scours.{scour_rule_one}
 use Rattle.answer.specs.river.River.{DepthIs, ClearIs}
 use Rattle.answer.specs.river.steps.Says.{LargeCatchment, TooIntense, OverObstructed, RiverRanged, RiverSays, large, intense, obstructed, shown}
 use Rattle.answer.specs.river.steps.Says as says
-use Rattle.answer.specs.declared.river.RiverRead.{RiverRead}
-use Rattle.answer.specs.declared.river.RiverRead.TheVariants as river
 use Rattle.answer.specs.Rules as rules
 use Rattle.answer.specs.Rules.{load_rows_of, AllInRange, When, Refuses}
 use Rattle.lines.specs.declared.Answer.{Answer}
@@ -41,7 +40,7 @@ use Rattle.lines.specs.declared.RiverLine.{RiverLine}
 use Rattle.checks.specs.declared.Base.{Base}
 use Rattle.answer.specs.Columns.{base_of}
 use Rattle.answer.specs.Answer.{LinesGiven}
-use Rattle.answer.specs.steps.Whole.{WholeIs, told_first}
+use Rattle.answer.specs.steps.Whole.{WholeIs}
 
 -- what is asked only of the numbers before n is not asked of n or of a later one
 late : {A : Type 0} {k n : ℕ} → n ≤ k → k < n → A
@@ -72,7 +71,7 @@ river_before l c = record {
 }
 
 -- an S row gives one thing, so not both 12 and 13
-river_refused : {job : Job} {m : ℕ} → RiverSays job (river.Refused m) → RiverClear job m
+river_refused : {job : Job} {r : JobRefusal} → RiverSays job (Err r) → RiverClear job (refusal_number r)
 river_refused (says.out_of_range h) = record { ranged = late (lit≤ tt); catchment = late (lit≤ tt); intensity = late (lit≤ tt); obstruction = late (lit≤ tt) }
 river_refused (large r c) = record { ranged = λ _. r; catchment = late (lit≤ tt); intensity = late (lit≤ tt); obstruction = late (lit≤ tt) }
 river_refused (intense r i) = record {
@@ -83,7 +82,7 @@ river_refused (intense r i) = record {
 }
 river_refused (obstructed r q o) = record { ranged = λ _. r; catchment = λ _. q.catchment; intensity = λ _. q.intensity; obstruction = late (lit≤ tt) }
 
-river_shown : {job : Job} {d c : RiverLine} → RiverSays job (river.Shown d c) → (n : ℕ) → RiverClear job n
+river_shown : {job : Job} {d c : RiverLine} → RiverSays job (Ok (d, c)) → (n : ℕ) → RiverClear job n
 river_shown (shown r q o x y) n = record { ranged = λ _. r; catchment = λ _. q.catchment; intensity = λ _. q.intensity; obstruction = λ _. o }
 
 -- where no number before n is given, the conditions of these do not hold
@@ -119,7 +118,7 @@ module _ (fill : ℕ → ℕ → Coefficient) (job : Job) (base : Ranged B job.b
   least {n} w c l = record { holds = w; least = λ m x. by_cases (dec_le n m) (λ k. k) (λ k. absurd (not_before c l m x (omega arith))) }
 
   -- what the rows show is given of the job
-  river_when : {m : ℕ} → RiverSays job (river.Refused m) → When fill job m
+  river_when : {r : JobRefusal} → RiverSays job (Err r) → When fill job (refusal_number r)
   river_when (says.out_of_range h) = rules.out_of_range (λ a. h (record { scour = a.rows.scour; clearance = a.rows.clearance }))
   river_when (large r c) = rules.large_catchment c
   river_when (intense r i) = rules.too_intense i
@@ -139,11 +138,11 @@ module _ (fill : ℕ → ℕ → Coefficient) (job : Job) (base : Ranged B job.b
     loads_before l = loads_clear (λ k h w. let low = p.least k w in omega arith)
 
     -- the lower of two refusals is told
-    lower : {m : ℕ} → RiverSays job (river.Refused m) → (t : Bool) → ltb n m ≡ t → Refuses fill job (cond t n m)
-    lower {m} s true e = let l = ltb-true n m e in least (loads_when p.holds) (river_before (omega arith) (river_refused s)) (loads_before (omega arith))
-    lower {m} s false e = let l = ltb-false n m e in least (river_when s) (river_refused s) (loads_before l)
+    lower : {m : JobRefusal} → RiverSays job (Err m) → (t : Bool) → ltb (refusal_number m) n ≡ t → Refuses fill job (cond t (refusal_number m) n)
+    lower {m} s true e = let l = ltb-true (refusal_number m) n e in least (river_when s) (river_refused s) (loads_before (omega arith))
+    lower {m} s false e = let l = ltb-false (refusal_number m) n e in least (loads_when p.holds) (river_before l (river_refused s)) (loads_before (omega arith))
 
-    alone : {d c : RiverLine} → RiverSays job (river.Shown d c) → Refuses fill job n
+    alone : {d c : RiverLine} → RiverSays job (Ok (d, c)) → Refuses fill job n
     alone s = least (loads_when p.holds) (river_shown s n) (loads_before (omega arith))
 
   -- where the load rows are given, what the river says is told
@@ -151,10 +150,10 @@ module _ (fill : ℕ → ℕ → Coefficient) (job : Job) (base : Ranged B job.b
     all_clear : (n : ℕ) → LoadsClear fill rows n
     all_clear n = loads_clear (λ k h. none k)
 
-    river_alone : {m : ℕ} → RiverSays job (river.Refused m) → Refuses fill job m
+    river_alone : {m : JobRefusal} → RiverSays job (Err m) → Refuses fill job (refusal_number m)
     river_alone s = least (river_when s) (river_refused s) (all_clear _)
 
-    unrefused : {d c : RiverLine} → RiverSays job (river.Shown d c) → (m : ℕ) → When fill job m → ⊥
+    unrefused : {d c : RiverLine} → RiverSays job (Ok (d, c)) → (m : ℕ) → When fill job m → ⊥
     unrefused s m w = not_before (river_shown s (m + 1)) (all_clear (m + 1)) m w (omega arith)
 
 pub refuses_11 : (fill : ℕ → ℕ → Coefficient) (job : Job) → (AllInRange job → ⊥) → Refuses fill job 11
@@ -172,47 +171,45 @@ refuses_11 fill job h = record { holds = rules.out_of_range h; least = lowest }
     lowest m (rules.not_above x) = omega arith
     lowest m (rules.type_e x) = omega arith
 
--- ---- what is told first, from what the load rows and the river rows are told
-refused_number : {m n : ℕ} → river.Refused m ≡ river.Refused n → m ≡ n
-refused_number e = cc
+-- ---- what is told, from what the load rows and the river rows are told
+same_refusal : {A : Type 0} {m n : JobRefusal} → ◌≡◌ {A = Result A JobRefusal} (Err m) (Err n) → m ≡ n
+same_refusal e = cc
 
-pub first_given : (a : answering.LoadsAnswer) (x : RiverRead) {d c : RiverLine} → told_first a x ≡ river.Shown d c → (a ≡ taking.Given) × (x ≡ river.Shown d c)
-first_given (taking.Refused n) (river.Refused m) e = impossible cc
-first_given (taking.Refused n) (river.Shown d c) e = impossible cc
-first_given taking.Given x e = (refl, e)
+same_pair : {A B : Type 0} {x a : A} {y b : B} → ◌≡◌ {A = Result (A × B) JobRefusal} (Ok (x, y)) (Ok (a, b)) → (◌≡◌ {A = Result A JobRefusal} (Ok x) (Ok a)) × (◌≡◌ {A = Result B JobRefusal} (Ok y) (Ok b))
+same_pair {A} {B} {x} {a} {y} {b} e =
+    let q : ◌≡◌ {A = A × B} (x, y) (a, b) = cc in
+    (ap (λ (w : A × B). Ok w.0) q, ap (λ (w : A × B). Ok w.1) q)
 
-refused_least : {fill : ℕ → ℕ → Coefficient} {rows : List Row} {t : LoadsTold} {n : ℕ} → LoadsSays fill rows t → t ≡ refused n → Least (loads.RowsWhen fill rows) n
-refused_least {fill} {rows} (loads.refuses p) e = subst (Least (loads.RowsWhen fill rows)) (cc) p
-refused_least (loads.loaded n l) e = impossible cc
+pub both_given : {A B : Type 0} (x : Result A JobRefusal) (y : Result B JobRefusal) {a : A} {b : B} → both x y ≡ Ok (a, b) → (x ≡ Ok a) × (y ≡ Ok b)
+both_given (Err n) (Err m) e = impossible cc
+both_given (Err n) (Ok b) e = impossible cc
+both_given (Ok a) (Err m) e = impossible cc
+both_given (Ok x) (Ok y) e = same_pair e
 
-module _ (fill : ℕ → ℕ → Coefficient) (job : Job) (t : LoadsRead) (w : LoadsAnswered fill job.loads job.count t) (b : Ranged B job.base) where
-  told_refused : {n : ℕ} → t.answer ≡ taking.Refused n → Least (loads.RowsWhen fill (load_rows_of job)) n
-  unfolding loads_told loads_told_by
-  told_refused e = refused_least w.says (ap (λ (x : answering.LoadsAnswer). loads_told_by x t.loads) e)
+module _ (fill : ℕ → ℕ → Coefficient) (job : Job) (base : Ranged B job.base) where
+  pub both_refuses : (t : Result Loads JobRefusal) (x : Result (RiverLine × RiverLine) JobRefusal) {r : JobRefusal} → LoadsAnswered fill job.loads job.count t → RiverSays job x → both t x ≡ Err r
+      → Refuses fill job (refusal_number r)
+  both_refuses (Err n) (Err m) {r} (loads.refuses p) s e =
+      subst (λ (k : JobRefusal). Refuses fill job (refusal_number k)) (same_refusal e) (either (ltb (refusal_number m) (refusal_number n)) refl)
+    where
+      either : (t : Bool) → ltb (refusal_number m) (refusal_number n) ≡ t → Refuses fill job (refusal_number (cond t m n))
+      either true q = lower fill job base p s true q
+      either false q = lower fill job base p s false q
+  both_refuses (Err n) (Ok y) (loads.refuses p) s e = subst (λ (k : JobRefusal). Refuses fill job (refusal_number k)) (same_refusal e) (alone fill job base p s)
+  both_refuses (Ok l) (Err m) (loads.loaded none are) s e = subst (λ (k : JobRefusal). Refuses fill job (refusal_number k)) (same_refusal e) (river_alone fill job base none s)
+  both_refuses (Ok l) (Ok y) w s e = impossible cc
 
-  told_given : t.answer ≡ taking.Given → ((n : ℕ) → loads.RowsWhen fill (load_rows_of job) n → ⊥) × AreLoads fill (load_rows_of job) t.loads
-  unfolding loads_told loads_told_by
-  told_given e = given_loads fill (load_rows_of job) w.says t.loads (ap (λ (x : answering.LoadsAnswer). loads_told_by x t.loads) e)
-
-  by_loads : (x : RiverRead) → RiverSays job x → {n : ℕ} (a : answering.LoadsAnswer) → t.answer ≡ a → told_first a x ≡ river.Refused n → Refuses fill job n
-  by_loads (river.Refused m) s (taking.Refused k) e q = subst (Refuses fill job) (refused_number q) (lower fill job b (told_refused e) s (ltb k m) refl)
-  by_loads (river.Shown d c) s (taking.Refused k) e q = subst (Refuses fill job) (refused_number q) (alone fill job b (told_refused e) s)
-  by_loads x s taking.Given e q = river_alone fill job b (told_given e).0 (subst (RiverSays job) q s)
-
-  pub first_refuses : (x : RiverRead) → RiverSays job x → {n : ℕ} → told_first t.answer x ≡ river.Refused n → Refuses fill job n
-  first_refuses x s q = by_loads x s t.answer refl q
-
-  lines_shown : {d c : RiverLine} → RiverSays job (river.Shown d c) → DepthIs job d × ClearIs job c
+  lines_shown : {d c : RiverLine} → RiverSays job (Ok (d, c)) → DepthIs job d × ClearIs job c
   lines_shown (shown r q o x y) = (x, y)
 
-  pub given_answer : t.answer ≡ taking.Given → {d c : RiverLine} {base : Base} {a : Answer} → RiverSays job (river.Shown d c) → base ≡ base_of job.base → WholeIs base t.loads d c a → LinesGiven fill job a
-  given_answer g {d} {c} {a = a} s e w =
-      let v = subst (λ (x : Base). WholeIs x t.loads d c a) e w in
-      let l = told_given g in
+  pub given_answer : (loads : Loads) {d c : RiverLine} {width : Base} {a : Answer} → LoadsAnswered fill job.loads job.count (Ok loads) → RiverSays job (Ok (d, c)) → width ≡ base_of job.base
+      → WholeIs width loads d c a → LinesGiven fill job a
+  given_answer given {d} {c} {a = a} (loads.loaded none are) s e w =
+      let v = subst (λ (x : Base). WholeIs x given d c a) e w in
       record {
-        unrefused = unrefused fill job b l.0 s;
-        loads = t.loads;
-        are = l.1;
+        unrefused = unrefused fill job base none s;
+        loads = given;
+        are = are;
         one = v.one;
         two = v.two;
         three = v.three;

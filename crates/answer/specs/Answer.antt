@@ -1,7 +1,7 @@
 -- Document 01, The printed answer: what a job is answered, from the job and `fill` alone.
 use Rattle.std.specs.Prelude.{ℕ, ◌≡◌}
 use Rattle.jobs.specs.declared.Job.{Job}
-use Rattle.earth.specs.declared.coefficients.Coefficient.{Coefficient}
+use Rattle.earth.specs.coefficients.Coefficients.{Coefficient}
 use Rattle.sets.specs.declared.Combination.{Combination}
 use Rattle.sets.specs.declared.Combination.TheVariants.{I, II, III, IV}
 use Rattle.sets.specs.declared.Loads.{Loads}

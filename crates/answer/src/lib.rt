@@ -11,37 +11,38 @@ ghost use Rattle.sets.specs.Bounded.{Bounded};
 ghost use Rattle.sets.specs.Led.{Led};
 ghost use Rattle.earth.specs.coefficients.Coefficients.{fill_of};
 ghost use Rattle.checks.specs.Sized.{Sized};
+ghost use Rattle.kinds.specs.refusals.Refusals.{refusal_number};
 ghost use Rattle.answer.specs.Columns.{base_of};
 ghost use Rattle.answer.specs.Answer.{refusal, AnswerIs};
-ghost use Rattle.answer.specs.steps.Whole.{WholeIs, told_first};
+ghost use Rattle.answer.specs.steps.Whole.{WholeIs};
 
 use checks::Base;
 use jobs::Job;
+use kinds::refusals::JobRefusal;
 use kinds::{Kind, Numbers};
 use lines::{Answer, RiverLine, Verdict};
-use river::RiverRead;
 use sets::{Combination, Loads};
 
-// The base of a B row.
+// The base of a B row. `Base` and `Numbers` are of two other rooms, so that no `From` of this one can join them.
 fn base_at(numbers: Numbers) -> Base
     ensures { result ≡ base_of numbers }
 {
     Base {
-        width: numbers.n1.size as u64,
-        length: numbers.n2.size as u64,
-        allowable: numbers.n3.size as u64,
-        friction: numbers.n4.size as u64,
+        width: u64::from(numbers.n1.size),
+        length: u64::from(numbers.n2.size),
+        allowable: u64::from(numbers.n3.size),
+        friction: u64::from(numbers.n4.size),
         rock: numbers.n5.size == 1,
     }
 }
 
 // A refused job has only VERDICT.
-fn refused_answer(number: u8) -> Answer
-    ensures { result ≡ refusal number }
+fn refused_answer(why: JobRefusal) -> Answer
+    ensures { result ≡ refusal (refusal_number why) }
 {
     let none = lines::no_lines();
     Answer {
-        verdict: Verdict::Refused(number),
+        verdict: Verdict::Refused(u8::from(why)),
         one: none,
         two: none,
         three: none,
@@ -65,33 +66,18 @@ fn whole(base: Base, loads: Loads, depth: RiverLine, clear: RiverLine) -> Answer
     lines::verdicts::judged(one, two, three, four, depth, clear)
 }
 
-// The river's answer, or the refusal that the loads give where it is the lower one.
-fn first_told(told: loads::LoadsAnswer, river: RiverRead) -> RiverRead
-    ensures { result ≡ told_first told river }
-{
-    match told {
-        loads::LoadsAnswer::Refused(n) => match river {
-            RiverRead::Refused(m) => RiverRead::Refused(river::lower(n, m)),
-            RiverRead::Shown(_, _) => RiverRead::Refused(n),
-        },
-        loads::LoadsAnswer::Given => river,
-    }
-}
-
 // The answer of a job, by what is held for each soil and slope, 0 where nothing is.
 pub fn answer_of(held: [[u32; 5]; 5], job: Job) -> Answer
     ensures { AnswerIs (fill_of held) job result }
 {
     if !kinds::ranges::is_ranged(Kind::B, job.base) {
-        return refused_answer(11);
+        return refused_answer(JobRefusal::OutOfRange);
     }
     let base = base_at(job.base);
-    let rows = job.loads;
-    let taken = loads::loads_of(held, rows, job.count);
-    let told = taken.answer;
+    let taken = loads::loads_of(held, job.loads, job.count);
     let river = river::river_of(job, base.rock);
-    match first_told(told, river) {
-        RiverRead::Refused(number) => refused_answer(number),
-        RiverRead::Shown(depth, clear) => whole(base, taken.loads, depth, clear),
+    match river::both(taken, river) {
+        Err(refusal) => refused_answer(refusal),
+        Ok((loads, (depth, clear))) => whole(base, loads, depth, clear),
     }
 }

@@ -7,111 +7,88 @@ ghost use Rattle.std.specs.Prelude.{◌≡◌};
 ghost use Rattle.scour.specs.ScourRow.{scour_told};
 ghost use Rattle.answer.specs.Columns.{base_of};
 ghost use Rattle.answer.specs.river.steps.Says.{RiverSays};
-ghost use Rattle.answer.specs.river.steps.Rows.{DepthGiven, ClearGiven, lower, BothGive};
+ghost use Rattle.answer.specs.river.steps.Rows.{DepthGiven, ClearGiven, both};
 
+use arithmetic::rounding::Rounded;
 use arithmetic::signed::Amount;
-use clearance::ClearanceAnswer;
+use clearance::{ClearanceRefusal, VerticalClearance};
 use jobs::Job;
+use kinds::refusals::JobRefusal;
 use lines::RiverLine;
-use scour::ScourAnswer;
-
-// What the river rows of a job give: their refusal, 11 to 14, or their lines.
-#[derive(Clone, Copy)]
-pub enum RiverRead {
-    Refused(u8),
-    Shown(RiverLine, RiverLine),
-}
-
-// What an S or a C row gives.
-#[derive(Clone, Copy)]
-enum RowGives {
-    Refused(u8),
-    Line(RiverLine),
-}
+use scour::{ScourRefusal, Waterway};
 
 // The S row: it is refused on rock too, where no depth is needed. SC needs value <= limit, and is as exact as the 1.33 (02, P7).
-fn depth_of(rock: bool, found: u64, answer: ScourAnswer) -> RowGives
+fn depth_of(
+    rock: bool,
+    found: u64,
+    answer: Result<Rounded, ScourRefusal>,
+) -> Result<RiverLine, JobRefusal>
     ensures { DepthGiven rock found (scour_told answer) result }
 {
-    match answer {
-        ScourAnswer::OutOfRange => RowGives::Refused(11),
-        ScourAnswer::LargeCatchment => RowGives::Refused(12),
-        ScourAnswer::TooIntense => RowGives::Refused(13),
-        ScourAnswer::Needed(needed) => {
-            if rock {
-                return RowGives::Line(RiverLine::Missing);
-            }
-            let value = Amount {
-                minus: false,
-                size: needed.value,
-            };
-            RowGives::Line(RiverLine::Shown {
-                value,
-                limit: found,
-                passes: needed.value <= found,
-                exact: needed.exact,
-            })
-        }
+    let needed = answer?;
+    if rock {
+        return Ok(RiverLine::Missing);
     }
+    let value = Amount {
+        minus: false,
+        size: needed.value,
+    };
+    Ok(RiverLine::Shown {
+        value,
+        limit: found,
+        passes: needed.value <= found,
+        exact: needed.exact,
+    })
 }
 
 // The C row. CL needs value >= limit, and a value below zero is never enough; it is as exact as the afflux (02, P7).
-fn clear_of(answer: ClearanceAnswer) -> RowGives
+fn clear_of(answer: Result<VerticalClearance, ClearanceRefusal>) -> Result<RiverLine, JobRefusal>
     ensures { ClearGiven answer result }
 {
-    match answer {
-        ClearanceAnswer::OutOfRange => RowGives::Refused(11),
-        ClearanceAnswer::OverObstructed => RowGives::Refused(14),
-        ClearanceAnswer::Given {
-            clearance,
-            needed,
-            exact,
-        } => RowGives::Line(RiverLine::Shown {
-            value: clearance,
-            limit: needed,
-            passes: !clearance.minus & (needed <= clearance.size),
-            exact,
-        }),
-    }
+    let clearance = answer?;
+    let there = clearance.there;
+    Ok(RiverLine::Shown {
+        value: there,
+        limit: clearance.needed,
+        passes: !there.minus & (clearance.needed <= there.size),
+        exact: clearance.exact,
+    })
 }
 
-// "Order as numbered": the lower of two refusals.
-pub(crate) fn lower(n: u8, m: u8) -> u8
-    ensures { result ≡ lower n m }
+// What two parts of a job give, or the lower of their refusals: "Order as numbered".
+pub(crate) fn both<A: Copy, B: Copy>(
+    first: Result<A, JobRefusal>,
+    second: Result<B, JobRefusal>,
+) -> Result<(A, B), JobRefusal>
+    ensures { result ≡ both first second }
 {
-    if n < m { n } else { m }
-}
-
-// Both rows: the lower of their refusals, or their lines.
-fn both(depth: RowGives, clear: RowGives) -> RiverRead
-    ensures { BothGive depth clear result }
-{
-    match depth {
-        RowGives::Refused(n) => match clear {
-            RowGives::Refused(m) => RiverRead::Refused(lower(n, m)),
-            RowGives::Line(_) => RiverRead::Refused(n),
+    match first {
+        Err(n) => match second {
+            Err(m) => Err(n.min(m)),
+            Ok(_) => Err(n),
         },
-        RowGives::Line(sc) => match clear {
-            RowGives::Refused(m) => RiverRead::Refused(m),
-            RowGives::Line(cl) => RiverRead::Shown(sc, cl),
+        Ok(a) => match second {
+            Err(m) => Err(m),
+            Ok(b) => Ok((a, b)),
         },
     }
 }
 
-// What the river rows of a job give: the lowest of their refusals, or their lines.
-pub(crate) fn river_of(job: Job, rock: bool) -> RiverRead
+// The lines SC and CL of a job's river rows, or the lowest of their refusals.
+pub(crate) fn river_of(job: Job, rock: bool) -> Result<(RiverLine, RiverLine), JobRefusal>
     requires { rock ≡ (base_of job.base).rock }
     ensures { RiverSays job result }
 {
-    let stage = job.stage;
-    let waterway = scour::waterway_of(job.scour);
-    let mut depth = RowGives::Line(RiverLine::Missing);
-    let mut clear = RowGives::Line(RiverLine::Missing);
-    if jobs::stages::has_scour(stage) {
-        depth = depth_of(rock, waterway.depth, scour::scour(job.scour));
-    }
-    if jobs::stages::has_clearance(stage) {
-        clear = clear_of(clearance::clearance(job.clearance, waterway.discharge));
-    }
+    let waterway = Waterway::from(job.scour);
+    let depth = if jobs::stages::has_scour(job.stage) {
+        depth_of(rock, waterway.depth, scour::scour(job.scour))
+    } else {
+        Ok(RiverLine::Missing)
+    };
+    let clear = if jobs::stages::has_clearance(job.stage) {
+        clear_of(clearance::clearance(job.clearance, waterway.discharge))
+    } else {
+        Ok(RiverLine::Missing)
+    };
     both(depth, clear)
 }

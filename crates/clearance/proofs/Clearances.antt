@@ -17,7 +17,9 @@ use Rattle.clearance.proofs.afflux.Rules.{clearance_needed_one}
 use Rattle.clearance.specs.ClearanceRow.{clearance_told, ClearanceSays, out_of_range, in_range}
 use Rattle.clearance.specs.Clear.{ClearanceTold, Cleared, over_obstructed, clear, AtLeast}
 use Rattle.clearance.specs.declared.Opening.{Opening}
-use Rattle.clearance.specs.declared.ClearanceAnswer.{ClearanceAnswer}
+use Rattle.std.proofs.Common.{Result}
+use Rattle.clearance.specs.declared.VerticalClearance.{VerticalClearance}
+use Rattle.clearance.specs.declared.ClearanceRefusal.{ClearanceRefusal}
 use Rattle.clearance.proofs.ClearanceRow.{clearance_told_one}
 
 module _ {row : Opening} {Q : ℕ} where
@@ -39,7 +41,7 @@ clearance_says_one (in_range r s) (out_of_range h) = absurd (h r)
 clearance_says_one (in_range p s) (in_range q t) = cleared_one s t
 
 -- no second answer meets the promise of `clearance`
-pub clearance_one : (row : Numbers) (Q : ℕ) (r s : ClearanceAnswer) → ClearanceSays row Q (clearance_told r) → ClearanceSays row Q (clearance_told s) → r ≡ s
+pub clearance_one : (row : Numbers) (Q : ℕ) (r s : Result VerticalClearance ClearanceRefusal) → ClearanceSays row Q (clearance_told r) → ClearanceSays row Q (clearance_told s) → r ≡ s
 clearance_one row Q r s u v = clearance_told_one r s (clearance_says_one u v)
 
 -- a clearance below zero is never enough, whatever its size; of any other the sizes decide

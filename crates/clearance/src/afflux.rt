@@ -25,18 +25,25 @@ pub fn afflux(velocity: u64, area: u64, obstructed: u64) -> Rounded
     )
 }
 
+// 4.8.1: where the discharges of the three lower clearances end, in l/s.
+const FIRST_TO: u64 = 30_000;
+
+const SECOND_TO: u64 = 300_000;
+
+const THIRD_TO: u64 = 3_000_000;
+
 // 4.8.1: the clearance needed: 600 mm to a discharge of 30,000 l/s, from there evenly to 1,200 at 300,000, then 1,500 to 3,000,000,
 // and 1,800 above.
 pub fn clearance_needed(q: u64) -> u64
     ensures { ClearanceNeeded q result }
 {
-    if q <= 30000 {
+    if q <= FIRST_TO {
         return 600;
     }
-    if q <= 300000 {
+    if q <= SECOND_TO {
         return 600 + arithmetic::rounding::up(600 * (q - 30000), 270000).value;
     }
-    if q <= 3000000 {
+    if q <= THIRD_TO {
         return 1500;
     }
     1800

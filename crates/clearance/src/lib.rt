@@ -7,11 +7,13 @@
 pub mod afflux;
 
 ghost use Rattle.clearance.specs.ClearanceRow.{clearance_told, ClearanceSays};
-ghost use Rattle.clearance.specs.Clear.{opening_of};
-ghost use Rattle.std.specs.Prelude.{◌≡◌, ◌≤◌, pos, ◌-ℤ◌};
+ghost use Rattle.clearance.specs.Clear.{opening_of, refused};
+ghost use Rattle.std.specs.Prelude.{◌≡◌, ◌≤◌, pos, ◌-ℤ◌, Err};
+ghost use Rattle.kinds.specs.refusals.Refusals.{refusal_number};
 ghost use Rattle.arithmetic.specs.signed.Whole.{worth, amount};
 
 use arithmetic::signed::Amount;
+use kinds::refusals::JobRefusal;
 use kinds::{Kind, Numbers};
 
 // The columns of a C row: velocity in mm/s, area A and obstructed area a in tenths of m², and the levels of underside and flood in mm.
@@ -24,59 +26,73 @@ pub struct Opening {
     pub flood: Amount,
 }
 
-// What a C row is told: the clearance there is, underside - flood - afflux, and the clearance needed, in mm, and whether the afflux is exact; or a
-// refusal.
+// What a C row is told: the clearance there is, underside - flood - afflux, and the clearance needed, in mm, and whether the afflux is exact.
 #[derive(Clone, Copy)]
-pub enum ClearanceAnswer {
+pub struct VerticalClearance {
+    pub there: Amount,
+    pub needed: u64,
+    pub exact: bool,
+}
+
+// Why a C row is refused: a number out of its range, or a above A.
+#[derive(Clone, Copy)]
+pub enum ClearanceRefusal {
     OutOfRange,
     OverObstructed,
-    Given {
-        clearance: Amount,
-        needed: u64,
-        exact: bool,
-    },
+}
+
+// The refusal of its job.
+impl From<ClearanceRefusal> for JobRefusal {
+    ghost from_gives = { λ refusal job. clearance_told (Err refusal) ≡ refused (refusal_number job) };
+
+    fn from(refusal: ClearanceRefusal) -> JobRefusal {
+        match refusal {
+            ClearanceRefusal::OutOfRange => JobRefusal::OutOfRange,
+            ClearanceRefusal::OverObstructed => JobRefusal::OverObstructed,
+        }
+    }
 }
 
 // A C row by its columns. The rules take them in words of 64 bits.
-fn opening_of(row: Numbers) -> Opening
-    ensures { result ≡ opening_of row }
-{
-    let underside = Amount {
-        minus: row.n4.minus,
-        size: row.n4.size as u64,
-    };
-    let flood = Amount {
-        minus: row.n5.minus,
-        size: row.n5.size as u64,
-    };
-    Opening {
-        velocity: row.n1.size as u64,
-        area: row.n2.size as u64,
-        obstructed: row.n3.size as u64,
-        underside,
-        flood,
+impl From<Numbers> for Opening {
+    ghost from_gives = { λ row opening. opening ≡ opening_of row };
+
+    fn from(row: Numbers) -> Opening {
+        let underside = Amount {
+            minus: row.n4.minus,
+            size: u64::from(row.n4.size),
+        };
+        let flood = Amount {
+            minus: row.n5.minus,
+            size: u64::from(row.n5.size),
+        };
+        Opening {
+            velocity: u64::from(row.n1.size),
+            area: u64::from(row.n2.size),
+            obstructed: u64::from(row.n3.size),
+            underside,
+            flood,
+        }
     }
 }
 
 // The clearance that a C row has and needs, with the discharge of its job's S row.
-pub fn clearance(row: Numbers, discharge: u64) -> ClearanceAnswer
+pub fn clearance(row: Numbers, discharge: u64) -> Result<VerticalClearance, ClearanceRefusal>
     ensures { ClearanceSays row discharge (clearance_told result) }
 {
     if !kinds::ranges::is_ranged(Kind::C, row) {
-        return ClearanceAnswer::OutOfRange;
+        return Err(ClearanceRefusal::OutOfRange);
     }
-    let opening = opening_of(row);
+    let opening = Opening::from(row);
     if opening.area < opening.obstructed {
-        return ClearanceAnswer::OverObstructed;
+        return Err(ClearanceRefusal::OverObstructed);
     }
     let rise = afflux::afflux(opening.velocity, opening.area, opening.obstructed);
-    let clearance = clearance_under(opening.underside, opening.flood, rise.value);
-    let needed = afflux::clearance_needed(discharge);
-    ClearanceAnswer::Given {
-        clearance,
-        needed,
+    Ok(VerticalClearance {
+        there: clearance_under(opening.underside, opening.flood, rise.value),
+        needed: afflux::clearance_needed(discharge),
         exact: rise.exact,
-    }
+    })
 }
 
 // Underside - flood - afflux.

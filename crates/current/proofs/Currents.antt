@@ -8,8 +8,10 @@ use Rattle.kinds.specs.declared.Numbers.{Numbers}
 use Rattle.current.specs.Current.{CurrentTold, refused, push, CurrentRule, upper_below_lower, pushes}
 use Rattle.current.specs.CurrentRow.{CurrentSays, out_of_range, in_range, current_told}
 use Rattle.current.specs.declared.Shaft.{Shaft}
-use Rattle.current.specs.declared.CurrentAnswer.{CurrentAnswer}
-use Rattle.current.specs.declared.CurrentAnswer.TheVariants.{OutOfRange, UpperBelowLower, Push}
+use Rattle.std.proofs.Common.{Result, Ok, Err}
+use Rattle.kinds.specs.declared.pushes.Push.{Push}
+use Rattle.current.specs.declared.CurrentRefusal.{CurrentRefusal}
+use Rattle.current.specs.declared.CurrentRefusal.TheVariants.{OutOfRange, UpperBelowLower}
 
 pub rule_one : {row : Shaft} {t u : CurrentTold} → CurrentRule row t → CurrentRule row u → t ≡ u
 rule_one (upper_below_lower g) (upper_below_lower h) = refl
@@ -26,16 +28,16 @@ says_one (out_of_range h) (in_range r s) = absurd (h r)
 says_one (in_range r s) (out_of_range h) = absurd (h r)
 says_one (in_range p s) (in_range q t) = rule_one s t
 
-back : CurrentTold → CurrentAnswer
-back (refused n) = cond (eqb n 11) OutOfRange UpperBelowLower
-back (push force arm) = Push force arm
+back : CurrentTold → Result Push CurrentRefusal
+back (refused n) = Err (cond (eqb n 11) OutOfRange UpperBelowLower)
+back (push force arm) = Ok (record { force = force; arm = arm })
 
-back_told : (r : CurrentAnswer) → back (current_told r) ≡ r
+back_told : (r : Result Push CurrentRefusal) → back (current_told r) ≡ r
 unfolding back
-back_told OutOfRange = refl
-back_told UpperBelowLower = refl
-back_told (Push force arm) = refl
+back_told (Err OutOfRange) = refl
+back_told (Err UpperBelowLower) = refl
+back_told (Ok found) = refl
 
 -- no second answer meets the promise of `pressure`
-pub current_one : (row : Numbers) (r s : CurrentAnswer) → CurrentSays row (current_told r) → CurrentSays row (current_told s) → r ≡ s
+pub current_one : (row : Numbers) (r s : Result Push CurrentRefusal) → CurrentSays row (current_told r) → CurrentSays row (current_told s) → r ≡ s
 current_one row r s u v = sym (back_told r) ∙ ap back (says_one u v) ∙ back_told s

@@ -12,6 +12,5 @@ pub(crate) fn constant_of(shape: u64) -> u64
     requires { (1 ≤ shape) × (shape ≤ 6) }
     ensures { result ≡ table4_constant shape }
 {
-    let i = (shape - 1) as usize;
-    TABLE4[i]
+    TABLE4[(shape - 1) as usize]
 }

@@ -2,7 +2,7 @@
 use Prim.Native.Nat.{ℕ, ◌≤◌}
 use mathlib.Core.Path.{sym, subst}
 use Rattle.jobs.specs.declared.Job.{Job}
-use Rattle.earth.specs.declared.coefficients.Coefficient.{Coefficient}
+use Rattle.earth.specs.coefficients.Coefficients.{Coefficient}
 use Rattle.sets.specs.declared.Combination.TheVariants.{I, II, III, IV}
 use Rattle.worst.proofs.Sets.{sets_fit}
 use Rattle.loads.proofs.Loaded.{loads_few}

@@ -1,7 +1,7 @@
 -- Document 01, The printed answer: the lines of a job, which are those of its answer, and their bytes.
 use Rattle.std.specs.Prelude.{ℕ, ◌≡◌, List}
 use Rattle.jobs.specs.declared.Job.{Job}
-use Rattle.earth.specs.declared.coefficients.Coefficient.{Coefficient}
+use Rattle.earth.specs.coefficients.Coefficients.{Coefficient}
 use Rattle.fills.specs.Says.{FillFor}
 use Rattle.lines.specs.declared.Answer.{Answer}
 use Rattle.lines.specs.Lines.{PrintedLine, lines_of}

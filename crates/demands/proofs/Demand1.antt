@@ -9,7 +9,7 @@ use Rattle.arithmetic.proofs.Cases.{impossible}
 use Rattle.jobs.specs.declared.Job.{Job}
 use Rattle.book.specs.JobBook.{Jobs, JobBook}
 use Rattle.book.specs.Values.{values}
-use Rattle.earth.specs.declared.coefficients.Coefficient.{Coefficient}
+use Rattle.earth.specs.coefficients.Coefficients.{Coefficient}
 use Rattle.csv_text.specs.Nth.{Nth}
 use Rattle.lines.specs.declared.Verdict.TheVariants.{Refused}
 use Rattle.lines.specs.Lines.{verdict_line, unless_refused, lines_of}

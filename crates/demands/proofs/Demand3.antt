@@ -15,7 +15,7 @@ use Rattle.book.specs.SameJob.{SameJob, listed}
 use Rattle.csv_text.specs.Nth.{Nth}
 use Rattle.book.proofs.Answers as read
 use Rattle.book.proofs.Same.{same_value}
-use Rattle.earth.specs.declared.coefficients.Coefficient.{Coefficient}
+use Rattle.earth.specs.coefficients.Coefficients.{Coefficient}
 use Rattle.fills.specs.Says.{Accepted, FillFor}
 use Rattle.fills.proofs.OneReading.{fills_one, rows_one}
 use Rattle.fills.proofs.Sharing.{says_there, says_shared}

@@ -5,7 +5,7 @@ use mathlib.Core.Bool.{true, false}
 use Rattle.arithmetic.proofs.Cases.{impossible}
 use Rattle.arithmetic.proofs.Deciding.{decided}
 use Rattle.jobs.specs.declared.Job.{Job}
-use Rattle.earth.specs.declared.coefficients.Coefficient.{Coefficient}
+use Rattle.earth.specs.coefficients.Coefficients.{Coefficient}
 use Rattle.sets.specs.declared.Combination.{Combination}
 use Rattle.sets.specs.declared.Combination.TheVariants.{I, II, III, IV}
 use Rattle.sets.specs.declared.Loads.{Loads}

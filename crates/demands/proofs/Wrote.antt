@@ -10,7 +10,7 @@ use Rattle.book.specs.JobBook.{Jobs, JobBook}
 use Rattle.book.specs.Values.{values}
 use Rattle.csv_text.specs.Nth.{Nth}
 use Rattle.book.proofs.Answers.{refused_none}
-use Rattle.earth.specs.declared.coefficients.Coefficient.{Coefficient}
+use Rattle.earth.specs.coefficients.Coefficients.{Coefficient}
 use Rattle.fills.specs.Says.{FillFor}
 use Rattle.debtarush.proofs.Locating.{job_one, job_there}
 use Rattle.debtarush.proofs.Texts.{text_with}

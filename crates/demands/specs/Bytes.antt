@@ -7,7 +7,7 @@ use Rattle.book.specs.Values.{values}
 use Rattle.csv_text.specs.Nth.{Nth}
 use Rattle.debtarush.specs.CallTold.{written}
 use Rattle.debtarush.specs.Called.{Called}
-use Rattle.earth.specs.declared.coefficients.Coefficient.{Coefficient}
+use Rattle.earth.specs.coefficients.Coefficients.{Coefficient}
 use Rattle.fills.specs.Says.{FillFor}
 use Rattle.lines.specs.Lines.{PrintedLine}
 use Rattle.printing.specs.Keys.{IsKey}

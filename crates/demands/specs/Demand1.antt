@@ -6,7 +6,7 @@ use Rattle.jobs.specs.declared.Job.{Job}
 use Rattle.book.specs.JobBook.{Jobs, count, JobBook}
 use Rattle.book.specs.Values.{values}
 use Rattle.book.specs.Says as book
-use Rattle.earth.specs.declared.coefficients.Coefficient.{Coefficient}
+use Rattle.earth.specs.coefficients.Coefficients.{Coefficient}
 use Rattle.csv_text.specs.Nth.{Nth}
 use Rattle.lines.specs.declared.Verdict.TheVariants.{Refused}
 use Rattle.lines.specs.Lines.{verdict_line}

@@ -2,7 +2,7 @@
 use Rattle.std.specs.Prelude.{ℕ, ◌≡◌, Bool}
 use Rattle.arithmetic.specs.declared.signed.Amount.{Amount}
 use Rattle.jobs.specs.declared.Job.{Job}
-use Rattle.earth.specs.declared.coefficients.Coefficient.{Coefficient}
+use Rattle.earth.specs.coefficients.Coefficients.{Coefficient}
 use Rattle.lines.specs.Lines.{LineName, VERDICT, check, SC, CL, PrintedLine, unsaid, river_shown}
 use Rattle.answer.specs.river.River.{DepthShown, ClearShown}
 use Rattle.demands.specs.CheckLine.{NamesSet}

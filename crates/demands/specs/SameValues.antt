@@ -1,7 +1,7 @@
 -- Document 02, P4: "From here a job's answer also depends on its own member's rows and the common ones", by their values alone.
 use Rattle.std.specs.Prelude.{ℕ, List}
 use Rattle.fields.specs.declared.names.Name.{Name}
-use Rattle.earth.specs.declared.coefficients.Coefficient.{Coefficient}
+use Rattle.earth.specs.coefficients.Coefficients.{Coefficient}
 use Rattle.fills.specs.declared.fill_rows.Fill.{Fill}
 use Rattle.fills.specs.FillBook.{Lists}
 use Rattle.fills.specs.Says.{FillFor}

@@ -1,7 +1,7 @@
 -- Document 01, The printed answer: "A is given exactly if the job isn't refused and every line after VERDICT says Y", said of the job and of its permitted sets.
 use Rattle.std.specs.Prelude.{ℕ}
 use Rattle.jobs.specs.declared.Job.{Job}
-use Rattle.earth.specs.declared.coefficients.Coefficient.{Coefficient}
+use Rattle.earth.specs.coefficients.Coefficients.{Coefficient}
 use Rattle.sets.specs.declared.Combination.{Combination}
 use Rattle.sets.specs.declared.Loads.{Loads}
 use Rattle.sets.specs.Sets.{Permitted}

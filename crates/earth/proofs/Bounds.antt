@@ -8,7 +8,7 @@ use Rattle.kinds.specs.declared.Numbers.{Numbers}
 use Rattle.earth.specs.steps.LowCoefficient.{LowCoefficient}
 use Rattle.earth.specs.Earth.{push, Pushed, has_coefficient}
 use Rattle.earth.specs.EarthRow.{Pressed, in_range}
-use Rattle.earth.specs.declared.coefficients.Coefficient.{Coefficient}
+use Rattle.earth.specs.coefficients.Coefficients.{Coefficient}
 use Rattle.earth.specs.declared.Backfill.{Backfill}
 
 pub record Modest (H y : ℕ) : Type 0 where

@@ -8,11 +8,13 @@ use Rattle.arithmetic.proofs.rounding.Laws.{least_one}
 use Rattle.kinds.specs.declared.Numbers.{Numbers}
 use Rattle.earth.specs.Earth.{EarthTold, refused, push, Pushed, blank, has_coefficient}
 use Rattle.earth.specs.EarthRow.{Pressed, out_of_range, in_range, earth_told}
-use Rattle.earth.specs.declared.coefficients.Coefficient.{Coefficient}
+use Rattle.earth.specs.coefficients.Coefficients.{Coefficient}
 use Rattle.earth.specs.thrust.Thrust.{Thrust}
 use Rattle.earth.specs.declared.Backfill.{Backfill}
-use Rattle.earth.specs.declared.EarthAnswer.{EarthAnswer}
-use Rattle.earth.specs.declared.EarthAnswer.TheVariants.{OutOfRange, NoCoefficient, Push}
+use Rattle.kinds.specs.declared.pushes.Push.{Push}
+use Rattle.earth.specs.declared.EarthRefusal.{EarthRefusal}
+use Rattle.earth.specs.declared.EarthRefusal.TheVariants.{OutOfRange, NoCoefficient}
+use Rattle.std.proofs.Common.{Result, Ok, Err}
 
 pub pushed_one : {fill : ℕ → ℕ → Coefficient} {row : Backfill} {t u : EarthTold} → Pushed fill row t → Pushed fill row u → t ≡ u
 pushed_one (blank e) (blank f) = refl
@@ -30,16 +32,16 @@ pressed_one (out_of_range h) (in_range r s) = absurd (h r)
 pressed_one (in_range r s) (out_of_range h) = absurd (h r)
 pressed_one (in_range p s) (in_range q t) = pushed_one s t
 
-back : EarthTold → EarthAnswer
-back (refused n) = cond (eqb n 11) OutOfRange NoCoefficient
-back (push thrust arm) = Push thrust arm
+back : EarthTold → Result Push EarthRefusal
+back (refused n) = Err (cond (eqb n 11) OutOfRange NoCoefficient)
+back (push thrust arm) = Ok (record { force = thrust; arm = arm })
 
-back_told : (r : EarthAnswer) → back (earth_told r) ≡ r
+back_told : (r : Result Push EarthRefusal) → back (earth_told r) ≡ r
 unfolding back
-back_told OutOfRange = refl
-back_told NoCoefficient = refl
-back_told (Push thrust arm) = refl
+back_told (Err OutOfRange) = refl
+back_told (Err NoCoefficient) = refl
+back_told (Ok found) = refl
 
 -- no second answer meets the promise of `pressure`
-pub pressure_one : (fill : ℕ → ℕ → Coefficient) (row : Numbers) (r s : EarthAnswer) → Pressed fill row (earth_told r) → Pressed fill row (earth_told s) → r ≡ s
+pub pressure_one : (fill : ℕ → ℕ → Coefficient) (row : Numbers) (r s : Result Push EarthRefusal) → Pressed fill row (earth_told r) → Pressed fill row (earth_told s) → r ≡ s
 pressure_one fill row r s u v = sym (back_told r) ∙ ap back (pressed_one u v) ∙ back_told s

@@ -5,13 +5,6 @@
 ghost use Rattle.std.specs.Prelude.{◌≡◌, ◌≤◌};
 ghost use Rattle.earth.specs.coefficients.Coefficients.{fill_of};
 
-// What is held for a soil and a slope.
-#[derive(Clone, Copy)]
-pub enum Coefficient {
-    Blank,
-    Value(u32),
-}
-
 // A place at which nothing is held.
 const BLANK: u32 = 0;
 
@@ -19,7 +12,7 @@ const BLANK: u32 = 0;
 const HIGHEST: u32 = 40_000;
 
 // What is held for a soil and a slope, each from 1 to 5.
-pub(crate) fn look_up(held: [[u32; 5]; 5], soil: u64, slope: u64) -> Coefficient
+pub(crate) fn look_up(held: [[u32; 5]; 5], soil: u64, slope: u64) -> Option<u32>
     requires { (1 ≤ soil) × (soil ≤ 5) × (1 ≤ slope) × (slope ≤ 5) }
     ensures { result ≡ fill_of held soil slope }
 {
@@ -27,10 +20,10 @@ pub(crate) fn look_up(held: [[u32; 5]; 5], soil: u64, slope: u64) -> Coefficient
     let j = (slope - 1) as usize;
     let k = held[i][j];
     if k == BLANK {
-        return Coefficient::Blank;
+        return None;
     }
     if HIGHEST < k {
-        return Coefficient::Blank;
+        return None;
     }
-    Coefficient::Value(k)
+    Some(k)
 }

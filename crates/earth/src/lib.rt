@@ -7,12 +7,14 @@
 pub mod coefficients;
 mod thrust;
 
-ghost use Rattle.std.specs.Prelude.{◌≡◌};
+ghost use Rattle.std.specs.Prelude.{◌≡◌, Err};
+ghost use Rattle.kinds.specs.refusals.Refusals.{refusal_number};
 ghost use Rattle.earth.specs.coefficients.Coefficients.{fill_of};
-ghost use Rattle.earth.specs.Earth.{backfill_in};
+ghost use Rattle.earth.specs.Earth.{backfill_in, refused};
 ghost use Rattle.earth.specs.EarthRow.{Pressed, earth_told};
 
-use coefficients::Coefficient;
+use kinds::pushes::Push;
+use kinds::refusals::JobRefusal;
 use kinds::{Kind, Numbers};
 
 // The columns of an E row: soil and slope, each from 1 to 5, height and length in mm. Its phase is the load's.
@@ -24,39 +26,52 @@ pub struct Backfill {
     pub length: u64,
 }
 
-// What an E row is told: the thrust toward +x in kN and its height above the base in mm, or a refusal.
+// Why an E row is refused: a number out of its range, or no coefficient held for its soil and slope.
 #[derive(Clone, Copy)]
-pub enum EarthAnswer {
+pub enum EarthRefusal {
     OutOfRange,
     NoCoefficient,
-    Push { thrust: u64, arm: u64 },
+}
+
+// The refusal of its job.
+impl From<EarthRefusal> for JobRefusal {
+    ghost from_gives = { λ refusal job. earth_told (Err refusal) ≡ refused (refusal_number job) };
+
+    fn from(refusal: EarthRefusal) -> JobRefusal {
+        match refusal {
+            EarthRefusal::OutOfRange => JobRefusal::OutOfRange,
+            EarthRefusal::NoCoefficient => JobRefusal::NoFill,
+        }
+    }
 }
 
 // An E row by its columns. The rules take them in words of 64 bits.
-fn backfill_of(row: Numbers) -> Backfill
-    ensures { result ≡ backfill_in row }
-{
-    Backfill {
-        soil: row.n1.size as u64,
-        slope: row.n2.size as u64,
-        height: row.n3.size as u64,
-        length: row.n4.size as u64,
+impl From<Numbers> for Backfill {
+    ghost from_gives = { λ row backfill. backfill ≡ backfill_in row };
+
+    fn from(row: Numbers) -> Backfill {
+        Backfill {
+            soil: u64::from(row.n1.size),
+            slope: u64::from(row.n2.size),
+            height: u64::from(row.n3.size),
+            length: u64::from(row.n4.size),
+        }
     }
 }
 
 // The thrust of an E row's fill and its height above the base, by what is held for each soil and slope, 0 where nothing is.
-pub fn pressure(held: [[u32; 5]; 5], row: Numbers) -> EarthAnswer
+pub fn pressure(held: [[u32; 5]; 5], row: Numbers) -> Result<Push, EarthRefusal>
     ensures { Pressed (fill_of held) row (earth_told result) }
 {
     if !kinds::ranges::is_ranged(Kind::E, row) {
-        return EarthAnswer::OutOfRange;
+        return Err(EarthRefusal::OutOfRange);
     }
-    let backfill = backfill_of(row);
-    match coefficients::look_up(held, backfill.soil, backfill.slope) {
-        Coefficient::Blank => EarthAnswer::NoCoefficient,
-        Coefficient::Value(k) => EarthAnswer::Push {
-            thrust: thrust::thrust_of(k as u64, backfill.height, backfill.length),
-            arm: thrust::arm_of(backfill.height),
-        },
-    }
+    let backfill = Backfill::from(row);
+    let Some(k) = coefficients::look_up(held, backfill.soil, backfill.slope) else {
+        return Err(EarthRefusal::NoCoefficient);
+    };
+    Ok(Push {
+        force: thrust::thrust_of(u64::from(k), backfill.height, backfill.length),
+        arm: thrust::arm_of(backfill.height),
+    })
 }

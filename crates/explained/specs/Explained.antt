@@ -3,7 +3,7 @@ use Rattle.std.specs.Prelude.{ℕ, ◌+◌, ◌≡◌, List, ◌++◌, length, d
 use Rattle.csv_text.specs.Nth.{Nth}
 use Rattle.jobs.specs.declared.Job.{Job}
 use Rattle.kinds.specs.declared.Row.{Row}
-use Rattle.earth.specs.declared.coefficients.Coefficient.{Coefficient}
+use Rattle.earth.specs.coefficients.Coefficients.{Coefficient}
 use Rattle.book.specs.JobBook.{WrittenJob, Jobs, JobBook}
 use Rattle.book.specs.Values.{job_value, values}
 use Rattle.book.specs.faults.Faults.{BookLies}

@@ -8,13 +8,13 @@ use Rattle.surcharge.specs.tables.Tables.{active}
 use Rattle.surcharge.specs.force.Force.{Pressure, Pressures, within, beyond, PartIs, PartsAre}
 use Rattle.surcharge.specs.Surcharge.{B, total, TypeE, to_bound, past_bound, SurchargeRule, pushes, pushed}
 use Rattle.surcharge.specs.declared.Abutment.{Abutment}
-use Rattle.surcharge.specs.declared.Part.{Part}
+use Rattle.kinds.specs.declared.pushes.Push.{Push}
 use Rattle.surcharge.specs.declared.Parts.{Parts}
 
-abbrev acts : ℕ → Pressure → ℕ → Part → Bool
+abbrev acts : ℕ → Pressure → ℕ → Push → Bool
 acts L q p part = both (is_up q.force.over q.force.under p) (both (is_up (p * L * 980665) (10 ^ 3 * 10 ^ 5 * 10 ^ 3) part.force) (is_up q.arm.over q.arm.under part.arm))
 
-acts_test : (L : ℕ) (q : Pressure) (p : ℕ) (part : Part) → T (acts L q p part) → PartIs L q part
+acts_test : (L : ℕ) (q : Pressure) (p : ℕ) (part : Push) → T (acts L q p part) → PartIs L q part
 acts_test L q p part t =
     let kilograms = is_up q.force.over q.force.under p in
     let newtons = is_up (p * L * 980665) (10 ^ 3 * 10 ^ 5 * 10 ^ 3) part.force in

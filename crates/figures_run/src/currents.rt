@@ -3,8 +3,8 @@
 // A row that is refused has its number for its figure: none of the forces and heights here is 11 or 17.
 use crate::asked::Tally;
 use crate::forces;
-use current::CurrentAnswer;
 use kinds::Numbers;
+use kinds::refusals::JobRefusal;
 
 // Rows wetted from 3,000 to 9,000 by shape, area and velocity, and their forces: the six shapes of Table 4 at 3 m/s, on 10 m²; then the sides of a
 // rounding, one rounding and not two, the largest force, and none.
@@ -47,9 +47,11 @@ fn row(shape: u32, area: u32, velocity: u32, upper: u32, lower: u32) -> Numbers 
 // The force of a row, and its height.
 fn push_of(row: Numbers) -> (u64, u64) {
     match current::pressure(row) {
-        CurrentAnswer::OutOfRange => (11, 11),
-        CurrentAnswer::UpperBelowLower => (17, 17),
-        CurrentAnswer::Push { force, arm } => (force, arm),
+        Ok(push) => (push.force, push.arm),
+        Err(refusal) => {
+            let number = u64::from(u8::from(JobRefusal::from(refusal)));
+            (number, number)
+        }
     }
 }
 

@@ -1,12 +1,12 @@
 // The figures of earth, OP and PR.
 //
 // "By either rule" is one line: the program takes one of PR's two rules there, and that both give 57 is a starred figure.
+ghost use Rattle.std.specs.Prelude.{IfSome};
 ghost use Rattle.sets.specs.Bounded.{Bounded};
 ghost use Rattle.checks.specs.Sized.{Sized};
 
 use crate::asked::Tally;
 use checks::{Base, Check, Figure};
-use earth::EarthAnswer;
 use fields::Entry;
 use kinds::{Kind, Numbers, Row};
 use sets::{Combination, Loads};
@@ -42,9 +42,9 @@ fn row(a: u32, b: u32, c: u32, d: u32) -> Numbers {
 
 // The thrust and the height of a fill of soil a, level; no line where it is refused.
 fn pushed(tally: &mut Tally<'_, impl Print>) {
-    if let EarthAnswer::Push { thrust, arm } = earth::pressure(TABLE2, row(1, 1, 6000, 8000)) {
-        tally.figure("H of soil a, level, 6000 by 8000", thrust, 664);
-        tally.figure("y of the same, 6000 by 8000", arm, 2000);
+    if let Ok(push) = earth::pressure(TABLE2, row(1, 1, 6000, 8000)) {
+        tally.figure("H of soil a, level, 6000 by 8000", push.force, 664);
+        tally.figure("y of the same, 6000 by 8000", push.arm, 2000);
     }
 }
 
@@ -71,20 +71,22 @@ fn example_base() -> Base
 }
 
 // The loads of one DL row; none where it is refused.
-fn loads_of_row(numbers: Numbers) -> Loads
-    ensures { Bounded result }
+fn loads_of_row(numbers: Numbers) -> Option<Loads>
+    ensures { IfSome result Bounded }
 {
     let row = Row {
         kind: Kind::DL,
         numbers,
     };
     let rows = [row; 16];
-    loads::loads_of(TABLE2, rows, 1).loads
+    loads::loads_of(TABLE2, rows, 1).ok()
 }
 
-// A figure of the set of one DL row on that base; 0 where I does not permit it.
+// A figure of the set of one DL row on that base; 0 where it is refused, or I does not permit it.
 fn figure_of_row(check: Check, numbers: Numbers) -> u64 {
-    let loads = loads_of_row(numbers);
+    let Some(loads) = loads_of_row(numbers) else {
+        return 0;
+    };
     if !sums::permitted::permitted(Combination::I, loads, 1) {
         return 0;
     }
@@ -107,12 +109,14 @@ pub(crate) fn borne(tally: &mut Tally<'_, impl Print>) {
         ("the same of N 900", 900, 600, 57),
     ] {
         let numbers = row(v, 0, h, 1000);
-        let totals = sums::set_sums::totals_of(4000, loads_of_row(numbers), 1);
-        let came = figure_of_row(Check::PR, numbers);
-        tally.figure(
-            format_args!("PR on {words}, M {}", totals.m.size),
-            came,
-            says,
-        );
+        if let Some(loads) = loads_of_row(numbers) {
+            let totals = sums::set_sums::totals_of(4000, loads, 1);
+            let came = figure_of_row(Check::PR, numbers);
+            tally.figure(
+                format_args!("PR on {words}, M {}", totals.m.size),
+                came,
+                says,
+            );
+        }
     }
 }

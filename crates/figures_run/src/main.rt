@@ -12,7 +12,7 @@ ghost use Rattle.std.specs.Prelude.{◌≤◌};
 
 use asked::Tally;
 use kinds::Numbers;
-use scour::ScourAnswer;
+use kinds::refusals::JobRefusal;
 
 fn discharged(tally: &mut Tally<'_, impl Print>, catchment: u64, says: u64)
     requires { catchment ≤ 25000 }
@@ -32,10 +32,8 @@ fn catchment_refused(tally: &mut Tally<'_, impl Print>, catchment: u32, says: u6
         n6: forces::filled(0),
     });
     let came = match answer {
-        ScourAnswer::OutOfRange => 11,
-        ScourAnswer::LargeCatchment => 12,
-        ScourAnswer::TooIntense => 13,
-        ScourAnswer::Needed(_) => 0,
+        Ok(_) => 0,
+        Err(refusal) => u64::from(u8::from(JobRefusal::from(refusal))),
     };
     tally.figure(
         format_args!("refusal of Q 1000000, Z {catchment}"),

@@ -4,7 +4,7 @@
 use crate::asked::Tally;
 use crate::forces;
 use kinds::Numbers;
-use surcharge::SurchargeAnswer;
+use kinds::refusals::JobRefusal;
 
 // A G row's standard, dead surcharge, soil, depth and length; and its first force and arm, and its second, by hand. Every standard and every soil, both cases
 // and where they meet, what is rounded when, the largest rows and the smallest, and each refusal, on both sides where it has two.
@@ -56,15 +56,13 @@ fn row(standard: u32, dead: u32, soil: u32, depth: u32, length: u32) -> Numbers 
 // The two forces and arms of a row.
 fn pushes_of(row: Numbers) -> [u64; 4] {
     match surcharge::pressure(row) {
-        SurchargeAnswer::OutOfRange => [11, 0, 0, 0],
-        SurchargeAnswer::LengthNotAbove => [19, 0, 0, 0],
-        SurchargeAnswer::SoilTypeE => [20, 0, 0, 0],
-        SurchargeAnswer::Pushes(parts) => [
+        Ok(parts) => [
             parts.first.force,
             parts.first.arm,
             parts.second.force,
             parts.second.arm,
         ],
+        Err(refusal) => [u64::from(u8::from(JobRefusal::from(refusal))), 0, 0, 0],
     }
 }
 

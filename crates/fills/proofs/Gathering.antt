@@ -7,7 +7,7 @@ use mathlib.Core.List.{List, []}
 use lib.ListN.{length, get_or, set, replicate, get_or-replicate, length-replicate}
 use Rattle.fields.specs.names.Names.{no_name}
 use Rattle.fields.specs.declared.names.Name.{Name}
-use Rattle.earth.specs.declared.coefficients.Coefficient.TheVariants.{Blank, Value}
+use Rattle.std.proofs.Common.{None, Some}
 use Rattle.fills.specs.declared.fill_rows.Fill.{Fill}
 use Rattle.fills.specs.declared.fill_rows.Whose.{Whose}
 use Rattle.fills.specs.declared.fill_rows.Whose.TheVariants.{Own, Common}
@@ -38,9 +38,9 @@ all_laid d none v l =
 module _ {owns commons : List Fill} {n o : ℕ} {h l v k m w : List ℕ} (mine : DigestOf owns n h l v) (all : DigestOf commons o k m w) where
   module _ {member : Name} {s p : ℕ} where
     marks : {x y z : ℕ} → LaidAt commons o no_name s p x y → x ≡ 0 → LaidAt owns n member s p y z → Marked owns commons member s p z
-    marks a e (listed {value = u} q t f) = record { held = Value u; says = own q refl; is = f }
-    marks (listed {value = u} q t f) e (unlisted none g) = record { held = Value u; says = common (all_laid mine none) q refl; is = g ∙ f }
-    marks (unlisted lacks f) e (unlisted none g) = record { held = Blank; says = neither (all_laid mine none) (all_laid all lacks) refl; is = g ∙ f ∙ e }
+    marks a e (listed {value = u} q t f) = record { held = Some u; says = own q refl; is = f }
+    marks (listed {value = u} q t f) e (unlisted none g) = record { held = Some u; says = common (all_laid mine none) q refl; is = g ∙ f }
+    marks (unlisted lacks f) e (unlisted none g) = record { held = None; says = neither (all_laid mine none) (all_laid all lacks) refl; is = g ∙ f ∙ e }
 
   laid_values : {member : Name} {shared held : List (List ℕ)} → LaidOver commons o no_name blank shared → LaidOver owns n member shared held → ValuesFor owns commons member held
   laid_values a b = record { shape = b.shape; each = λ i j x y. marks (a.each i j x y) (blank_cell i j x y) (b.each i j x y) }

@@ -10,9 +10,8 @@ use lib.Seq.{ext_get_or, get_or-set_same, get_or-set_other}
 use Rattle.arithmetic.proofs.Cases.{impossible, by_cases}
 use Rattle.csv_text.specs.rfc4180.Rfc4180.{Cell}
 use Rattle.fields.specs.declared.names.Name.{Name}
-use Rattle.earth.specs.declared.coefficients.Coefficient.{Coefficient}
-use Rattle.earth.specs.declared.coefficients.Coefficient.TheVariants.{Blank, Value}
-use Rattle.earth.specs.coefficients.Coefficients.{coefficient, fill_of}
+use Rattle.earth.specs.coefficients.Coefficients.{Coefficient, coefficient, fill_of}
+use Rattle.std.proofs.Common.{None, Some}
 use Rattle.earth.proofs.coefficients.Held.{coefficient_value, coefficient_blank}
 use Rattle.fills.specs.declared.fill_rows.Fill.{Fill}
 use Rattle.fills.specs.declared.fill_rows.Whose.{Whose}
@@ -45,16 +44,16 @@ listed_range b {soil = soil} {slope} {value} l =
 
 module _ {mine all : List ℕ} (books : Accepted mine all) {m : Name} where
   -- nothing is held but for the five soils and slopes
-  nothing_held : (soil slope : ℕ) → ((1 ≤ soil) × (soil ≤ 5) → (1 ≤ slope) × (slope ≤ 5) → ⊥) → Says books.owns books.commons m soil slope Blank
+  nothing_held : (soil slope : ℕ) → ((1 ≤ soil) × (soil ≤ 5) → (1 ≤ slope) × (slope ≤ 5) → ⊥) → Says books.owns books.commons m soil slope None
   nothing_held soil slope out =
       neither (λ v l. let w = listed_range books.is_own l in out w.soil_in w.slope_in) (λ v l. let w = listed_range books.is_common l in out w.soil_in w.slope_in) refl
 
   -- a mark stands for one thing
   marked : {soil slope : ℕ} (c : Coefficient) → Says books.owns books.commons m soil slope c → coefficient (mark c) ≡ c
-  marked Blank w = coefficient_blank 0 (λ h. let from = h.0 in omega arith)
-  marked (Value v) (own {value = u} l e) = let z : v ≡ u = cc in coefficient_value v (subst (λ (k : ℕ). (1 ≤ k) × (k ≤ 40000)) (sym z) (listed_range books.is_own l).value_in)
-  marked (Value v) (common {value = u} n l e) = let z : v ≡ u = cc in coefficient_value v (subst (λ (k : ℕ). (1 ≤ k) × (k ≤ 40000)) (sym z) (listed_range books.is_common l).value_in)
-  marked (Value v) (neither n k e) = impossible cc
+  marked None w = coefficient_blank 0 (λ h. let from = h.0 in omega arith)
+  marked (Some v) (own {value = u} l e) = let z : v ≡ u = cc in coefficient_value v (subst (λ (k : ℕ). (1 ≤ k) × (k ≤ 40000)) (sym z) (listed_range books.is_own l).value_in)
+  marked (Some v) (common {value = u} n l e) = let z : v ≡ u = cc in coefficient_value v (subst (λ (k : ℕ). (1 ≤ k) × (k ≤ 40000)) (sym z) (listed_range books.is_common l).value_in)
+  marked (Some v) (neither n k e) = impossible cc
 
   module _ {held : List (List ℕ)} (values : ValuesFor books.owns books.commons m held) where
     beyond : (i j : ℕ) → (i < 5 → j < 5 → ⊥) → cell held i j ≡ 0

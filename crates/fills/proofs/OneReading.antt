@@ -11,8 +11,8 @@ use Rattle.csv_text.proofs.rfc4180.Unique.{file_unique}
 use Rattle.fields.specs.declared.Entry.{Entry}
 use Rattle.fields.specs.declared.names.Name.{Name}
 use Rattle.fields.proofs.Numerals.{number_unique}
-use Rattle.earth.specs.declared.coefficients.Coefficient.{Coefficient}
-use Rattle.earth.specs.declared.coefficients.Coefficient.TheVariants.{Value}
+use Rattle.earth.specs.coefficients.Coefficients.{Coefficient}
+use Rattle.std.proofs.Common.{Some}
 use Rattle.fills.specs.declared.fill_rows.Fill.{Fill}
 use Rattle.fills.specs.declared.fill_rows.Whose.{Whose}
 use Rattle.fills.specs.declared.fill_rows.Whose.TheVariants.{Own, Common}
@@ -82,11 +82,11 @@ listed_one fs once a b =
     ap (λ (f : Fill). f.value) (sym a.is ∙ ap (λ (i : ℕ). get_or fs i no_fill) e ∙ b.is)
 
 pub says_one : (owns commons : List Fill) → Once owns → Once commons → {m : Name} {s p : ℕ} {c d : Coefficient} → Says owns commons m s p c → Says owns commons m s p d → c ≡ d
-says_one owns commons a b (own x e) (own y f) = e ∙ ap Value (listed_one owns a x y) ∙ sym f
+says_one owns commons a b (own x e) (own y f) = e ∙ ap Some (listed_one owns a x y) ∙ sym f
 says_one owns commons a b (own x e) (common n y f) = absurd (n _ x)
 says_one owns commons a b (own x e) (neither n k f) = absurd (n _ x)
 says_one owns commons a b (common n x e) (own y f) = absurd (n _ y)
-says_one owns commons a b (common n x e) (common m y f) = e ∙ ap Value (listed_one commons b x y) ∙ sym f
+says_one owns commons a b (common n x e) (common m y f) = e ∙ ap Some (listed_one commons b x y) ∙ sym f
 says_one owns commons a b (common n x e) (neither m k f) = absurd (k _ x)
 says_one owns commons a b (neither n k e) (own y f) = absurd (n _ y)
 says_one owns commons a b (neither n k e) (common m y f) = absurd (k _ y)

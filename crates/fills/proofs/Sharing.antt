@@ -8,8 +8,8 @@ use lib.ListN.{length, get_or}
 use Rattle.arithmetic.proofs.Cases.{by_cases, both}
 use Rattle.fields.specs.names.Names.{no_name}
 use Rattle.fields.specs.declared.names.Name.{Name}
-use Rattle.earth.specs.declared.coefficients.Coefficient.{Coefficient}
-use Rattle.earth.specs.declared.coefficients.Coefficient.TheVariants.{Blank, Value}
+use Rattle.earth.specs.coefficients.Coefficients.{Coefficient}
+use Rattle.std.proofs.Common.{None, Some}
 use Rattle.fills.specs.declared.fill_rows.Fill.{Fill}
 use Rattle.fills.specs.FillBook.{no_fill, Lists}
 use Rattle.fills.specs.Says.{Lacks, Says, own, common, neither}
@@ -50,9 +50,9 @@ module _ (member : Name) (soil slope : ℕ) where
 
 -- what is said, by what is found in each
 told : {owns commons : List Fill} {member : Name} {soil slope : ℕ} → Sought owns member soil slope → Sought commons no_name soil slope → (c : Coefficient) × Says owns commons member soil slope c
-told (found v l) s = (Value v, own l refl)
-told (lacking k) (found v l) = (Value v, common k l refl)
-told (lacking k) (lacking m) = (Blank, neither k m refl)
+told (found v l) s = (Some v, own l refl)
+told (lacking k) (found v l) = (Some v, common k l refl)
+told (lacking k) (lacking m) = (None, neither k m refl)
 
 -- something is said for every soil and slope
 pub says_there : (owns commons : List Fill) (member : Name) → (fill : ℕ → ℕ → Coefficient) × ((soil slope : ℕ) → Says owns commons member soil slope (fill soil slope))

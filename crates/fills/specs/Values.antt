@@ -1,8 +1,7 @@
 -- Document 02, P4: the values that two fill books hold for members, "own before common" (01, Forms by place: "an array of arrays, soil by slope, with a mark").
-use Rattle.std.specs.Prelude.{ℕ, zero, suc, ◌<◌, min, ◌≡◌, Bool, true, false, List, [], length, get_or, set}
+use Rattle.std.specs.Prelude.{ℕ, zero, suc, ◌<◌, min, ◌≡◌, Bool, true, false, List, [], length, get_or, set, None, Some}
 use Rattle.fields.specs.declared.names.Name.{Name}
-use Rattle.earth.specs.declared.coefficients.Coefficient.{Coefficient}
-use Rattle.earth.specs.declared.coefficients.Coefficient.TheVariants.{Blank, Value}
+use Rattle.earth.specs.coefficients.Coefficients.{Coefficient}
 use Rattle.fills.specs.declared.fill_rows.Fill.{Fill}
 use Rattle.fills.specs.Says.{Says, Accepted}
 
@@ -17,8 +16,8 @@ pub record FiveByFive (held : List (List ℕ)) : Type 0 where
 
 -- what stands for a value, and 0 where there is none
 abbrev pub mark : Coefficient → ℕ
-mark Blank = 0
-mark (Value value) = value
+mark None = 0
+mark (Some value) = value
 
 -- a place holds what the two lists of fills say
 pub record Marked (owns commons : List Fill) (member : Name) (soil slope number : ℕ) : Type 0 where

@@ -16,11 +16,10 @@ ghost use Rattle.job_faults.specs.rules.Shows.{rule_number, Shows};
 ghost use Rattle.job_faults.specs.rules.steps.Places.{place};
 ghost use Rattle.job_faults.specs.rules.steps.Tests.{Gives, Obstructed, Past, PastRange};
 
-use earth::EarthAnswer;
 use jobs::Job;
 use jobs::stages::Stage;
+use kinds::refusals::JobRefusal;
 use kinds::{Kind, Numbers, Row};
-use scour::ScourAnswer;
 
 // The refusals of a job, 11 to 20, in their order.
 #[derive(Clone, Copy)]
@@ -100,10 +99,8 @@ fn scour_gives(stage: Stage, row: Numbers, number: u8) -> bool
         return false;
     }
     match scour::scour(row) {
-        ScourAnswer::OutOfRange => false,
-        ScourAnswer::LargeCatchment => number == 12,
-        ScourAnswer::TooIntense => number == 13,
-        ScourAnswer::Needed(_) => false,
+        Ok(_) => false,
+        Err(refusal) => number == u8::from(JobRefusal::from(refusal)),
     }
 }
 
@@ -147,16 +144,12 @@ fn is_type_e(row: Numbers) -> bool
     row.n3.size == 5
 }
 
-// Whether nothing is held for an E row (02, P4, 15).
+// Whether nothing is held for an E row (02, P4, 15), which is the one refusal of a row in range.
 fn is_blank(held: [[u32; 5]; 5], row: Numbers) -> bool
     requires { Ranged E row }
     ensures { Decides result (Pushed (fill_of held) (backfill_in row) (refused 15)) }
 {
-    match earth::pressure(held, row) {
-        EarthAnswer::OutOfRange => false,
-        EarthAnswer::NoCoefficient => true,
-        EarthAnswer::Push { thrust: _, arm: _ } => false,
-    }
+    earth::pressure(held, row).is_err()
 }
 
 // Whether a position names no row, or an LL row of the load rows, which are the first `count` (02, P3, 18).

@@ -2,3 +2,4 @@
 pub mod Arms
 pub mod Answers
 pub mod Trains
+pub mod Numbered

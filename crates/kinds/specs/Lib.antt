@@ -3,3 +3,4 @@ pub mod Form
 pub mod classes
 pub mod letters
 pub mod ranges
+pub mod refusals

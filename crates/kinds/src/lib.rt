@@ -7,7 +7,9 @@
 
 pub mod classes;
 pub mod letters;
+pub mod pushes;
 pub mod ranges;
+pub mod refusals;
 
 ghost use Rattle.std.specs.Prelude.{◌≡◌};
 ghost use Rattle.kinds.specs.Table.{columns, role, phase, train};

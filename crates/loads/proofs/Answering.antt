@@ -1,13 +1,10 @@
 -- The answer for a job's load rows is one, and the loads that are given are bounded and led.
 use mathlib.Core.Path.{◌≡◌, refl, sym, ◌∙◌, ap, subst, subst⁻¹}
-use mathlib.Core.Logic.{◌⊎◌, inl, inr}
-use mathlib.Core.Bool.{Bool, true, false, cond}
+use mathlib.Core.Logic.{◌⊎◌, inl, inr, ⊎_elim}
 use mathlib.Core.List.{List}
-use borrow.Author.Tests.{ltb-true}
-use lib.Dec.{ltb}
 use lib.ListN.{length, take}
 use lib.Seq.{take_all}
-use Prim.Native.Nat.{ℕ, ◌<◌}
+use Prim.Native.Nat.{ℕ, ◌≤◌, ◌<◌}
 use native.Mathlib.Decide.{dec_le}
 use native.Mathlib.Omega.{arith}
 use Rattle.arithmetic.specs.rounding.Least.{Least}
@@ -16,7 +13,7 @@ use Rattle.arithmetic.proofs.Cases.{impossible, by_cases}
 use Rattle.kinds.specs.declared.Row.{Row}
 use Rattle.kinds.specs.ranges.Range.{Ranged}
 use Rattle.kinds.proofs.ranges.Ranges.{ranged_unless}
-use Rattle.earth.specs.declared.coefficients.Coefficient.{Coefficient}
+use Rattle.earth.specs.coefficients.Coefficients.{Coefficient}
 use Rattle.earth.specs.steps.LowCoefficient.{LowCoefficient}
 use Rattle.sets.specs.declared.Loads.{Loads}
 use Rattle.sets.specs.Sets.{row}
@@ -30,14 +27,16 @@ use Rattle.loads.specs.LoadRows.{Every, optionals, AllNamed, AreLoads}
 use Rattle.loads.proofs.FirstRows.{every_at, every_map, none_some, some_row, laid_at}
 use Rattle.loads.proofs.InRange.{all_ranged}
 use Rattle.loads.proofs.Naming.{all_named, loads_led}
-use Rattle.loads.proofs.Lowest.{Where}
+use Rattle.loads.proofs.Refusing.{Where}
 use Rattle.loads.proofs.Loaded.{loads_one, loads_few}
-use Rattle.loads.specs.declared.LoadsAnswer.{LoadsAnswer}
-use Rattle.loads.specs.declared.LoadsAnswer.TheVariants.{Refused, Given}
-use Rattle.loads.specs.declared.LoadsRead.{LoadsRead}
-use Rattle.loads.specs.Answer.{LoadsTold, refused, given, loads_told, loads_told_by, RowsWhen, out_of_range, blank, too_many, upper_below_lower, no_train, not_above, type_e, LoadsSays, refuses, loaded, blank_loads, Beside, LoadsAnswered}
+use Rattle.std.proofs.Common.{min, None, Some, Result, Ok, Err}
+use Rattle.std.proofs.lemmas.Bool.{cases_lt}
+use Rattle.kinds.specs.declared.refusals.JobRefusal.{JobRefusal}
+use Rattle.kinds.specs.refusals.Refusals.{refusal_number}
+use Rattle.kinds.proofs.Numbered.{refusal_one}
+use Rattle.loads.specs.Answer.{LoadsTold, refused, given, loads_told, RowsWhen, out_of_range, blank, too_many, upper_below_lower, no_train, not_above, type_e, LoadsSays, refuses, loaded, LoadsAnswered}
 use Rattle.loads.specs.steps.Exerted as rows
-use Rattle.loads.specs.steps.Asking.{row_count, Lowest, ShownBy}
+use Rattle.loads.specs.steps.Asking.{row_count, Lowest, unshown, least, ShownBy}
 
 -- ---- what the rows show: what one shows by itself, 16 where too many are optional, and 18 where a row named is no LL row
 abbrev pub Shown : (ℕ → ℕ → Coefficient) → List Row → ℕ → Type 0
@@ -70,16 +69,16 @@ module _ (fill : ℕ → ℕ → Coefficient) (rs : List Row) where
   not_given clear (not_above h) = h (every_map (λ row. rows.RowWhen fill row 19 → ⊥) (λ row. LengthNotAbove row → ⊥) (λ row no a. no (rows.not_above a)) rs (hidden 19 clear))
   not_given clear (type_e h) = h (every_map (λ row. rows.RowWhen fill row 20 → ⊥) (λ row. SoilTypeE row → ⊥) (λ row no s. no (rows.type_e s)) rs (hidden 20 clear))
 
-  module _ {number : ℕ} (lowest : Lowest (Shown fill rs) number) where
-    pub first_refused : (number ≡ 0 → ⊥) → Least (RowsWhen fill rs) number
-    first_refused some =
-        record {
-          holds = shown_given number (lowest.shown some);
-          least = λ n h. by_cases (dec_le number n) (λ k. k) (λ k. absurd (not_given (lowest.clear n (inr (omega arith))) h));
-        }
+  pub first_refused : (refusal : JobRefusal) → Lowest (Shown fill rs) (Some refusal) → Least (RowsWhen fill rs) (refusal_number refusal)
+  first_refused refusal (least lowest) =
+      let number = refusal_number refusal in
+      record {
+        holds = shown_given number lowest.holds;
+        least = λ n h. by_cases (dec_le number n) (λ k. k) (λ k. absurd (not_given (λ s. let l = lowest.least n s in omega arith) h));
+      }
 
-    pub none_refused : number ≡ 0 → (n : ℕ) → RowsWhen fill rs n → ⊥
-    none_refused e n h = not_given (lowest.clear n (inl e)) h
+  pub none_refused : Lowest (Shown fill rs) None → (n : ℕ) → RowsWhen fill rs n → ⊥
+  none_refused (unshown lowest) n h = not_given (lowest n) h
 
 -- ---- the rows are told one answer
 module _ (fill : ℕ → ℕ → Coefficient) (rs : List Row) where
@@ -92,62 +91,48 @@ module _ (fill : ℕ → ℕ → Coefficient) (rs : List Row) where
 -- ---- of 16 rows the first `count` are looked at
 pub first_rows : (rs : List Row) (count : ℕ) → length rs ≡ 16 → take (row_count count) rs ≡ take count rs
 unfolding row_count
-first_rows rs count whole = go (ltb 16 count) refl
+first_rows rs count whole = ⊎_elim past within (cases_lt 16 count)
   where
-    go : (t : Bool) → ltb 16 count ≡ t → take (cond t 16 count) rs ≡ take count rs
-    go true e = take_all 16 rs (omega arith) ∙ sym (take_all count rs (omega (arith, ltb-true 16 count e)))
-    go false e = refl
+    past : 16 < count → take (min count 16) rs ≡ take count rs
+    past h = let e : min count 16 ≡ 16 = omega arith in rw e (take_all 16 rs (omega arith) ∙ sym (take_all count rs (omega arith)))
+
+    within : count ≤ 16 → take (min count 16) rs ≡ take count rs
+    within h = let e : min count 16 ≡ count = omega arith in rw e refl
 
 -- ---- no second answer meets the promise of `loads_of`
 same_number : {m n : ℕ} → refused m ≡ refused n → m ≡ n
 same_number e = cc
 
-back : (a b : LoadsAnswer) (l m : Loads) → loads_told_by a l ≡ loads_told_by b m → Beside a l → Beside b m → (a ≡ b) × (l ≡ m)
-unfolding loads_told_by Beside
-back (Refused j) (Refused k) l m e p q = (ap Refused (same_number e), p ∙ sym q)
-back (Refused j) Given l m e p q = impossible cc
-back Given (Refused k) l m e p q = impossible cc
-back Given Given l m e p q = (refl, cc)
+back : (a b : Result Loads JobRefusal) → loads_told a ≡ loads_told b → a ≡ b
+back (Err j) (Err k) e = ap Err (refusal_one j k (same_number e))
+back (Err j) (Ok m) e = impossible cc
+back (Ok l) (Err k) e = impossible cc
+back (Ok l) (Ok m) e = cc
 
-pub loads_of_one : (fill : ℕ → ℕ → Coefficient) (rs : List Row) (count : ℕ) (a b : LoadsRead) → LoadsAnswered fill rs count a → LoadsAnswered fill rs count b → a ≡ b
-unfolding loads_told
-loads_of_one fill rs count a b p q =
-    let w = back a.answer b.answer a.loads b.loads (loads_says_one fill (take count rs) p.says q.says) p.beside q.beside in
-    λ i. record { answer = w.0 i; loads = w.1 i }
+pub loads_of_one : (fill : ℕ → ℕ → Coefficient) (rs : List Row) (count : ℕ) (a b : Result Loads JobRefusal) → LoadsAnswered fill rs count a → LoadsAnswered fill rs count b → a ≡ b
+loads_of_one fill rs count a b p q = back a b (loads_says_one fill (take count rs) p q)
 
 -- ---- the loads that are given are bounded, whatever coefficients up to 40,000 are held
-pub given_loads : (fill : ℕ → ℕ → Coefficient) (rs : List Row) {t : LoadsTold} → LoadsSays fill rs t → (loads : Loads) → t ≡ given loads → ((n : ℕ) → RowsWhen fill rs n → ⊥) × AreLoads fill rs loads
-given_loads fill rs (refuses p) loads e = impossible cc
-given_loads fill rs (loaded n l) loads e = (n, subst (AreLoads fill rs) (cc) l)
+pub given_loads : (fill : ℕ → ℕ → Coefficient) (rs : List Row) (loads : Loads) → LoadsSays fill rs (given loads) → ((n : ℕ) → RowsWhen fill rs n → ⊥) × AreLoads fill rs loads
+given_loads fill rs loads (loaded n l) = (n, l)
 
-pub given_bounded : (fill : ℕ → ℕ → Coefficient) → ((soil slope : ℕ) → LowCoefficient (fill soil slope)) → (rs : List Row) (count : ℕ) (taken : LoadsRead) → LoadsAnswered fill rs count taken
-    → taken.answer ≡ Given → Bounded taken.loads
-unfolding loads_told loads_told_by row
-given_bounded fill small rs count taken a e =
-    let w = given_loads fill (take count rs) a.says taken.loads (ap (λ (x : LoadsAnswer). loads_told_by x taken.loads) e) in
+pub given_bounded : (fill : ℕ → ℕ → Coefficient) → ((soil slope : ℕ) → LowCoefficient (fill soil slope)) → (rs : List Row) (count : ℕ) (loads : Loads) → LoadsAnswered fill rs count (Ok loads)
+    → Bounded loads
+unfolding row
+given_bounded fill small rs count loads a =
+    let w = given_loads fill (take count rs) loads a in
     let ranged = all_ranged (take count rs) (λ n. w.0 11 (out_of_range n)) in
     record {
-      count = loads_few fill (take count rs) taken.loads w.1;
+      count = loads_few fill (take count rs) loads w.1;
       each =
           λ i h.
           let here = subst (λ (m : ℕ). i < m) w.1.count h in
           let in_range = every_at (λ row. Ranged row.kind row.numbers) (take count rs) ranged i here in
-          exerts_bounded fill small _ _ in_range (laid_at fill (take count rs) taken.loads.loads w.1.laid i here);
+          exerts_bounded fill small _ _ in_range (laid_at fill (take count rs) loads.loads w.1.laid i here);
     }
 
--- whatever the answer, the loads that stand beside it are bounded
-pub beside_bounded : (fill : ℕ → ℕ → Coefficient) → ((soil slope : ℕ) → LowCoefficient (fill soil slope)) → (rs : List Row) (count : ℕ) (taken : LoadsRead) → LoadsAnswered fill rs count taken
-    → Bounded taken.loads
-unfolding Beside blank_loads
-beside_bounded fill small rs count taken a = go taken.answer refl a.beside
-  where
-    go : (x : LoadsAnswer) → taken.answer ≡ x → Beside x taken.loads → Bounded taken.loads
-    go (Refused n) e b = subst⁻¹ Bounded b (record { count = omega arith; each = λ i h. absurd (omega arith) })
-    go Given e b = given_bounded fill small rs count taken a e
-
 -- ---- and what is named in them is a train
-pub given_led : (fill : ℕ → ℕ → Coefficient) (rs : List Row) (count : ℕ) (taken : LoadsRead) → LoadsAnswered fill rs count taken → taken.answer ≡ Given → Led taken.loads
-unfolding loads_told loads_told_by
-given_led fill rs count taken a e =
-    let w = given_loads fill (take count rs) a.says taken.loads (ap (λ (x : LoadsAnswer). loads_told_by x taken.loads) e) in
-    loads_led fill (take count rs) taken.loads w.1 (all_named (take count rs) (λ n. w.0 18 (no_train n)))
+pub given_led : (fill : ℕ → ℕ → Coefficient) (rs : List Row) (count : ℕ) (loads : Loads) → LoadsAnswered fill rs count (Ok loads) → Led loads
+given_led fill rs count loads a =
+    let w = given_loads fill (take count rs) loads a in
+    loads_led fill (take count rs) loads w.1 (all_named (take count rs) (λ n. w.0 18 (no_train n)))

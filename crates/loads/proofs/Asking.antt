@@ -1,24 +1,25 @@
 -- What the rows passed were asked, with their loads, by what one row more is told.
 use native.Mathlib.Omega.{arith}
 use native.Mathlib.Numerals.{add-one}
-use mathlib.Core.Path.{◌≡◌, refl, ◌∙◌, ap, subst⁻¹}
+use mathlib.Core.Path.{◌≡◌, refl, ◌∙◌, ap, subst, subst⁻¹}
 use mathlib.Core.Logic.{◌⊎◌, ⊎_elim}
 use mathlib.Core.List.{List, [], ◌∷◌, ◌++◌}
 use Prim.Native.Nat.{ℕ, ◌+◌, ◌≤◌, ◌<◌}
 use lib.ListN.{length, take, set, length-set}
-use lib.Seq.{take-suc}
+use lib.Seq.{take-suc, take_all}
+use Rattle.std.proofs.Common.{Option, None, Some, Ok, Err}
 use Rattle.kinds.specs.declared.Row.{Row}
+use Rattle.kinds.specs.declared.refusals.JobRefusal.{JobRefusal}
 use Rattle.kinds.specs.classes.Classes.{class_of, optional}
-use Rattle.earth.specs.declared.coefficients.Coefficient.{Coefficient}
+use Rattle.earth.specs.coefficients.Coefficients.{Coefficient}
 use Rattle.sets.specs.declared.Class.{Class}
 use Rattle.sets.specs.declared.Class.TheVariants.{Permanent, Free, Wind, Earthquake}
 use Rattle.sets.specs.declared.Load.{Load}
 use Rattle.loads.specs.LoadRows.{optionals}
-use Rattle.loads.specs.steps.Exerted.{RowWhen, out_of_range, blank, upper_below_lower, not_above, type_e, LoadOf}
-use Rattle.loads.specs.steps.Asking.{Lower, Some, Lowest, ShownBy, AskedIs}
-use Rattle.loads.specs.declared.forces.RowLoad.TheVariants.{Refused, Exerted}
+use Rattle.loads.specs.steps.Exerted.{RowWhen, LoadOf}
+use Rattle.loads.specs.steps.Asking.{AnyRow, lowest, Lowest, unshown, least, ShownBy, AskedIs}
 use Rattle.loads.proofs.FirstRows.{load_row, some_last, some_more, some_either, optionals_more}
-use Rattle.loads.proofs.Lowest.{lower_some, lowest_same, lowest_alone, lowest_more}
+use Rattle.loads.proofs.Refusing.{lowest_same, lowest_alone, lowest_either, lowest_some}
 use Rattle.loads.proofs.Laying.{LaidFirst, laid_more, laid_all}
 
 pub optional_low : (c : Class) → optional c ≤ 1
@@ -28,36 +29,28 @@ optional_low Free = omega arith
 optional_low Wind = omega arith
 optional_low Earthquake = omega arith
 
--- a refusal is a number
-row_number : {fill : ℕ → ℕ → Coefficient} {row : Row} {n : ℕ} → RowWhen fill row n → n ≡ 0 → ⊥
-row_number (out_of_range h) e = omega arith
-row_number (blank h) e = omega arith
-row_number (upper_below_lower h) e = omega arith
-row_number (not_above h) e = omega arith
-row_number (type_e h) e = omega arith
-
 module _ (fill : ℕ → ℕ → Coefficient) where
-  shown_none : Lowest (ShownBy fill []) 0
-  unfolding Some
-  shown_none = record { shown = λ n. absurd (n refl); clear = λ n h s. s }
+  shown_none : Lowest (ShownBy fill []) None
+  unfolding AnyRow
+  shown_none = unshown (λ n s. s)
 
   -- what the rows passed show, or one row more
-  shown_more : (rows : List Row) (r : Row) {next : ℕ} → Lowest (λ n. ShownBy fill rows n ⊎ RowWhen fill r n) next → Lowest (ShownBy fill (rows ++ r ∷ [])) next
+  shown_more : (rows : List Row) (r : Row) {next : Option JobRefusal} → Lowest (λ n. ShownBy fill rows n ⊎ RowWhen fill r n) next → Lowest (ShownBy fill (rows ++ r ∷ [])) next
   shown_more rows r = lowest_same (λ n. ⊎_elim (some_more (λ row. RowWhen fill row n) rows r) (some_last (λ row. RowWhen fill row n) rows r)) (λ n. some_either (λ row. RowWhen fill row n) rows r)
 
 -- the rows passed: what was asked of them, and, as long as none was refused, their loads
-pub record RowsAsked (fill : ℕ → ℕ → Coefficient) (rows : List Row) (n first count : ℕ) (loads : List Load) : Type 0 where
+pub record RowsAsked (fill : ℕ → ℕ → Coefficient) (rows : List Row) (n : ℕ) (first : Option JobRefusal) (count : ℕ) (loads : List Load) : Type 0 where
   pub size : length loads ≡ 16
   pub told : Lowest (ShownBy fill (take n rows)) first
   pub optional : count ≡ optionals (take n rows)
-  pub laid : first ≡ 0 → LaidFirst fill rows n loads
+  pub laid : first ≡ None → LaidFirst fill rows n loads
 
 module _ (fill : ℕ → ℕ → Coefficient) (rows : List Row) where
-  pub asked_none : {loads : List Load} → LaidFirst fill rows 0 loads → RowsAsked fill rows 0 0 0 loads
+  pub asked_none : {loads : List Load} → LaidFirst fill rows 0 loads → RowsAsked fill rows 0 None 0 loads
   unfolding LaidFirst optionals
   asked_none l = record { size = l.0; told = shown_none fill; optional = refl; laid = λ _. l }
 
-  module _ (n : ℕ) (there : n < length rows) {first count : ℕ} {loads : List Load} (p : RowsAsked fill rows n first count loads) where
+  module _ (n : ℕ) (there : n < length rows) {first : Option JobRefusal} {count : ℕ} {loads : List Load} (p : RowsAsked fill rows n first count loads) where
     -- the rows passed with one row more
     more : take (n + 1) rows ≡ take n rows ++ load_row rows n ∷ []
     unfolding load_row
@@ -66,18 +59,18 @@ module _ (fill : ℕ → ℕ → Coefficient) (rows : List Row) where
     counted : count + optional (class_of (load_row rows n).kind) ≡ optionals (take (n + 1) rows)
     counted = rw (more, optionals_more (take n rows) (load_row rows n)) (ap (λ (m : ℕ). m + optional (class_of (load_row rows n).kind)) p.optional)
 
-    pub asked_refused : {number next : ℕ} → LoadOf fill (load_row rows n) (Refused number) → Lower first number next
-        → RowsAsked fill rows (n + 1) next (count + optional (class_of (load_row rows n).kind)) loads
+    pub asked_refused : (refusal : JobRefusal) → LoadOf fill (load_row rows n) (Err refusal)
+        → RowsAsked fill rows (n + 1) (lowest first (Some refusal)) (count + optional (class_of (load_row rows n).kind)) loads
     unfolding LoadOf
-    asked_refused {number} {next} t l =
+    asked_refused refusal t =
         record {
           size = p.size;
-          told = subst⁻¹ (λ (x : List Row). Lowest (ShownBy fill x) next) more (shown_more fill (take n rows) (load_row rows n) (lowest_more p.told t (row_number t.holds) l));
+          told = subst⁻¹ (λ (x : List Row). Lowest (ShownBy fill x) (lowest first (Some refusal))) more (shown_more fill (take n rows) (load_row rows n) (lowest_either p.told (least t)));
           optional = counted;
-          laid = λ e. absurd (lower_some l (row_number t.holds) e);
+          laid = λ e. lowest_some first refusal e;
         }
 
-    pub asked_load : (load : Load) → n < 16 → LoadOf fill (load_row rows n) (Exerted load)
+    pub asked_load : (load : Load) → n < 16 → LoadOf fill (load_row rows n) (Ok load)
         → RowsAsked fill rows (n + 1) first (count + optional (class_of (load_row rows n).kind)) (set loads n load)
     unfolding LoadOf
     asked_load load h t =
@@ -88,7 +81,13 @@ module _ (fill : ℕ → ℕ → Coefficient) (rows : List Row) where
           laid = λ e. laid_more fill rows n loads h (p.laid e) t.1;
         }
 
-  -- where there are 16 rows, the list of the first n was asked
-  pub asked_all : (n : ℕ) → n ≤ 16 → length rows ≡ 16 → {first count : ℕ} {loads : List Load} → RowsAsked fill rows n first count loads
-      → AskedIs fill (take n rows) (record { first = first; optional = count; loads = record { count = n; loads = loads } })
-  asked_all n few whole p = record { first = p.told; optional = p.optional; loads = λ e. laid_all fill rows n _ few whole (p.laid e) }
+  -- all of them were asked
+  pub asked_all : length rows ≤ 16 → {first : Option JobRefusal} {count : ℕ} {loads : List Load} → RowsAsked fill rows (length rows) first count loads
+      → AskedIs fill rows (record { first = first; optional = count; loads = record { count = length rows; loads = loads } })
+  asked_all few {first} {count} p =
+      let every : take (length rows) rows ≡ rows = take_all (length rows) rows (omega arith) in
+      record {
+        first = subst (λ (x : List Row). Lowest (ShownBy fill x) first) every p.told;
+        optional = subst (λ (x : List Row). count ≡ optionals x) every p.optional;
+        loads = λ e. laid_all fill rows _ few (p.laid e);
+      }

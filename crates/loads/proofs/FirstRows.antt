@@ -9,12 +9,12 @@ use Rattle.kinds.specs.declared.Kind.TheVariants.{B}
 use Rattle.kinds.specs.declared.Row.{Row}
 use Rattle.kinds.specs.Table.{blank_numbers}
 use Rattle.kinds.specs.classes.Classes.{class_of, optional}
-use Rattle.earth.specs.declared.coefficients.Coefficient.{Coefficient}
+use Rattle.earth.specs.coefficients.Coefficients.{Coefficient}
 use Rattle.sets.specs.declared.Load.{Load}
 use Rattle.sets.specs.Sets.{blank_load}
 use Rattle.loads.specs.forces.Exerts.{Exerts}
 use Rattle.loads.specs.LoadRows.{Every, optionals, Laid}
-use Rattle.loads.specs.steps.Asking.{Some}
+use Rattle.loads.specs.steps.Asking.{AnyRow}
 
 -- row i, from 0; past the last an empty one
 unfoldable pub load_row : List Row → ℕ → Row
@@ -34,30 +34,30 @@ module _ (P : Row → Type 0) where
   every_first [] (suc n) h each = absurd (omega arith)
   every_first (x ∷ rows) (suc n) h each = (each 0 (omega arith), every_first rows n (omega arith) (λ i k. each (suc i) (omega arith)))
 
-  pub some_last : (rows : List Row) (r : Row) → P r → Some P (rows ++ r ∷ [])
-  unfolding Some
+  pub some_last : (rows : List Row) (r : Row) → P r → AnyRow P (rows ++ r ∷ [])
+  unfolding AnyRow
   some_last [] r p = inl p
   some_last (x ∷ rows) r p = inr (some_last rows r p)
 
-  pub some_more : (rows : List Row) (r : Row) → Some P rows → Some P (rows ++ r ∷ [])
-  unfolding Some
+  pub some_more : (rows : List Row) (r : Row) → AnyRow P rows → AnyRow P (rows ++ r ∷ [])
+  unfolding AnyRow
   some_more [] r s = absurd s
   some_more (x ∷ rows) r s = ⊎_elim inl (λ t. inr (some_more rows r t)) s
 
   -- and, of one row more, of one of those passed or of it
-  pub some_either : (rows : List Row) (r : Row) → Some P (rows ++ r ∷ []) → Some P rows ⊎ P r
-  unfolding Some
+  pub some_either : (rows : List Row) (r : Row) → AnyRow P (rows ++ r ∷ []) → AnyRow P rows ⊎ P r
+  unfolding AnyRow
   some_either [] r s = ⊎_elim inr inl s
   some_either (x ∷ rows) r s = ⊎_elim (λ p. inl (inl p)) (λ t. ⊎_elim (λ u. inl (inr u)) inr (some_either rows r t)) s
 
   -- some row of them has it, and what every row has
-  pub some_row : {A : Type 0} (rows : List Row) → Some P rows → ((r : Row) → P r → ((Q : Row → Type 0) → Every Q rows → Q r) → A) → A
-  unfolding Some Every
+  pub some_row : {A : Type 0} (rows : List Row) → AnyRow P rows → ((r : Row) → P r → ((Q : Row → Type 0) → Every Q rows → Q r) → A) → A
+  unfolding AnyRow Every
   some_row [] s f = absurd s
   some_row (x ∷ rows) s f = ⊎_elim (λ p. f x p (λ Q all. all.0)) (λ t. some_row rows t (λ r p one. f r p (λ Q all. one Q all.1))) s
 
-  pub none_some : (rows : List Row) → (Some P rows → ⊥) → Every (λ row. P row → ⊥) rows
-  unfolding Some Every
+  pub none_some : (rows : List Row) → (AnyRow P rows → ⊥) → Every (λ row. P row → ⊥) rows
+  unfolding AnyRow Every
   none_some [] n = tt
   none_some (x ∷ rows) n = ((λ p. n (inl p)), none_some rows (λ s. n (inr s)))
 

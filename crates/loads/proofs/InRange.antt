@@ -9,7 +9,7 @@ use Rattle.kinds.specs.declared.Row.{Row}
 use Rattle.kinds.specs.ranges.Range.{Ranged}
 use Rattle.kinds.proofs.ranges.Ranges.{ranged_unless}
 use Rattle.kinds.specs.classes.Classes.{source}
-use Rattle.earth.specs.declared.coefficients.Coefficient.{Coefficient}
+use Rattle.earth.specs.coefficients.Coefficients.{Coefficient}
 use Rattle.earth.specs.Earth.{push}
 use Rattle.earth.specs.EarthRow.{Pressed, in_range}
 use Rattle.current.specs.Current as current

@@ -1,17 +1,17 @@
 -- The loads of a job, one row more at a time; past its rows there is no load.
-use mathlib.Core.Path.{◌≡◌, refl, sym, ◌∙◌, ap, subst⁻¹}
+use mathlib.Core.Path.{◌≡◌, refl, ◌∙◌, ap, subst, subst⁻¹}
 use mathlib.Core.List.{List}
 use borrow.Author.Count.{below_more}
-use lib.ListN.{get_or, length, take, set, replicate, length-replicate, length-set}
-use lib.Seq.{length-take-le, get_or-set_same, get_or-set_other}
+use lib.ListN.{get_or, length, set, replicate, length-replicate, length-set}
+use lib.Seq.{take_all, get_or-set_same, get_or-set_other}
 use Prim.Native.Nat.{ℕ, zero, suc, ◌+◌, ◌≤◌, ◌<◌}
 use native.Mathlib.Omega.{arith}
 use Rattle.kinds.specs.declared.Row.{Row}
-use Rattle.earth.specs.declared.coefficients.Coefficient.{Coefficient}
+use Rattle.earth.specs.coefficients.Coefficients.{Coefficient}
 use Rattle.sets.specs.declared.Load.{Load}
 use Rattle.sets.specs.Sets.{blank_load}
 use Rattle.loads.specs.forces.Exerts.{Exerts}
-use Rattle.loads.specs.LoadRows.{AreLoads}
+use Rattle.loads.specs.LoadRows.{Laid, AreLoads}
 use Rattle.loads.proofs.FirstRows.{load_row, first_laid}
 
 pub all_no_load : (n j : ℕ) → get_or (replicate n blank_load) j blank_load ≡ blank_load
@@ -37,11 +37,11 @@ module _ (fill : ℕ → ℕ → Coefficient) (rows : List Row) where
     λ j k. get_or-set_other loads n j load blank_load (λ d. omega arith) ∙ l.2 j (omega arith),
   )
 
-  pub laid_all : (n : ℕ) (loads : List Load) → n ≤ 16 → length rows ≡ 16 → LaidFirst n loads → AreLoads fill (take n rows) (record { count = n; loads = loads })
+  pub laid_all : (loads : List Load) → length rows ≤ 16 → LaidFirst (length rows) loads → AreLoads fill rows (record { count = length rows; loads = loads })
   unfolding LaidFirst
-  laid_all n loads few whole l =
+  laid_all loads few l =
       record {
-        count = sym (length-take-le n rows (omega arith));
+        count = refl;
         places = l.0;
-        laid = first_laid fill rows n loads (omega arith) (omega (arith, l.0)) l.1 l.2;
+        laid = subst (λ (x : List Row). Laid fill x loads) (take_all (length rows) rows (omega arith)) (first_laid fill rows (length rows) loads (omega arith) (omega (arith, l.0)) l.1 l.2);
       }

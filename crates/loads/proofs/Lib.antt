@@ -2,7 +2,7 @@ pub mod Answering
 pub mod Asking
 pub mod FirstRows
 mod Laying
-mod Lowest
+mod Refusing
 pub mod Naming
 pub mod InRange
 pub mod Loaded

@@ -2,7 +2,7 @@
 use mathlib.Core.Path.{◌≡◌, sym, ◌∙◌, ap, subst, subst⁻¹}
 use mathlib.Core.Bool.{Bool, false}
 use mathlib.Core.List.{List, [], ◌∷◌}
-use Prim.Native.Nat.{ℕ, zero, suc, ◌≤◌, ◌<◌}
+use Prim.Native.Nat.{ℕ, zero, suc, ◌-◌, ◌≤◌, ◌<◌}
 use native.Mathlib.Omega.{arith}
 use lib.Dec.{eqb}
 use lib.ListN.{length, take}
@@ -18,7 +18,7 @@ use Rattle.kinds.specs.classes.Classes.{class_of}
 use Rattle.kinds.specs.contracts.Kind.{the_type}
 use Rattle.kinds.proofs.Arms.{kind_decides}
 use Rattle.kinds.proofs.Trains.{train_free}
-use Rattle.earth.specs.declared.coefficients.Coefficient.{Coefficient}
+use Rattle.earth.specs.coefficients.Coefficients.{Coefficient}
 use Rattle.sets.specs.declared.Loads.{Loads}
 use Rattle.sets.specs.Sets.{row}
 use Rattle.sets.specs.Led.{Names, Led}
@@ -39,6 +39,28 @@ unfolding LiveAt load_row
 row_live [] i h e = absurd (omega arith)
 row_live (x ∷ rows) zero h e = e
 row_live (x ∷ rows) (suc i) h e = row_live rows i (omega arith) e
+
+module _ (rows : List Row) where
+  pub live_none : (train : ℕ) → train ≡ 0 → NamesLive rows train
+  unfolding NamesLive
+  live_none train e = subst⁻¹ (NamesLive rows) e tt
+
+  -- a position past the last row
+  pub live_past : (train : ℕ) → length rows < train → NamesLive rows train → ⊥
+  unfolding NamesLive
+  live_past zero h l = omega arith
+  live_past (suc i) h l = omega (arith, (live_row rows i l).0)
+
+  -- one of the rows: the row that is one place lower is LL
+  pub live_here : (train : ℕ) → 0 < train → NamesLive rows train → (load_row rows (train - 1)).kind ≡ LL
+  unfolding NamesLive
+  live_here zero some l = absurd (omega arith)
+  live_here (suc i) some l = let e : suc i - 1 ≡ i = omega arith in subst⁻¹ (λ (j : ℕ). (load_row rows j).kind ≡ LL) e (live_row rows i l).1
+
+  pub here_live : (train : ℕ) → 0 < train → train ≤ length rows → (load_row rows (train - 1)).kind ≡ LL → NamesLive rows train
+  unfolding NamesLive
+  here_live zero some h l = tt
+  here_live (suc i) some h l = let e : suc i - 1 ≡ i = omega arith in row_live rows i (omega arith) (subst (λ (j : ℕ). (load_row rows j).kind ≡ LL) e l)
 
 module _ (rows : List Row) (n : ℕ) (there : n ≤ length rows) where
   pub names_none : (train : ℕ) → train ≡ 0 → NamesLive (take n rows) train

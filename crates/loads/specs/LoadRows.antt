@@ -4,7 +4,7 @@ use Rattle.kinds.specs.declared.Kind.TheVariants.{LL}
 use Rattle.kinds.specs.declared.Row.{Row}
 use Rattle.kinds.specs.Table.{train}
 use Rattle.kinds.specs.ranges.Range.{Ranged}
-use Rattle.earth.specs.declared.coefficients.Coefficient.{Coefficient}
+use Rattle.earth.specs.coefficients.Coefficients.{Coefficient}
 use Rattle.sets.specs.declared.Load.{Load}
 use Rattle.sets.specs.declared.Loads.{Loads}
 use Rattle.sets.specs.Sets.{blank_load}

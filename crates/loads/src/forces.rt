@@ -6,21 +6,21 @@ ghost use Rattle.earth.specs.coefficients.Coefficients.{fill_of};
 ghost use Rattle.arithmetic.specs.signed.Whole.{signed, amount};
 ghost use Rattle.kinds.specs.classes.Classes.{class_of};
 ghost use Rattle.loads.specs.forces.Exerts.{OwnForces, PushLoad, PartsLoad};
-ghost use Rattle.loads.specs.steps.Exerted.{LoadOf};
+ghost use Rattle.loads.specs.steps.Exerted.{Belongs, LoadOf};
 
 use arithmetic::signed::Amount;
-use current::CurrentAnswer;
-use earth::EarthAnswer;
 use kinds::classes::Source;
+use kinds::refusals::JobRefusal;
 use kinds::{Numbers, Row};
 use sets::{Class, Load};
-use surcharge::{Parts, SurchargeAnswer};
+use surcharge::Parts;
 
-// What a load row is told: the lowest of its own refusals, or its load.
+// What a row's load has of the row beside its forces: its class, its phase and its train.
 #[derive(Clone, Copy)]
-pub enum RowLoad {
-    Refused(u8),
-    Exerted(Load),
+struct Membership {
+    class: Class,
+    phase: u32,
+    train: u32,
 }
 
 // The amount of a sign and a size; zero has no sign.
@@ -34,14 +34,14 @@ fn amount_of(minus: bool, size: u64) -> Amount
 }
 
 // The load of a push toward +x with its twist, and no V.
-fn push_load(class: Class, phase: u32, train: u32, force: u64, twist: u64) -> Load
-    ensures { (result.class ≡ class) × (result.phase ≡ phase) × (result.train ≡ train) × PushLoad force twist result }
+fn push_load(of: Membership, force: u64, twist: u64) -> Load
+    ensures { Belongs of result × PushLoad force twist result }
 {
     let none = amount_of(false, 0);
     Load {
-        class,
-        phase,
-        train,
+        class: of.class,
+        phase: of.phase,
+        train: of.train,
         v: none,
         x: none,
         h: amount_of(false, force),
@@ -50,80 +50,72 @@ fn push_load(class: Class, phase: u32, train: u32, force: u64, twist: u64) -> Lo
 }
 
 // The load of both parts of a surcharge, each at its own arm.
-fn surcharge_load(class: Class, phase: u32, train: u32, parts: Parts) -> Load
+fn surcharge_load(of: Membership, parts: Parts) -> Load
     requires { Moderate parts }
-    ensures { (result.class ≡ class) × (result.phase ≡ phase) × (result.train ≡ train) × PartsLoad parts result }
+    ensures { Belongs of result × PartsLoad parts result }
 {
     let first = parts.first;
     let second = parts.second;
-    let h1 = first.force;
-    let y1 = first.arm;
-    let h2 = second.force;
-    let y2 = second.arm;
-    push_load(class, phase, train, h1 + h2, h1 * y1 + h2 * y2)
+    push_load(
+        of,
+        first.force + second.force,
+        first.force * first.arm + second.force * second.arm,
+    )
 }
 
 // The load of a row's own numbers.
-fn own_load(class: Class, phase: u32, train: u32, numbers: Numbers) -> Load
+fn own_load(of: Membership, numbers: Numbers) -> Load
     requires { (numbers.n3.size ≤ 50000) × (numbers.n4.size ≤ 60000) × (numbers.n4.minus ≡ false) }
-    ensures { (result.class ≡ class) × (result.phase ≡ phase) × (result.train ≡ train) × OwnForces numbers result }
+    ensures { Belongs of result × OwnForces numbers result }
 {
     Load {
-        class,
-        phase,
-        train,
-        v: amount_of(numbers.n1.minus, numbers.n1.size as u64),
-        x: amount_of(numbers.n2.minus, numbers.n2.size as u64),
-        h: amount_of(numbers.n3.minus, numbers.n3.size as u64),
+        class: of.class,
+        phase: of.phase,
+        train: of.train,
+        v: amount_of(numbers.n1.minus, u64::from(numbers.n1.size)),
+        x: amount_of(numbers.n2.minus, u64::from(numbers.n2.size)),
+        h: amount_of(numbers.n3.minus, u64::from(numbers.n3.size)),
         twist: amount_of(
             numbers.n3.minus,
-            numbers.n3.size as u64 * numbers.n4.size as u64,
+            u64::from(numbers.n3.size) * u64::from(numbers.n4.size),
         ),
     }
 }
 
-// What a load row of a class exerts. Whether its numbers are in range is asked once, by the rule that its forces come from.
-pub(crate) fn load_of(held: [[u32; 5]; 5], row: Row, class: Class) -> RowLoad
+// What a load row of a class exerts, or the lowest of its own refusals. Whether its numbers are in range is asked once, by the rule that its forces come from.
+pub(crate) fn load_of(held: [[u32; 5]; 5], row: Row, class: Class) -> Result<Load, JobRefusal>
     requires { class ≡ class_of row.kind }
     ensures { LoadOf (fill_of held) row result }
 {
-    let kind = row.kind;
     let numbers = row.numbers;
-    let phase = kinds::phase_of(row);
-    let train = kinds::train_of(row);
-    let source = kinds::classes::source_of(kind);
+    let of = Membership {
+        class,
+        phase: kinds::phase_of(row),
+        train: kinds::train_of(row),
+    };
+    let source = kinds::classes::source_of(row.kind);
     match source {
-        Source::Earth => match earth::pressure(held, numbers) {
-            EarthAnswer::OutOfRange => RowLoad::Refused(11),
-            EarthAnswer::NoCoefficient => RowLoad::Refused(15),
-            EarthAnswer::Push { thrust, arm } => {
-                RowLoad::Exerted(push_load(class, phase, train, thrust, thrust * arm))
-            }
-        },
-        Source::Current => match current::pressure(numbers) {
-            CurrentAnswer::OutOfRange => RowLoad::Refused(11),
-            CurrentAnswer::UpperBelowLower => RowLoad::Refused(17),
-            CurrentAnswer::Push { force, arm } => {
-                RowLoad::Exerted(push_load(class, phase, train, force, force * arm))
-            }
-        },
-        Source::Surcharge => match surcharge::pressure(numbers) {
-            SurchargeAnswer::OutOfRange => RowLoad::Refused(11),
-            SurchargeAnswer::LengthNotAbove => RowLoad::Refused(19),
-            SurchargeAnswer::SoilTypeE => RowLoad::Refused(20),
-            SurchargeAnswer::Pushes(parts) => {
-                RowLoad::Exerted(surcharge_load(class, phase, train, parts))
-            }
-        },
+        Source::Earth => {
+            let fill = earth::pressure(held, numbers)?;
+            Ok(push_load(of, fill.force, fill.force * fill.arm))
+        }
+        Source::Current => {
+            let current = current::pressure(numbers)?;
+            Ok(push_load(of, current.force, current.force * current.arm))
+        }
+        Source::Surcharge => {
+            let parts = surcharge::pressure(numbers)?;
+            Ok(surcharge_load(of, parts))
+        }
         Source::Own | Source::Absent => {
-            if !kinds::ranges::is_ranged(kind, numbers) {
-                return RowLoad::Refused(11);
+            if !kinds::ranges::is_ranged(row.kind, numbers) {
+                return Err(JobRefusal::OutOfRange);
             }
             // a row of no source: no job has one among its load rows
-            if let Source::Absent = source {
-                return RowLoad::Exerted(push_load(class, phase, train, 0, 0));
+            if source == Source::Absent {
+                return Ok(push_load(of, 0, 0));
             }
-            RowLoad::Exerted(own_load(class, phase, train, numbers))
+            Ok(own_load(of, numbers))
         }
     }
 }

@@ -3,7 +3,9 @@ use mathlib.Core.Path.{◌≡◌, refl}
 use Rattle.kinds.specs.declared.Numbers.{Numbers}
 use Rattle.scour.specs.Scour.{ScourTold}
 use Rattle.scour.specs.ScourRow.{scour_told, ScourSays, out_of_range, in_range}
-use Rattle.scour.specs.declared.ScourAnswer.{ScourAnswer}
+use Rattle.std.proofs.Common.{Result}
+use Rattle.arithmetic.specs.declared.rounding.Rounded.{Rounded}
+use Rattle.scour.specs.declared.ScourRefusal.{ScourRefusal}
 use Rattle.scour.proofs.Scours.{scour_rule_one, scour_told_one}
 
 pub scour_says_one : {row : Numbers} {t u : ScourTold} → ScourSays row t → ScourSays row u → t ≡ u
@@ -13,5 +15,5 @@ scour_says_one (in_range r s) (out_of_range h) = absurd (h r)
 scour_says_one (in_range p s) (in_range q t) = scour_rule_one s t
 
 -- no second answer meets the promise of `scour`
-pub scour_one : (row : Numbers) (r s : ScourAnswer) → ScourSays row (scour_told r) → ScourSays row (scour_told s) → r ≡ s
+pub scour_one : (row : Numbers) (r s : Result Rounded ScourRefusal) → ScourSays row (scour_told r) → ScourSays row (scour_told s) → r ≡ s
 scour_one row r s u v = scour_told_one r s (scour_says_one u v)

@@ -9,8 +9,10 @@ use Rattle.scour.specs.lacey.Lacey.{Intensity, RegimeDepth, ConstrictedDepth, De
 use Rattle.scour.specs.Scour.{ScourTold, refused, needs, Constricted, LaceyDepth, regime, constricted, ScourRule, large_catchment, too_intense, needed}
 use Rattle.scour.specs.ScourRow.{scour_told}
 use Rattle.scour.specs.declared.Waterway.{Waterway}
-use Rattle.scour.specs.declared.ScourAnswer.{ScourAnswer}
-use Rattle.scour.specs.declared.ScourAnswer.TheVariants.{OutOfRange, LargeCatchment, TooIntense, Needed}
+use Rattle.std.proofs.Common.{Result, Ok, Err}
+use Rattle.arithmetic.specs.declared.rounding.Rounded.{Rounded}
+use Rattle.scour.specs.declared.ScourRefusal.{ScourRefusal}
+use Rattle.scour.specs.declared.ScourRefusal.TheVariants.{OutOfRange, LargeCatchment, TooIntense}
 use Rattle.scour.proofs.discharge.Rules.{discharge_one, no_discharge}
 use Rattle.scour.proofs.lacey.Rules.{depth_needed_one}
 
@@ -50,17 +52,17 @@ module _ {row : Waterway} where
       let exact = one.1 in
       cc
 
-back : ScourTold → ScourAnswer
-back (refused n) = cond (eqb n 11) OutOfRange (cond (eqb n 12) LargeCatchment TooIntense)
-back (needs depth exact) = Needed (record { value = depth; exact = exact })
+back : ScourTold → Result Rounded ScourRefusal
+back (refused n) = Err (cond (eqb n 11) OutOfRange (cond (eqb n 12) LargeCatchment TooIntense))
+back (needs depth exact) = Ok (record { value = depth; exact = exact })
 
-back_told : (r : ScourAnswer) → back (scour_told r) ≡ r
+back_told : (r : Result Rounded ScourRefusal) → back (scour_told r) ≡ r
 unfolding back
-back_told OutOfRange = refl
-back_told LargeCatchment = refl
-back_told TooIntense = refl
-back_told (Needed depth) = refl
+back_told (Err OutOfRange) = refl
+back_told (Err LargeCatchment) = refl
+back_told (Err TooIntense) = refl
+back_told (Ok depth) = refl
 
 -- answers that tell the same are one
-pub scour_told_one : (r s : ScourAnswer) → scour_told r ≡ scour_told s → r ≡ s
+pub scour_told_one : (r s : Result Rounded ScourRefusal) → scour_told r ≡ scour_told s → r ≡ s
 scour_told_one r s e = sym (back_told r) ∙ ap back e ∙ back_told s

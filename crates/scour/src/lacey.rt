@@ -49,7 +49,6 @@ pub fn depth_needed(depth: u64, reach: u64) -> Rounded
     requires { (depth ≤ 41000) × (1 ≤ reach) × (reach ≤ 5) }
     ensures { DepthNeeded depth reach result.value result.exact }
 {
-    let at = (reach - 1) as usize;
-    let greatest = arithmetic::rounding::up(REACHES[at] * depth, 100);
+    let greatest = arithmetic::rounding::up(REACHES[(reach - 1) as usize] * depth, 100);
     arithmetic::rounding::up(NEEDED * greatest.value, 100)
 }

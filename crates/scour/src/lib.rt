@@ -8,11 +8,13 @@ mod cubes;
 pub mod discharge;
 pub mod lacey;
 
-ghost use Rattle.std.specs.Prelude.{◌≡◌, ◌≤◌};
-ghost use Rattle.scour.specs.Scour.{waterway_in, ScourRule};
+ghost use Rattle.std.specs.Prelude.{◌≡◌, ◌≤◌, Err};
+ghost use Rattle.kinds.specs.refusals.Refusals.{refusal_number};
+ghost use Rattle.scour.specs.Scour.{waterway_in, ScourRule, refused};
 ghost use Rattle.scour.specs.ScourRow.{scour_told, ScourSays};
 
 use arithmetic::rounding::Rounded;
+use kinds::refusals::JobRefusal;
 use kinds::{Kind, Numbers};
 
 // The columns of an S row: discharge Q in l/s, catchment in km², silt factor in thousandths, width of the waterway W in mm, reach, and
@@ -27,56 +29,76 @@ pub struct Waterway {
     pub depth: u64,
 }
 
-// What an S row is told: the depth needed in mm, and whether it is exact, or a refusal.
+// Why an S row is refused: a number out of its range, a catchment above 25,000 km², or a constricted waterway with q above 50,000.
 #[derive(Clone, Copy)]
-pub enum ScourAnswer {
+pub enum ScourRefusal {
     OutOfRange,
     LargeCatchment,
     TooIntense,
-    Needed(Rounded),
 }
 
-// An S row by its columns. The rules take them in words of 64 bits.
-pub fn waterway_of(row: Numbers) -> Waterway
-    ensures { result ≡ waterway_in row }
-{
-    Waterway {
-        discharge: row.n1.size as u64,
-        catchment: row.n2.size as u64,
-        silt: row.n3.size as u64,
-        width: row.n4.size as u64,
-        reach: row.n5.size as u64,
-        depth: row.n6.size as u64,
+// The largest catchment that 002 leaves to the rules (4.4), in km².
+const LARGEST: u64 = 25_000;
+
+// The most q for which the constricted rule is used (document 01, Refusals of a job, 13), in l/s on each metre.
+const MOST_INTENSE: u64 = 50_000;
+
+// The refusal of its job.
+impl From<ScourRefusal> for JobRefusal {
+    ghost from_gives = { λ refusal job. scour_told (Err refusal) ≡ refused (refusal_number job) };
+
+    fn from(refusal: ScourRefusal) -> JobRefusal {
+        match refusal {
+            ScourRefusal::OutOfRange => JobRefusal::OutOfRange,
+            ScourRefusal::LargeCatchment => JobRefusal::LargeCatchment,
+            ScourRefusal::TooIntense => JobRefusal::TooIntense,
+        }
     }
 }
 
-// What the columns of an S row give, where they are in range.
-fn scour_of(row: Waterway) -> ScourAnswer
+// An S row by its columns. The rules take them in words of 64 bits.
+impl From<Numbers> for Waterway {
+    ghost from_gives = { λ row waterway. waterway ≡ waterway_in row };
+
+    fn from(row: Numbers) -> Waterway {
+        Waterway {
+            discharge: u64::from(row.n1.size),
+            catchment: u64::from(row.n2.size),
+            silt: u64::from(row.n3.size),
+            width: u64::from(row.n4.size),
+            reach: u64::from(row.n5.size),
+            depth: u64::from(row.n6.size),
+        }
+    }
+}
+
+// The depth needed in mm by the columns of an S row, where they are in range, and whether it is exact.
+fn scour_of(row: Waterway) -> Result<Rounded, ScourRefusal>
     requires { (row.discharge ≤ 50000000) × (100 ≤ row.silt) × (row.silt ≤ 3000) × (1000 ≤ row.width) × (row.width ≤ 1300000) × (1 ≤ row.reach) × (row.reach ≤ 5) }
     ensures { ScourRule row (scour_told result) }
 {
-    if 25000 < row.catchment {
-        return ScourAnswer::LargeCatchment;
+    if LARGEST < row.catchment {
+        return Err(ScourRefusal::LargeCatchment);
     }
     let qf = discharge::foundation_discharge(row.discharge, row.catchment);
     let depth = if lacey::meets_regime(row.discharge, row.width) {
         lacey::regime_depth(qf, row.silt).value
     } else {
         let intensity = arithmetic::rounding::up(1000 * qf, row.width).value;
-        if 50000 < intensity {
-            return ScourAnswer::TooIntense;
+        if MOST_INTENSE < intensity {
+            return Err(ScourRefusal::TooIntense);
         }
         lacey::constricted_depth(intensity, row.silt).value
     };
-    ScourAnswer::Needed(lacey::depth_needed(depth, row.reach))
+    Ok(lacey::depth_needed(depth, row.reach))
 }
 
 // The depth that the foundation of an S row needs.
-pub fn scour(row: Numbers) -> ScourAnswer
+pub fn scour(row: Numbers) -> Result<Rounded, ScourRefusal>
     ensures { ScourSays row (scour_told result) }
 {
-    if kinds::ranges::is_ranged(Kind::S, row) {
-        return scour_of(waterway_of(row));
+    if !kinds::ranges::is_ranged(Kind::S, row) {
+        return Err(ScourRefusal::OutOfRange);
     }
-    ScourAnswer::OutOfRange
+    scour_of(Waterway::from(row))
 }

@@ -11,8 +11,9 @@ use Rattle.surcharge.specs.Surcharge.{abutment_in, NotAbove, TypeE, SurchargeTol
 use Rattle.surcharge.specs.SurchargeRow.{SurchargeSays, out_of_range, in_range, surcharge_told}
 use Rattle.surcharge.specs.declared.Abutment.{Abutment}
 use Rattle.surcharge.specs.declared.Parts.{Parts}
-use Rattle.surcharge.specs.declared.SurchargeAnswer.{SurchargeAnswer}
-use Rattle.surcharge.specs.declared.SurchargeAnswer.TheVariants.{OutOfRange, LengthNotAbove, SoilTypeE, Pushes}
+use Rattle.std.proofs.Common.{Result, Ok, Err}
+use Rattle.surcharge.specs.declared.SurchargeRefusal.{SurchargeRefusal}
+use Rattle.surcharge.specs.declared.SurchargeRefusal.TheVariants.{OutOfRange, LengthNotAbove, SoilTypeE}
 use Rattle.surcharge.proofs.force.Meeting.{parts_one}
 
 pushed_one : {row : Abutment} {a b : Parts} → PartsOf row a → PartsOf row b → a ≡ b
@@ -69,17 +70,17 @@ says_one (out_of_range h) (in_range r s) = absurd (h r)
 says_one (in_range r s) (out_of_range h) = absurd (h r)
 says_one (in_range p s) (in_range q t) = rule_one s t
 
-back : SurchargeTold → SurchargeAnswer
-back (refused n) = cond (eqb n 11) OutOfRange (cond (eqb n 19) LengthNotAbove SoilTypeE)
-back (pushes parts) = Pushes parts
+back : SurchargeTold → Result Parts SurchargeRefusal
+back (refused n) = Err (cond (eqb n 11) OutOfRange (cond (eqb n 19) LengthNotAbove SoilTypeE))
+back (pushes parts) = Ok parts
 
-back_told : (r : SurchargeAnswer) → back (surcharge_told r) ≡ r
+back_told : (r : Result Parts SurchargeRefusal) → back (surcharge_told r) ≡ r
 unfolding back
-back_told OutOfRange = refl
-back_told LengthNotAbove = refl
-back_told SoilTypeE = refl
-back_told (Pushes parts) = refl
+back_told (Err OutOfRange) = refl
+back_told (Err LengthNotAbove) = refl
+back_told (Err SoilTypeE) = refl
+back_told (Ok parts) = refl
 
 -- no second answer meets the promise of `pressure`
-pub surcharge_one : (row : Numbers) (r s : SurchargeAnswer) → SurchargeSays row (surcharge_told r) → SurchargeSays row (surcharge_told s) → r ≡ s
+pub surcharge_one : (row : Numbers) (r s : Result Parts SurchargeRefusal) → SurchargeSays row (surcharge_told r) → SurchargeSays row (surcharge_told s) → r ≡ s
 surcharge_one row r s u v = sym (back_told r) ∙ ap back (says_one u v) ∙ back_told s

@@ -6,7 +6,8 @@ ghost use Rattle.std.specs.Prelude.{◌*◌, ◌≤◌, ◌<◌};
 ghost use Rattle.surcharge.specs.force.Force.{quotient, Force, PartsAre};
 ghost use Rattle.surcharge.specs.force.steps.Joint.{joint};
 
-use crate::{Part, Parts};
+use crate::Parts;
+use kinds::pushes::Push;
 
 // A force that is so many kg, the quotient of two numbers, on each metre of the length, in kN.
 fn force_of(over: u64, under: u64, length: u64) -> u64
@@ -31,11 +32,11 @@ pub(crate) fn parts_of(
     ensures { PartsAre length (joint total k width depth spread) result }
 {
     let reach = width + spread;
-    let first = Part {
+    let first = Push {
         force: force_of(total * depth * k, 100 * reach, length),
         arm: arithmetic::rounding::up(depth, 2).value,
     };
-    let second = Part {
+    let second = Push {
         force: force_of(total * (spread * spread) * k, 200 * width * reach, length),
         arm: arithmetic::rounding::up(3 * depth - spread, 3).value,
     };

@@ -5,10 +5,13 @@
 mod force;
 mod tables;
 
-ghost use Rattle.std.specs.Prelude.{◌≡◌};
-ghost use Rattle.surcharge.specs.Surcharge.{abutment_in, B};
+ghost use Rattle.std.specs.Prelude.{◌≡◌, Err};
+ghost use Rattle.kinds.specs.refusals.Refusals.{refusal_number};
+ghost use Rattle.surcharge.specs.Surcharge.{abutment_in, B, refused};
 ghost use Rattle.surcharge.specs.SurchargeRow.{SurchargeSays, surcharge_told};
 
+use kinds::pushes::Push;
+use kinds::refusals::JobRefusal;
 use kinds::{Kind, Numbers};
 
 // The columns of a G row: standard of loading from 1 to 7, dead surcharge in kg/m, soil from 1 to 5, depth below formation level and length of
@@ -22,39 +25,46 @@ pub struct Abutment {
     pub length: u64,
 }
 
-// One part of a surcharge: a force toward +x in kN, and its height above the base in mm.
-#[derive(Clone, Copy)]
-pub struct Part {
-    pub force: u64,
-    pub arm: u64,
-}
-
-// Both parts: P1, which presses alike from the formation level to the base, and P2, which is greatest at the formation level.
+// Both parts of a surcharge: P1, which presses alike from the formation level to the base, and P2, which is greatest at the formation level.
 #[derive(Clone, Copy)]
 pub struct Parts {
-    pub first: Part,
-    pub second: Part,
+    pub first: Push,
+    pub second: Push,
 }
 
-// What a G row is told: its two parts, or a refusal.
+// Why a G row is refused: a number out of its range, a length not above Table 3's width, or soil of type e.
 #[derive(Clone, Copy)]
-pub enum SurchargeAnswer {
+pub enum SurchargeRefusal {
     OutOfRange,
     LengthNotAbove,
     SoilTypeE,
-    Pushes(Parts),
+}
+
+// The refusal of its job.
+impl From<SurchargeRefusal> for JobRefusal {
+    ghost from_gives = { λ refusal job. surcharge_told (Err refusal) ≡ refused (refusal_number job) };
+
+    fn from(refusal: SurchargeRefusal) -> JobRefusal {
+        match refusal {
+            SurchargeRefusal::OutOfRange => JobRefusal::OutOfRange,
+            SurchargeRefusal::LengthNotAbove => JobRefusal::NotAbove,
+            SurchargeRefusal::SoilTypeE => JobRefusal::TypeE,
+        }
+    }
 }
 
 // A G row by its columns. The rules take them in words of 64 bits.
-fn abutment_of(row: Numbers) -> Abutment
-    ensures { result ≡ abutment_in row }
-{
-    Abutment {
-        standard: row.n1.size as u64,
-        dead: row.n2.size as u64,
-        soil: row.n3.size as u64,
-        depth: row.n4.size as u64,
-        length: row.n5.size as u64,
+impl From<Numbers> for Abutment {
+    ghost from_gives = { λ row abutment. abutment ≡ abutment_in row };
+
+    fn from(row: Numbers) -> Abutment {
+        Abutment {
+            standard: u64::from(row.n1.size),
+            dead: u64::from(row.n2.size),
+            soil: u64::from(row.n3.size),
+            depth: u64::from(row.n4.size),
+            length: u64::from(row.n5.size),
+        }
     }
 }
 
@@ -62,7 +72,7 @@ fn abutment_of(row: Numbers) -> Abutment
 pub fn width_at(row: Numbers) -> u64
     ensures { result ≡ B (abutment_in row) }
 {
-    let standard = row.n1.size as u64;
+    let standard = u64::from(row.n1.size);
     if 7 < standard {
         return 0;
     }
@@ -73,28 +83,22 @@ pub fn width_at(row: Numbers) -> u64
 }
 
 // The two forces of a G row's surcharge and their heights above the base.
-pub fn pressure(row: Numbers) -> SurchargeAnswer
+pub fn pressure(row: Numbers) -> Result<Parts, SurchargeRefusal>
     ensures { SurchargeSays row (surcharge_told result) }
 {
     if !kinds::ranges::is_ranged(Kind::G, row) {
-        return SurchargeAnswer::OutOfRange;
+        return Err(SurchargeRefusal::OutOfRange);
     }
-    let abutment = abutment_of(row);
+    let abutment = Abutment::from(row);
     let width = tables::width_of(abutment.standard);
     if abutment.length <= width {
-        return SurchargeAnswer::LengthNotAbove;
+        return Err(SurchargeRefusal::LengthNotAbove);
     }
     if abutment.soil == 5 {
-        return SurchargeAnswer::SoilTypeE;
+        return Err(SurchargeRefusal::SoilTypeE);
     }
     let total = tables::surcharge_of(abutment.standard) + abutment.dead;
     let k = tables::active_of(abutment.soil);
-    let bound = abutment.length - width;
-    let spread = if abutment.depth <= bound {
-        abutment.depth
-    } else {
-        bound
-    };
-    let parts = force::parts_of(total, k, width, abutment.depth, spread, abutment.length);
-    SurchargeAnswer::Pushes(parts)
+    let spread = abutment.depth.min(abutment.length - width);
+    Ok(force::parts_of(total, k, width, abutment.depth, spread, abutment.length))
 }

@@ -17,8 +17,7 @@ pub(crate) fn surcharge_of(standard: u64) -> u64
     requires { (1 ≤ standard) × (standard ≤ 7) }
     ensures { result ≡ table3_surcharge standard }
 {
-    let i = (standard - 1) as usize;
-    SURCHARGES[i]
+    SURCHARGES[(standard - 1) as usize]
 }
 
 // The width over which it is spread.
@@ -26,8 +25,7 @@ pub(crate) fn width_of(standard: u64) -> u64
     requires { (1 ≤ standard) × (standard ≤ 7) }
     ensures { result ≡ table3_width standard }
 {
-    let i = (standard - 1) as usize;
-    WIDTHS[i]
+    WIDTHS[(standard - 1) as usize]
 }
 
 // The coefficient of a soil that has one.
@@ -35,6 +33,5 @@ pub(crate) fn active_of(soil: u64) -> u64
     requires { (1 ≤ soil) × (soil ≤ 4) }
     ensures { result ≡ active soil }
 {
-    let i = (soil - 1) as usize;
-    ACTIVES[i]
+    ACTIVES[(soil - 1) as usize]
 }

@@ -17,7 +17,7 @@ use Rattle.lines.specs.declared.Line.TheVariants.{Missing, Shown}
 use Rattle.lines.specs.declared.Answer.{Answer}
 use Rattle.worst.specs.Lines.{LineSays, line}
 use Rattle.jobs.specs.declared.Job.{Job}
-use Rattle.earth.specs.declared.coefficients.Coefficient.{Coefficient}
+use Rattle.earth.specs.coefficients.Coefficients.{Coefficient}
 use Rattle.loads.specs.LoadRows.{AreLoads}
 use Rattle.loads.proofs.Loaded.{loads_one}
 use Rattle.answer.specs.Columns.{base_of}

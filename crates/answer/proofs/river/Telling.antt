@@ -15,8 +15,14 @@ use Rattle.scour.specs.ScourRow as scour_row
 use Rattle.arithmetic.specs.declared.signed.Amount.{Amount}
 use Rattle.clearance.specs.ClearanceRow as told
 use Rattle.clearance.specs.Clear as clearing
-use Rattle.clearance.specs.declared.ClearanceAnswer.{ClearanceAnswer}
-use Rattle.clearance.specs.declared.ClearanceAnswer.TheVariants as clearance
+use Rattle.clearance.specs.declared.VerticalClearance.{VerticalClearance}
+use Rattle.clearance.specs.declared.ClearanceRefusal.{ClearanceRefusal}
+use Rattle.clearance.specs.declared.ClearanceRefusal.TheVariants as clearance
+use Rattle.kinds.specs.declared.refusals.JobRefusal.{JobRefusal}
+use Rattle.kinds.specs.declared.refusals.JobRefusal.TheVariants as refusal
+use Rattle.kinds.specs.refusals.Refusals.{refusal_number}
+use Rattle.kinds.proofs.Numbered.{refusal_one}
+use Rattle.std.proofs.Common.{Result, Ok, Err}
 use Rattle.scour.proofs.Scours.{scour_rule_one}
 use Rattle.clearance.proofs.Clearances as clearances
 use Rattle.lines.specs.declared.RiverLine.{RiverLine}
@@ -25,8 +31,6 @@ use Rattle.answer.specs.river.River.{OnRock, DepthIs, ClearIs}
 use Rattle.answer.specs.river.steps.Says.{LargeCatchment, TooIntense, OverObstructed, ScourAllowed, RiverSays}
 use Rattle.answer.specs.river.steps.Says as says
 use Rattle.answer.specs.river.steps.Rows.{DepthLineIs, DepthGiven, ClearLineIs, ClearGiven, both}
-use Rattle.answer.specs.declared.river.RowGives.{RowGives}
-use Rattle.answer.specs.declared.river.RowGives.TheVariants.{Refused, Line}
 
 -- ---- what each row gives its job
 
@@ -36,23 +40,23 @@ DepthRanged job = HasScour job.stage → Ranged S job.scour
 abbrev ClearRanged : Job → Type 0
 ClearRanged job = HasClearance job.stage → Ranged C job.clearance
 
-pub data DepthGives (job : Job) : RowGives → Type 0 where
-  out_of_range : (DepthRanged job → ⊥) → DepthGives job (Refused 11)
-  large : DepthRanged job → LargeCatchment job → DepthGives job (Refused 12)
-  intense : DepthRanged job → TooIntense job → DepthGives job (Refused 13)
-  line : {l : RiverLine} → DepthRanged job → ScourAllowed job → DepthIs job l → DepthGives job (Line l)
+pub data DepthGives (job : Job) : Result RiverLine JobRefusal → Type 0 where
+  out_of_range : (DepthRanged job → ⊥) → DepthGives job (Err refusal.OutOfRange)
+  large : DepthRanged job → LargeCatchment job → DepthGives job (Err refusal.LargeCatchment)
+  intense : DepthRanged job → TooIntense job → DepthGives job (Err refusal.TooIntense)
+  line : {l : RiverLine} → DepthRanged job → ScourAllowed job → DepthIs job l → DepthGives job (Ok l)
 
-pub data ClearGives (job : Job) : RowGives → Type 0 where
-  unranged : (ClearRanged job → ⊥) → ClearGives job (Refused 11)
-  obstructed : ClearRanged job → OverObstructed job → ClearGives job (Refused 14)
-  clear : {l : RiverLine} → ClearRanged job → (OverObstructed job → ⊥) → ClearIs job l → ClearGives job (Line l)
+pub data ClearGives (job : Job) : Result RiverLine JobRefusal → Type 0 where
+  unranged : (ClearRanged job → ⊥) → ClearGives job (Err refusal.OutOfRange)
+  obstructed : ClearRanged job → OverObstructed job → ClearGives job (Err refusal.OverObstructed)
+  clear : {l : RiverLine} → ClearRanged job → (OverObstructed job → ⊥) → ClearIs job l → ClearGives job (Ok l)
 
 module _ (job : Job) where
   -- a row that is not there
-  pub no_depth : (HasScour job.stage → ⊥) → DepthGives job (Line lines.Missing)
+  pub no_depth : (HasScour job.stage → ⊥) → DepthGives job (Ok lines.Missing)
   no_depth n = line {l = lines.Missing} (λ h. absurd (n h)) (record { catchment = λ l. n l.has; intensity = λ t. n t.has }) (λ f. n f.has)
 
-  pub no_clear : (HasClearance job.stage → ⊥) → ClearGives job (Line lines.Missing)
+  pub no_clear : (HasClearance job.stage → ⊥) → ClearGives job (Ok lines.Missing)
   no_clear n = clear {l = lines.Missing} (λ h. absurd (n h)) (λ o. n o.has) n
 
   -- the S row
@@ -77,18 +81,18 @@ module _ (job : Job) where
             mark = subst⁻¹ (λ (x : ℕ). Decides passes (needed ≤ x)) w.2 w.3;
           }
 
-    depth_number : {m n : ℕ} → scour.refused m ≡ scour.refused n → DepthGives job (Refused m) → DepthGives job (Refused n)
-    depth_number {m} {n} e = subst (λ (k : ℕ). DepthGives job (Refused k)) (cc)
+    depth_number : {r s : JobRefusal} → scour.refused (refusal_number r) ≡ scour.refused (refusal_number s) → DepthGives job (Err r) → DepthGives job (Err s)
+    depth_number {r} {s} e = subst (λ (k : JobRefusal). DepthGives job (Err k)) (refusal_one r s (cc))
 
-    pub depth_gives : {t : scour.ScourTold} → scour_row.ScourSays job.scour t → (r : RowGives) → DepthGiven rock (scour.waterway_in job.scour).depth t r → DepthGives job r
-    depth_gives (scour_row.out_of_range h) (Refused n) e = depth_number e (out_of_range (λ r. h (r has)))
-    depth_gives (scour_row.out_of_range h) (Line l) w = let e = w.2 in impossible cc
-    depth_gives (scour_row.in_range k (scour.large_catchment h)) (Refused n) e = depth_number e (large (λ _. k) (record { has = has; rule = scour.large_catchment h }))
-    depth_gives (scour_row.in_range k (scour.large_catchment h)) (Line l) w = let e = w.2 in impossible cc
-    depth_gives (scour_row.in_range k (scour.too_intense c h)) (Refused n) e = depth_number e (intense (λ _. k) (record { has = has; rule = scour.too_intense c h }))
-    depth_gives (scour_row.in_range k (scour.too_intense c h)) (Line l) w = let e = w.2 in impossible cc
-    depth_gives (scour_row.in_range k (scour.needed d n)) (Refused m) e = impossible cc
-    depth_gives (scour_row.in_range k (scour.needed d n)) (Line l) w =
+    pub depth_gives : {t : scour.ScourTold} → scour_row.ScourSays job.scour t → (r : Result RiverLine JobRefusal) → DepthGiven rock (scour.waterway_in job.scour).depth t r → DepthGives job r
+    depth_gives (scour_row.out_of_range h) (Err n) e = depth_number e (out_of_range (λ r. h (r has)))
+    depth_gives (scour_row.out_of_range h) (Ok l) w = let e = w.2 in impossible cc
+    depth_gives (scour_row.in_range k (scour.large_catchment h)) (Err n) e = depth_number e (large (λ _. k) (record { has = has; rule = scour.large_catchment h }))
+    depth_gives (scour_row.in_range k (scour.large_catchment h)) (Ok l) w = let e = w.2 in impossible cc
+    depth_gives (scour_row.in_range k (scour.too_intense c h)) (Err n) e = depth_number e (intense (λ _. k) (record { has = has; rule = scour.too_intense c h }))
+    depth_gives (scour_row.in_range k (scour.too_intense c h)) (Ok l) w = let e = w.2 in impossible cc
+    depth_gives (scour_row.in_range k (scour.needed d n)) (Err m) e = impossible cc
+    depth_gives (scour_row.in_range k (scour.needed d n)) (Ok l) w =
         let rule = subst (scour.ScourRule (scour.waterway_in job.scour)) w.2 (scour.needed d n) in
         line {l = l} (λ _. k) (allowed rule) (depth_line rule l w.3)
 
@@ -105,22 +109,22 @@ module _ (job : Job) where
       not_obstructed : Cleared there needed exact → OverObstructed job → ⊥
       not_obstructed v o = let e = clearances.cleared_one o.rule v in impossible cc
 
-      clear_line : (l : RiverLine) → Ranged C job.clearance → Cleared there needed exact → ClearLineIs there needed exact l → ClearGives job (Line l)
+      clear_line : (l : RiverLine) → Ranged C job.clearance → Cleared there needed exact → ClearLineIs there needed exact l → ClearGives job (Ok l)
       clear_line lines.Missing k v w = absurd w
       clear_line (lines.Shown c n passes e) k v w =
           let here : ClearIs job (lines.Shown there needed passes exact) = record { gives = record { has = has; rule = v }; mark = w.2 } in
           let same : lines.Shown c n passes e ≡ lines.Shown there needed passes exact = let p = w.0 in let q = w.1 in let r = w.3 in cc in
-          subst⁻¹ (λ (l : RiverLine). ClearGives job (Line l)) same (clear {l = lines.Shown there needed passes exact} (λ _. k) (not_obstructed v) here)
+          subst⁻¹ (λ (l : RiverLine). ClearGives job (Ok l)) same (clear {l = lines.Shown there needed passes exact} (λ _. k) (not_obstructed v) here)
 
-    pub clear_gives : (a : ClearanceAnswer) → Says (told.clearance_told a) → (r : RowGives) → ClearGiven a r → ClearGives job r
-    clear_gives clearance.OutOfRange (told.out_of_range h) r e = subst⁻¹ (ClearGives job) e (unranged (λ r. h (r has)))
-    clear_gives clearance.OutOfRange (told.in_range k v) r e = elim v [ ]
-    clear_gives clearance.OverObstructed (told.in_range k v) r e = subst⁻¹ (ClearGives job) e (obstructed (λ _. k) (record { has = has; rule = v }))
-    clear_gives (clearance.Given there needed exact) s (Refused n) w = absurd w
-    clear_gives (clearance.Given there needed exact) (told.in_range k v) (Line l) w = clear_line there needed exact l k v w
+    pub clear_gives : (a : Result VerticalClearance ClearanceRefusal) → Says (told.clearance_told a) → (r : Result RiverLine JobRefusal) → ClearGiven a r → ClearGives job r
+    clear_gives (Err clearance.OutOfRange) (told.out_of_range h) r e = subst⁻¹ (ClearGives job) e (unranged (λ r. h (r has)))
+    clear_gives (Err clearance.OutOfRange) (told.in_range k v) r e = elim v [ ]
+    clear_gives (Err clearance.OverObstructed) (told.in_range k v) r e = subst⁻¹ (ClearGives job) e (obstructed (λ _. k) (record { has = has; rule = v }))
+    clear_gives (Ok found) s (Err n) w = absurd w
+    clear_gives (Ok found) (told.in_range k v) (Ok l) w = clear_line found.there found.needed found.exact l k v w
 
   -- ---- both rows: 11 before 12 and 13, and those before 14
-  pub both_give : {d c : RowGives} → DepthGives job d → ClearGives job c → RiverSays job (both d c)
+  pub both_give : {d c : Result RiverLine JobRefusal} → DepthGives job d → ClearGives job c → RiverSays job (both d c)
   both_give (out_of_range h) (unranged k) = says.out_of_range (λ r. h r.scour)
   both_give (out_of_range h) (obstructed r o) = says.out_of_range (λ r. h r.scour)
   both_give (out_of_range h) (clear r n l) = says.out_of_range (λ r. h r.scour)

@@ -1,16 +1,11 @@
--- What `whole` and `first_told` answer.
+-- What `whole` answers.
 use Rattle.std.specs.Prelude.{◌≡◌}
 use Rattle.sets.specs.declared.Combination.TheVariants.{I, II, III, IV}
 use Rattle.sets.specs.declared.Loads.{Loads}
 use Rattle.checks.specs.declared.Base.{Base}
-use Rattle.loads.specs.declared.LoadsAnswer as loads
-use Rattle.loads.specs.declared.LoadsAnswer.TheVariants as taking
 use Rattle.lines.specs.declared.RiverLine.{RiverLine}
 use Rattle.lines.specs.declared.Answer.{Answer}
 use Rattle.lines.specs.verdicts.Verdict.{VerdictIs}
-use Rattle.answer.specs.declared.river.RiverRead.{RiverRead}
-use Rattle.answer.specs.declared.river.RiverRead.TheVariants as river
-use Rattle.answer.specs.river.steps.Rows.{lower}
 use Rattle.answer.specs.Answer.{LinesAre}
 
 -- the lines of loads, beside those of the river: what the last step of the code answers
@@ -22,9 +17,3 @@ pub record WholeIs (base : Base) (loads : Loads) (d c : RiverLine) (a : Answer) 
   pub depth : a.depth ≡ d
   pub clear : a.clear ≡ c
   pub verdict : VerdictIs a.verdict a
-
--- "Order as numbered": the lower of the two refusals, or the river's answer
-abbrev pub told_first : loads.LoadsAnswer → RiverRead → RiverRead
-told_first (taking.Refused n) (river.Refused m) = river.Refused (lower n m)
-told_first (taking.Refused n) (river.Shown d c) = river.Refused n
-told_first taking.Given x = x

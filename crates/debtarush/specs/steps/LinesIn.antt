@@ -1,7 +1,7 @@
 -- What `lines_of` answers: the bytes of a job's lines in a block, whole.
 use Rattle.std.specs.Prelude.{ℕ, ◌≤◌, ◌≡◌, List, length}
 use Rattle.jobs.specs.declared.Job.{Job}
-use Rattle.earth.specs.declared.coefficients.Coefficient.{Coefficient}
+use Rattle.earth.specs.coefficients.Coefficients.{Coefficient}
 use Rattle.block.specs.Block.{block_of}
 use Rattle.block.specs.declared.Block.{Block}
 use Rattle.debtarush.specs.Lines.{TextOf}

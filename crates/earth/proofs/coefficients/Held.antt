@@ -8,29 +8,28 @@ use lib.Dec.{leb}
 use lib.ListN.{get_or}
 use Rattle.arithmetic.specs.decides.Decides.{Decides}
 use Rattle.arithmetic.proofs.Tests.{decides_within}
-use Rattle.earth.specs.coefficients.Coefficients.{coefficient, fill_of}
+use Rattle.earth.specs.coefficients.Coefficients.{Coefficient, coefficient, fill_of}
 use Rattle.earth.specs.steps.LowCoefficient.{LowCoefficient}
-use Rattle.earth.specs.declared.coefficients.Coefficient.{Coefficient}
-use Rattle.earth.specs.declared.coefficients.Coefficient.TheVariants.{Blank, Value}
+use Rattle.std.proofs.Common.{None, Some}
 
 -- "value (1 to 40,000)"
 abbrev pub IsValue : ℕ → Type 0
 IsValue n = (1 ≤ n) × (n ≤ 40000)
 
 -- what a number says, whether or not it is a value
-either_way : (P : Coefficient → Type 0) (n : ℕ) → (IsValue n → P (Value n)) → ((IsValue n → ⊥) → P Blank) → P (coefficient n)
+either_way : (P : Coefficient → Type 0) (n : ℕ) → (IsValue n → P (Some n)) → ((IsValue n → ⊥) → P None) → P (coefficient n)
 unfolding coefficient
 either_way P n is none = go (leb 1 n && leb n 40000) (decides_within 1 40000 n)
   where
-    go : (b : Bool) → Decides b (IsValue n) → P (cond b (Value n) Blank)
+    go : (b : Bool) → Decides b (IsValue n) → P (cond b (Some n) None)
     go true d = is d
     go false d = none d
 
-pub coefficient_value : (n : ℕ) → IsValue n → coefficient n ≡ Value n
-coefficient_value n h = either_way (λ (k : Coefficient). k ≡ Value n) n (λ d. refl) (λ d. absurd (d h))
+pub coefficient_value : (n : ℕ) → IsValue n → coefficient n ≡ Some n
+coefficient_value n h = either_way (λ (k : Coefficient). k ≡ Some n) n (λ d. refl) (λ d. absurd (d h))
 
-pub coefficient_blank : (n : ℕ) → (IsValue n → ⊥) → coefficient n ≡ Blank
-coefficient_blank n h = either_way (λ (k : Coefficient). k ≡ Blank) n (λ d. absurd (h d)) (λ d. refl)
+pub coefficient_blank : (n : ℕ) → (IsValue n → ⊥) → coefficient n ≡ None
+coefficient_blank n h = either_way (λ (k : Coefficient). k ≡ None) n (λ d. absurd (h d)) (λ d. refl)
 
 -- what is held stands one place before its soil and its slope
 pub held_at : (held : List (List ℕ)) (soil slope : ℕ) → 1 ≤ soil → 1 ≤ slope → fill_of held soil slope ≡ coefficient (get_or (get_or held (soil - 1) []) (slope - 1) 0)

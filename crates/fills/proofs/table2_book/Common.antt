@@ -13,8 +13,8 @@ use Rattle.arithmetic.proofs.Cases.{impossible, by_cases}
 use Rattle.block.specs.Decimal.{digits, decimal}
 use Rattle.fields.specs.names.Names.{no_name}
 use Rattle.fields.specs.declared.names.Name.{Name}
-use Rattle.earth.specs.declared.coefficients.Coefficient.{Coefficient}
-use Rattle.earth.specs.declared.coefficients.Coefficient.TheVariants.{Blank, Value}
+use Rattle.earth.specs.coefficients.Coefficients.{Coefficient}
+use Rattle.std.proofs.Common.{None, Some}
 use Rattle.earth.specs.table2.Table2.{table2, table2_fill}
 use Rattle.fills.specs.declared.fill_rows.Fill.{Fill}
 use Rattle.fills.specs.declared.fill_rows.Whose.TheVariants.{Own, Common}
@@ -37,15 +37,15 @@ module _ {m : Name} {soil slope value : ℕ} where
   before : (xs ys : List Fill) → Lists xs m soil slope value → Lists (xs ++ ys) m soil slope value
   before xs ys l = record { at = l.at; within = omega (arith, l.within, length-append xs ys); is = get_or-append xs ys no_fill l.at l.within ∙ l.is }
 
-soil_lists : (soil slope : ℕ) (places : List Coefficient) (j : ℕ) {p value : ℕ} → p ≡ slope + j → get_or places j Blank ≡ Value value → Lists (soil_fills soil slope places) no_name soil p value
+soil_lists : (soil slope : ℕ) (places : List Coefficient) (j : ℕ) {p value : ℕ} → p ≡ slope + j → get_or places j None ≡ Some value → Lists (soil_fills soil slope places) no_name soil p value
 unfolding soil_fills
 soil_lists soil slope [] j h e = impossible cc
-soil_lists soil slope (Blank ∷ places) zero h e = impossible cc
-soil_lists soil slope (Value v ∷ places) zero {p} h e = let here : slope ≡ p = omega arith in record { at = 0; within = omega arith; is = cc }
-soil_lists soil slope (Blank ∷ places) (suc j) h e = soil_lists soil (suc slope) places j (omega arith) e
-soil_lists soil slope (Value v ∷ places) (suc j) h e = one_behind (soil_lists soil (suc slope) places j (omega arith) e)
+soil_lists soil slope (None ∷ places) zero h e = impossible cc
+soil_lists soil slope (Some v ∷ places) zero {p} h e = let here : slope ≡ p = omega arith in record { at = 0; within = omega arith; is = cc }
+soil_lists soil slope (None ∷ places) (suc j) h e = soil_lists soil (suc slope) places j (omega arith) e
+soil_lists soil slope (Some v ∷ places) (suc j) h e = one_behind (soil_lists soil (suc slope) places j (omega arith) e)
 
-table_lists : (soil : ℕ) (table : List (List Coefficient)) (i j : ℕ) {s value : ℕ} → s ≡ soil + i → get_or (get_or table i []) j Blank ≡ Value value → Lists (table_fills soil table) no_name s (suc j) value
+table_lists : (soil : ℕ) (table : List (List Coefficient)) (i j : ℕ) {s value : ℕ} → s ≡ soil + i → get_or (get_or table i []) j None ≡ Some value → Lists (table_fills soil table) no_name s (suc j) value
 unfolding table_fills
 table_lists soil [] i j h e = impossible cc
 table_lists soil (places ∷ soils) zero j {s} {value} h e =
@@ -53,7 +53,7 @@ table_lists soil (places ∷ soils) zero j {s} {value} h e =
     before (soil_fills soil 1 places) (table_fills (suc soil) soils) (subst (λ (k : ℕ). Lists (soil_fills soil 1 places) no_name k (suc j) value) here (soil_lists soil 1 places j (omega arith) e))
 table_lists soil (places ∷ soils) (suc i) j h e = behind (soil_fills soil 1 places) (table_lists (suc soil) soils i j (omega arith) e)
 
-table2_lists : (soil slope value : ℕ) → table2_fill soil slope ≡ Value value → Lists table2_fills no_name soil slope value
+table2_lists : (soil slope value : ℕ) → table2_fill soil slope ≡ Some value → Lists table2_fills no_name soil slope value
 unfolding table2_fills
 table2_lists zero slope value e = impossible cc
 table2_lists (suc i) zero value e = impossible cc
@@ -72,9 +72,9 @@ nobody_both (x ∷ xs) ys v w (suc k) = nobody_both xs ys (λ i. v (suc i)) w k
 nobody_soil : (soil slope : ℕ) (places : List Coefficient) → Nobodys (soil_fills soil slope places)
 unfolding soil_fills
 nobody_soil soil slope [] k = refl
-nobody_soil soil slope (Blank ∷ places) k = nobody_soil soil (suc slope) places k
-nobody_soil soil slope (Value v ∷ places) zero = refl
-nobody_soil soil slope (Value v ∷ places) (suc k) = nobody_soil soil (suc slope) places k
+nobody_soil soil slope (None ∷ places) k = nobody_soil soil (suc slope) places k
+nobody_soil soil slope (Some v ∷ places) zero = refl
+nobody_soil soil slope (Some v ∷ places) (suc k) = nobody_soil soil (suc slope) places k
 
 nobody_table : (soil : ℕ) (table : List (List Coefficient)) → Nobodys (table_fills soil table)
 unfolding table_fills
@@ -114,15 +114,15 @@ in_range k l = record {
 }
 
 holds : Coefficient → ℕ → Bool
-holds Blank value = false
-holds (Value v) value = eqb v value
+holds None value = false
+holds (Some v) value = eqb v value
 
-held : (c : Coefficient) (value : ℕ) → T (holds c value) → c ≡ Value value
+held : (c : Coefficient) (value : ℕ) → T (holds c value) → c ≡ Some value
 unfolding holds
-held Blank value t = absurd t
-held (Value v) value t = ap Value (eqb→eq v value t)
+held None value t = absurd t
+held (Some v) value t = ap Some (eqb→eq v value t)
 
-in_table : Each (λ f. table2_fill f.soil f.slope ≡ Value f.value) table2_fills
+in_table : Each (λ f. table2_fill f.soil f.slope ≡ Some f.value) table2_fills
 unfolding table2_fills table_fills soil_fills below holds
 in_table k l = held (table2_fill (fill k).soil (fill k).slope) (fill k).value (tested (λ i. holds (table2_fill (fill i).soil (fill i).slope) (fill i).value) tt k l)
 
@@ -147,12 +147,12 @@ no_rows : FillBook Own [] []
 no_rows = record { size = omega arith; rows = []; text = no_bytes; forms = no_form; once = λ j k h l same. omega arith }
 
 says : (member : Name) (soil slope : ℕ) (c : Coefficient) → table2_fill soil slope ≡ c → Says [] table2_fills member soil slope c
-says member soil slope Blank e =
+says member soil slope None e =
     neither (λ v l. omega (arith, l.within))
     (λ v l.
-    let is : table2_fill soil slope ≡ Value v = subst (λ (f : Fill). table2_fill f.soil f.slope ≡ Value f.value) l.is (in_table l.at l.within) in
+    let is : table2_fill soil slope ≡ Some v = subst (λ (f : Fill). table2_fill f.soil f.slope ≡ Some f.value) l.is (in_table l.at l.within) in
     impossible cc) refl
-says member soil slope (Value v) e = common (λ w l. omega (arith, l.within)) (table2_lists soil slope v e) refl
+says member soil slope (Some v) e = common (λ w l. omega (arith, l.within)) (table2_lists soil slope v e) refl
 
 pub table2_common : (member : Name) → FillFor [] table2_text member table2_fill
 table2_common member = record {

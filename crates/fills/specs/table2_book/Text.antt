@@ -1,19 +1,18 @@
 -- Document 02, P4: the common book that is shipped, Table 2 of document 01 (002, 5.7.2) "in the same layout with the member empty": soil by
 -- soil and slope by slope, a row for each place that is not blank, its note empty too.
-use Rattle.std.specs.Prelude.{ℕ, suc, List, [], ◌∷◌, ◌++◌}
+use Rattle.std.specs.Prelude.{ℕ, suc, List, [], ◌∷◌, ◌++◌, None, Some}
 use Rattle.block.specs.Decimal.{decimal}
 use Rattle.block.specs.Fields.{field, line_end}
 use Rattle.fields.specs.names.Names.{no_name}
-use Rattle.earth.specs.declared.coefficients.Coefficient.{Coefficient}
-use Rattle.earth.specs.declared.coefficients.Coefficient.TheVariants.{Blank, Value}
+use Rattle.earth.specs.coefficients.Coefficients.{Coefficient}
 use Rattle.earth.specs.table2.Table2.{table2}
 use Rattle.fills.specs.declared.fill_rows.Fill.{Fill}
 
 -- the fills of a soil, from a slope on
 unfoldable pub soil_fills : ℕ → ℕ → List Coefficient → List Fill
 soil_fills soil slope [] = []
-soil_fills soil slope (Blank ∷ places) = soil_fills soil (suc slope) places
-soil_fills soil slope (Value value ∷ places) = record { member = no_name; soil = soil; slope = slope; value = value } ∷ soil_fills soil (suc slope) places
+soil_fills soil slope (None ∷ places) = soil_fills soil (suc slope) places
+soil_fills soil slope (Some value ∷ places) = record { member = no_name; soil = soil; slope = slope; value = value } ∷ soil_fills soil (suc slope) places
 
 -- the fills of a table, from a soil on
 unfoldable pub table_fills : ℕ → List (List Coefficient) → List Fill

@@ -6,8 +6,7 @@ use mathlib.Core.Path.{subst, subst⁻¹}
 use Prim.Native.Nat.{ℕ, ◌-◌, ◌≤◌, ◌<◌}
 use Rattle.arithmetic.proofs.Cases.{by_cases}
 use Rattle.jobs.specs.declared.Job.{Job}
-use Rattle.earth.specs.declared.coefficients.Coefficient.{Coefficient}
-use Rattle.earth.specs.coefficients.Coefficients.{fill_of}
+use Rattle.earth.specs.coefficients.Coefficients.{Coefficient, fill_of}
 use Rattle.job_faults.specs.declared.rules.Rule.{Rule}
 use Rattle.job_faults.specs.rules.Shows.{rule_number}
 use Rattle.job_faults.specs.steps.Found.{Unshown, FoundIs}

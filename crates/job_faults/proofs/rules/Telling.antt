@@ -16,7 +16,7 @@ use Rattle.kinds.proofs.classes.Sources.{kind_by}
 use Rattle.jobs.specs.declared.Job.{Job}
 use Rattle.jobs.specs.declared.stages.Stage.{Stage}
 use Rattle.jobs.specs.stages.Rows.{HasScour}
-use Rattle.earth.specs.declared.coefficients.Coefficient.{Coefficient}
+use Rattle.earth.specs.coefficients.Coefficients.{Coefficient}
 use Rattle.earth.specs.Earth as earth
 use Rattle.earth.specs.EarthRow as earths
 use Rattle.earth.proofs.Pressures.{pushed_one}

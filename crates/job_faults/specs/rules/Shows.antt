@@ -7,7 +7,7 @@ use Rattle.kinds.specs.Table.{train}
 use Rattle.kinds.specs.ranges.Range.{Ranged}
 use Rattle.kinds.specs.classes.Classes.{class_of, optional}
 use Rattle.jobs.specs.declared.Job.{Job}
-use Rattle.earth.specs.declared.coefficients.Coefficient.{Coefficient}
+use Rattle.earth.specs.coefficients.Coefficients.{Coefficient}
 use Rattle.loads.specs.LoadRows.{NamesLive}
 use Rattle.loads.specs.forces.Blank.{BlankThere}
 use Rattle.loads.specs.forces.Wetted.{UpperBelowLower}

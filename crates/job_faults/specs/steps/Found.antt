@@ -1,7 +1,7 @@
 -- What `first_row` answers: the first row of a job that shows a refusal, or none.
 use Rattle.std.specs.Prelude.{ℕ, List}
 use Rattle.jobs.specs.declared.Job.{Job}
-use Rattle.earth.specs.declared.coefficients.Coefficient.{Coefficient}
+use Rattle.earth.specs.coefficients.Coefficients.{Coefficient}
 use Rattle.job_faults.specs.declared.rules.Rule.{Rule}
 use Rattle.job_faults.specs.declared.Found.{Found}
 use Rattle.job_faults.specs.declared.Found.TheVariants.{At, Nothing}

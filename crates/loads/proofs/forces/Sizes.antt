@@ -15,7 +15,7 @@ use Rattle.kinds.specs.Table.{load_columns}
 use Rattle.kinds.specs.ranges.Range.{InColumns, Ranged, value}
 use Rattle.kinds.specs.classes.Classes.{source}
 use Rattle.kinds.proofs.Trains.{train_low}
-use Rattle.earth.specs.declared.coefficients.Coefficient.{Coefficient}
+use Rattle.earth.specs.coefficients.Coefficients.{Coefficient}
 use Rattle.earth.specs.steps.LowCoefficient.{LowCoefficient}
 use Rattle.earth.specs.EarthRow.{in_range}
 use Rattle.earth.proofs.Bounds.{pressed_modest}

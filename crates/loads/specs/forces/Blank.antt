@@ -2,7 +2,7 @@
 -- `fill` is what is held for a soil and a slope: what the two fill books say for the job's member (02, P4).
 use Rattle.std.specs.Prelude.{◌≡◌, ℕ}
 use Rattle.kinds.specs.declared.Row.{Row}
-use Rattle.earth.specs.declared.coefficients.Coefficient.{Coefficient}
+use Rattle.earth.specs.coefficients.Coefficients.{Coefficient}
 use Rattle.earth.specs.Earth.{refused, backfill_in, Pushed}
 use Rattle.kinds.specs.declared.classes.Source.TheVariants.{Earth}
 use Rattle.kinds.specs.classes.Classes.{source}

@@ -5,7 +5,7 @@ use Rattle.kinds.specs.declared.Numbers.{Numbers}
 use Rattle.kinds.specs.declared.Row.{Row}
 use Rattle.kinds.specs.Table.{phase, train}
 use Rattle.kinds.specs.ranges.Range.{value}
-use Rattle.earth.specs.declared.coefficients.Coefficient.{Coefficient}
+use Rattle.earth.specs.coefficients.Coefficients.{Coefficient}
 use Rattle.earth.specs.Earth.{push, backfill_in, Pushed}
 use Rattle.current.specs.Current.{shaft_in, CurrentRule}
 use Rattle.current.specs.Current as current

@@ -7,7 +7,7 @@ use Rattle.arithmetic.proofs.rounding.Laws.{least_one}
 use Rattle.surcharge.specs.force.Force.{Quotient, quotient, Pressure, Pressures, within, beyond, Force, PartIs, PartsAre}
 use Rattle.surcharge.specs.force.Meeting.{SameParts}
 use Rattle.surcharge.specs.force.steps.Joint.{joint}
-use Rattle.surcharge.specs.declared.Part.{Part}
+use Rattle.kinds.specs.declared.pushes.Push.{Push}
 use Rattle.surcharge.specs.declared.Parts.{Parts}
 
 -- ---- a force over a length is one, and so are both parts
@@ -16,11 +16,11 @@ force_one {L} {q} {H} a b =
     let e = least_one a.kilograms b.kilograms in
     least_one (subst (λ (p : ℕ). RoundedUp (p * L * 980665) (10 ^ 3 * 10 ^ 5 * 10 ^ 3) H) e a.over_length) b.over_length
 
-part_one : {L : ℕ} {q : Pressure} {a b : Part} → PartIs L q a → PartIs L q b → a ≡ b
+part_one : {L : ℕ} {q : Pressure} {a b : Push} → PartIs L q a → PartIs L q b → a ≡ b
 part_one {L} {q} {a} {b} x y = ap₂ (λ (H z : ℕ). record { force = H; arm = z }) (force_one x.force y.force) (least_one x.arm y.arm)
 
 pub parts_one : {L : ℕ} {q : Pressures} {a b : Parts} → PartsAre L q a → PartsAre L q b → a ≡ b
-parts_one x y = ap₂ (λ (first second : Part). record { first = first; second = second }) (part_one x.p1 y.p1) (part_one x.p2 y.p2)
+parts_one x y = ap₂ (λ (first second : Push). record { first = first; second = second }) (part_one x.p1 y.p1) (part_one x.p2 y.p2)
 
 -- ---- the two cases
 pub within_joint : (T k B h : ℕ) → within T k B h ≡ joint T k B h h

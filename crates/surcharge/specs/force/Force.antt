@@ -2,7 +2,7 @@
 -- T is S + V, the live and the dead surcharge together, in kg/m; k is Ka in hundredths; B, h and L are in mm.
 use Rattle.std.specs.Prelude.{ℕ, ◌+◌, ◌*◌, ◌-◌, ◌^◌}
 use Rattle.arithmetic.specs.rounding.Least.{RoundedUp}
-use Rattle.surcharge.specs.declared.Part.{Part}
+use Rattle.kinds.specs.declared.pushes.Push.{Push}
 use Rattle.surcharge.specs.declared.Parts.{Parts}
 
 -- a quotient that is not yet rounded
@@ -51,7 +51,7 @@ pub record Force (L : ℕ) (q : Quotient) (H : ℕ) : Type 0 where
   pub over_length : RoundedUp (p * L * 980665) (10 ^ 3 * 10 ^ 5 * 10 ^ 3) H
 
 -- "and its arm rounded up."
-pub record PartIs (L : ℕ) (q : Pressure) (part : Part) : Type 0 where
+pub record PartIs (L : ℕ) (q : Pressure) (part : Push) : Type 0 where
   pub force : Force L q.force part.force
   pub arm : Rounded q.arm part.arm
 

@@ -14,8 +14,7 @@ use Rattle.kinds.specs.Table.{train}
 use Rattle.kinds.specs.ranges.Range.{Ranged}
 use Rattle.kinds.specs.classes.Classes.{class_of, optional}
 use Rattle.jobs.specs.declared.Job.{Job}
-use Rattle.earth.specs.declared.coefficients.Coefficient.{Coefficient}
-use Rattle.earth.specs.coefficients.Coefficients.{fill_of}
+use Rattle.earth.specs.coefficients.Coefficients.{Coefficient, fill_of}
 use Rattle.loads.specs.LoadRows.{NamesLive}
 use Rattle.answer.specs.Rules.{load_rows_of}
 use Rattle.job_faults.specs.declared.rules.Rule.{Rule}
