@@ -19,17 +19,9 @@ pub fn up(a: u64, b: u64) -> Rounded
     requires { 0 < b }
     ensures { RoundsUp a b result.value result.exact }
 {
-    let whole = a / b;
-    if a % b == 0 {
-        return Rounded {
-            value: whole,
-            exact: true,
-        };
-    }
-    let next = whole + 1;
     Rounded {
-        value: next,
-        exact: false,
+        value: a.div_ceil(b),
+        exact: a.is_multiple_of(b),
     }
 }
 
@@ -38,10 +30,8 @@ pub fn down(a: u64, b: u64) -> Rounded
     requires { 0 < b }
     ensures { Rounding (RoundedDown a b) (Exactly a b) result.value result.exact }
 {
-    let value = a / b;
-    let rest = a % b;
     Rounded {
-        value,
-        exact: rest == 0,
+        value: a / b,
+        exact: a % b == 0,
     }
 }

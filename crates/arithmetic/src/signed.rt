@@ -41,20 +41,14 @@ pub fn difference(a: u64, b: u64) -> Amount
 pub fn distance(a: u64, b: u64) -> u64
     ensures { result ≡ (a - b) + (b - a) }
 {
-    if a < b {
-        return b - a;
-    }
-    a - b
+    a.abs_diff(b)
 }
 
 // How far a number is past another, and 0 where it is not.
 pub fn excess(a: u64, b: u64) -> u64
     ensures { result ≡ a - b }
 {
-    if a < b {
-        return 0;
-    }
-    a - b
+    a.saturating_sub(b)
 }
 
 // What an amount is above and below zero.
