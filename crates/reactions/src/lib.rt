@@ -48,18 +48,18 @@ impl From<TooShort> for RowRefusal {
 fn is_taken(kind: Kind) -> bool
     ensures { Decides result (Taken kind) }
 {
-    match kind {
+    matches!(
+        kind,
         Kind::DL
-        | Kind::EP
-        | Kind::LL
-        | Kind::WC
-        | Kind::BU
-        | Kind::TM
-        | Kind::EX
-        | Kind::WL
-        | Kind::SF => true,
-        Kind::B | Kind::S | Kind::C | Kind::E | Kind::W | Kind::G | Kind::LF | Kind::CF => false,
-    }
+            | Kind::EP
+            | Kind::LL
+            | Kind::WC
+            | Kind::BU
+            | Kind::TM
+            | Kind::EX
+            | Kind::WL
+            | Kind::SF
+    )
 }
 
 // The kind that is asked for, where a load row can have this key, kind and phase.
