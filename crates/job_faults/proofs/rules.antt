@@ -1,3 +1,2 @@
 -- The laws of the tests.
-pub mod Places
 pub mod Telling

@@ -13,7 +13,6 @@ ghost use Rattle.earth.specs.Earth.{refused, backfill_in, Pushed};
 ghost use Rattle.jobs.specs.stages.Rows.{HasScour};
 ghost use Rattle.loads.specs.LoadRows.{NamesLive};
 ghost use Rattle.job_faults.specs.rules.Shows.{rule_number, Shows};
-ghost use Rattle.job_faults.specs.rules.steps.Places.{place};
 ghost use Rattle.job_faults.specs.rules.steps.Tests.{Gives, Obstructed, Past, PastRange};
 
 use jobs::Job;
@@ -58,38 +57,6 @@ pub(crate) fn rule_of(number: u8) -> Rule
     }
 }
 
-// The place of a kind among the kinds.
-fn place_of(kind: Kind) -> u8
-    ensures { result ≡ place kind }
-{
-    match kind {
-        Kind::B => 0,
-        Kind::S => 1,
-        Kind::C => 2,
-        Kind::E => 3,
-        Kind::W => 4,
-        Kind::G => 5,
-        Kind::DL => 6,
-        Kind::EP => 7,
-        Kind::LL => 8,
-        Kind::LF => 9,
-        Kind::CF => 10,
-        Kind::WC => 11,
-        Kind::BU => 12,
-        Kind::TM => 13,
-        Kind::EX => 14,
-        Kind::WL => 15,
-        Kind::SF => 16,
-    }
-}
-
-// Whether a kind is another.
-fn is_kind(kind: Kind, other: Kind) -> bool
-    ensures { Decides result (kind ≡ other) }
-{
-    place_of(kind) == place_of(other)
-}
-
 // Whether the S row of a job, if it has one, gives a refusal (document 01, Refusals of a job, 12 and 13).
 fn scour_gives(stage: Stage, row: Numbers, number: u8) -> bool
     requires { HasScour stage → Ranged S row }
@@ -108,9 +75,7 @@ fn scour_gives(stage: Stage, row: Numbers, number: u8) -> bool
 fn is_obstructed(stage: Stage, row: Numbers) -> bool
     ensures { Decides result (Obstructed stage row) }
 {
-    let area = row.n2.size;
-    let obstructed = row.n3.size;
-    jobs::stages::has_clearance(stage) & (area < obstructed)
+    jobs::stages::has_clearance(stage) && row.n2.size < row.n3.size
 }
 
 // Whether a row of a kind is optional (document 01, Refusals of a job, 16).
@@ -124,17 +89,14 @@ fn is_optional(kind: Kind) -> bool
 fn is_below(row: Numbers) -> bool
     ensures { Decides result ((shaft_in row).upper < (shaft_in row).lower) }
 {
-    let upper = row.n4.size;
-    let lower = row.n5.size;
-    upper < lower
+    row.n4.size < row.n5.size
 }
 
 // Whether the length of a G row is not above B (02, P5, 19).
 fn is_not_above(row: Numbers) -> bool
     ensures { Decides result (NotAbove (abutment_in row)) }
 {
-    let length = row.n5.size as u64;
-    length <= surcharge::width_at(row)
+    u64::from(row.n5.size) <= surcharge::width_at(row)
 }
 
 // Whether the soil of a G row is of type e (02, P5, 20).
@@ -164,9 +126,7 @@ fn names_live(rows: [Row; 16], count: usize, train: u32) -> bool
     if position < 1 {
         return true;
     }
-    let named = rows[position - 1];
-    let kind = named.kind;
-    is_kind(kind, Kind::LL)
+    rows[position - 1].kind == Kind::LL
 }
 
 // Whether a row that stands behind so many optional rows of its job shows a refusal.
@@ -179,22 +139,14 @@ pub(crate) fn shows(held: [[u32; 5]; 5], job: Job, rule: Rule, before: u64, row:
     let stage = job.stage;
     match rule {
         Rule::OutOfRange => !kinds::ranges::is_ranged(kind, numbers),
-        Rule::LargeCatchment => is_kind(kind, Kind::S) & scour_gives(stage, job.scour, 12),
-        Rule::TooIntense => is_kind(kind, Kind::S) & scour_gives(stage, job.scour, 13),
-        Rule::OverObstructed => is_kind(kind, Kind::C) & is_obstructed(stage, job.clearance),
-        Rule::NoFill => {
-            if !is_kind(kind, Kind::E) {
-                return false;
-            }
-            is_blank(held, numbers)
-        }
-        Rule::TooManyOptional => is_optional(kind) & (before == MOST),
-        Rule::UpperBelowLower => is_kind(kind, Kind::W) & is_below(numbers),
-        Rule::NoTrain => {
-            let loads = job.loads;
-            !names_live(loads, job.count, kinds::train_of(row))
-        }
-        Rule::NotAbove => is_kind(kind, Kind::G) & is_not_above(numbers),
-        Rule::TypeE => is_kind(kind, Kind::G) & is_type_e(numbers),
+        Rule::LargeCatchment => kind == Kind::S && scour_gives(stage, job.scour, 12),
+        Rule::TooIntense => kind == Kind::S && scour_gives(stage, job.scour, 13),
+        Rule::OverObstructed => kind == Kind::C && is_obstructed(stage, job.clearance),
+        Rule::NoFill => kind == Kind::E && is_blank(held, numbers),
+        Rule::TooManyOptional => is_optional(kind) && before == MOST,
+        Rule::UpperBelowLower => kind == Kind::W && is_below(numbers),
+        Rule::NoTrain => !names_live(job.loads, job.count, kinds::train_of(row)),
+        Rule::NotAbove => kind == Kind::G && is_not_above(numbers),
+        Rule::TypeE => kind == Kind::G && is_type_e(numbers),
     }
 }

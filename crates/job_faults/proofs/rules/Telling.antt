@@ -120,3 +120,17 @@ module _ (row : Row) (r t : Bool) where
   unfolding SoilTypeE source
   type_shows d e =
       decides_same (r && t) (λ w. (ap source w.0, w.1)) (λ w. (kind_by row.kind Surcharge w.0, w.1)) (decides_both (row.kind ≡ G) (TypeE (abutment_in row.numbers)) r t d e)
+
+-- a row of another kind shows none of these
+module _ (row : Row) where
+  pub below_not : (row.kind ≡ W → ⊥) → UpperBelowLower row → ⊥
+  unfolding UpperBelowLower
+  below_not n w = n (kind_by row.kind Current w.0)
+
+  pub above_not : (row.kind ≡ G → ⊥) → LengthNotAbove row → ⊥
+  unfolding LengthNotAbove
+  above_not n w = n (kind_by row.kind Surcharge w.0)
+
+  pub type_not : (row.kind ≡ G → ⊥) → SoilTypeE row → ⊥
+  unfolding SoilTypeE
+  type_not n w = n (kind_by row.kind Surcharge w.0)
