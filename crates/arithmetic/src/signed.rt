@@ -3,19 +3,21 @@
 // Document 01's loads push up and down, forward and back. Its sums are of whole numbers; the code adds only natural
 // numbers, so every amount is taken apart into what lies above and what lies below zero, and the difference of two sums
 // comes last. A product's two parts are made of the factors' parts.
-ghost use Rattle.std.specs.Prelude.{◌≡◌, ◌+◌, ◌-◌, pos, ◌-ℤ◌};
+ghost use Rattle.std.specs.Prelude.{◌≡◌, ◌+◌, ◌-◌, ◌^◌, ◌<◌, pos, ◌-ℤ◌};
 ghost use Rattle.arithmetic.specs.signed.Whole.{worth, amount};
 ghost use Rattle.arithmetic.specs.signed.Parts.{parts_in, times, Small};
 
+use std::ops::{Add, Mul};
+
 // A whole number: its size, and whether it is below zero.
-#[derive(Clone, Copy)]
+#[derive(Clone, Copy, Default)]
 pub struct Amount {
     pub minus: bool,
     pub size: u64,
 }
 
 // What a whole number is above zero, and what it is below zero.
-#[derive(Clone, Copy)]
+#[derive(Clone, Copy, Default)]
 pub struct Parts {
     pub above: u64,
     pub below: u64,
@@ -52,31 +54,53 @@ pub fn excess(a: u64, b: u64) -> u64
 }
 
 // What an amount is above and below zero.
-pub fn parts_of(a: Amount) -> Parts
-    ensures { result ≡ parts_in (worth a) }
-{
-    if a.minus {
-        return Parts {
-            above: 0,
-            below: a.size,
-        };
+impl From<Amount> for Parts {
+    ghost from_gives = { λ a p. p ≡ parts_in (worth a) };
+
+    fn from(a: Amount) -> Parts {
+        if a.minus {
+            return Parts {
+                above: 0,
+                below: a.size,
+            };
+        }
+        Parts {
+            above: a.size,
+            below: 0,
+        }
     }
-    Parts {
-        above: a.size,
-        below: 0,
+}
+
+// The parts of a sum, where they fit a word.
+impl Add for Parts {
+    type Output = Parts;
+
+    ghost can_add = { λ p q. (p.above + q.above < 2 ^ 64) × (p.below + q.below < 2 ^ 64) };
+
+    ghost add_gives = { λ p q sum. (sum.above ≡ p.above + q.above) × (sum.below ≡ p.below + q.below) };
+
+    fn add(self, q: Parts) -> Parts {
+        Parts {
+            above: self.above + q.above,
+            below: self.below + q.below,
+        }
     }
 }
 
 // The parts of a product, of factors whose parts are at most 1,000,000.
-pub fn product(p: Parts, q: Parts) -> Parts
-    requires small { Small p }
-    requires small_2 { Small q }
-    ensures { result ≡ times p q }
-{
-    let same = p.above * q.above + p.below * q.below;
-    let opposite = p.above * q.below + p.below * q.above;
-    Parts {
-        above: same,
-        below: opposite,
+impl Mul for Parts {
+    type Output = Parts;
+
+    ghost can_mul = { λ p q. Small p × Small q };
+
+    ghost mul_gives = { λ p q product. product ≡ times p q };
+
+    fn mul(self, q: Parts) -> Parts {
+        let same = self.above * q.above + self.below * q.below;
+        let opposite = self.above * q.below + self.below * q.above;
+        Parts {
+            above: same,
+            below: opposite,
+        }
     }
 }

@@ -12,7 +12,7 @@ ghost use Rattle.std.specs.Prelude.{◌≡◌, ◌≤◌, pos, ◌-ℤ◌, Err};
 ghost use Rattle.kinds.specs.refusals.Refusals.{refusal_number};
 ghost use Rattle.arithmetic.specs.signed.Whole.{worth, amount};
 
-use arithmetic::signed::Amount;
+use arithmetic::signed::{Amount, Parts};
 use kinds::refusals::JobRefusal;
 use kinds::{Kind, Numbers};
 
@@ -100,8 +100,8 @@ fn clearance_under(underside: Amount, flood: Amount, afflux: u64) -> Amount
     requires { (underside.size ≤ 9000000) × (flood.size ≤ 9000000) × (afflux ≤ 60000000000000) }
     ensures { result ≡ amount (worth underside -ℤ worth flood -ℤ pos afflux) }
 {
-    let upper = arithmetic::signed::parts_of(underside);
-    let lower = arithmetic::signed::parts_of(flood);
+    let upper = Parts::from(underside);
+    let lower = Parts::from(flood);
     let height = upper.above + lower.below;
     let depth = upper.below + lower.above + afflux;
     arithmetic::signed::difference(height, depth)

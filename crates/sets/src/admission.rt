@@ -7,6 +7,7 @@ ghost use Rattle.sets.specs.steps.Deciding.{Admits};
 use crate::Combination;
 
 // Whether so many wind and earthquake rows may act together in a combination, in a set that has a row.
+#[tactic(auto, unfolding(crate::specs::steps::Deciding::Together))]
 pub fn admits(combination: Combination, winds: u64, earthquakes: u64, set: u64) -> bool
     ensures { Decides result (Admits combination winds earthquakes set) }
 {

@@ -9,36 +9,26 @@ ghost use Rattle.sets.specs.steps.Deciding.{RaisedBy, Arises};
 use crate::{Class, Combination, Loads};
 
 // Whether a combination is raised by a row of this class and phase.
+#[tactic(auto, unfolding(crate::specs::steps::Deciding::RaisedBy))]
 fn raised_by(combination: Combination, class: Class, phase: u32) -> bool
     ensures { Decides result (RaisedBy combination class phase) }
 {
     match combination {
         Combination::I => true,
-        Combination::II => match class {
-            Class::Wind => true,
-            Class::Permanent | Class::Free | Class::Earthquake => false,
-        },
-        Combination::III => match class {
-            Class::Earthquake => true,
-            Class::Permanent | Class::Free | Class::Wind => false,
-        },
+        Combination::II => class == Class::Wind,
+        Combination::III => class == Class::Earthquake,
         Combination::IV => phase == 1,
     }
 }
 
 // Whether some row raises a combination.
+#[tactic(auto, unfolding(crate::specs::steps::Deciding::Arises))]
 pub fn arises(combination: Combination, loads: Loads) -> bool
     requires { loads.count ≤ 16 }
     ensures { Decides result (Arises combination loads) }
 {
-    let mut i: usize = 0;
-    while i < loads.count {
-        let load = loads.loads[i];
-        let class = load.class;
-        if raised_by(combination, class, load.phase) {
-            return true;
-        }
-        i = i + 1;
-    }
-    false
+    loads
+        .rows()
+        .iter()
+        .any(|load| raised_by(combination, load.class, load.phase))
 }

@@ -8,15 +8,16 @@ pub mod arising;
 pub mod phases;
 pub mod trains;
 
-ghost use Rattle.std.specs.Prelude.{◌≡◌, ◌<◌};
+ghost use Rattle.std.specs.Prelude.{◌≡◌, ◌<◌, ◌≤◌, ℕ, get_or, length};
 ghost use Rattle.arithmetic.specs.decides.Decides.{Decides};
-ghost use Rattle.sets.specs.Sets.{bit, blank_load};
+ghost use Rattle.sets.specs.Sets.{bit, blank_load, row};
 
 use arithmetic::signed::Amount;
 
 // What a row is to a combination: DL, EP and E are permanent, WL is wind, SF is earthquake, every other row is free, LF and CF only beside their train.
-#[derive(Clone, Copy, PartialEq, Eq)]
+#[derive(Clone, Copy, PartialEq, Eq, Default)]
 pub enum Class {
+    #[default]
     Permanent,
     Free,
     Wind,
@@ -24,7 +25,7 @@ pub enum Class {
 }
 
 // The combinations of loads (002, 5.13): I without wind and earthquake, II with wind, III with earthquake, IV during erection.
-#[derive(Clone, Copy)]
+#[derive(Clone, Copy, PartialEq, Eq)]
 pub enum Combination {
     I,
     II,
@@ -35,7 +36,7 @@ pub enum Combination {
 // What a load row exerts: V in kN, down positive; x in mm from the base's centre; H in kN, positive toward +x; the twist is H
 // times its height above the base, in kN mm. The phase is 0 service, 1 erection, 2 both. A row that comes with a train has the position of
 // its LL row among the load rows, from 1, and any other 0 (02, P3).
-#[derive(Clone, Copy)]
+#[derive(Clone, Copy, Default)]
 pub struct Load {
     pub class: Class,
     pub phase: u32,
@@ -53,26 +54,26 @@ pub struct Loads {
     pub loads: [Load; 16],
 }
 
+impl Loads {
+    // The rows.
+    pub fn rows(&self) -> &[Load]
+        requires { self.now.count ≤ 16 }
+        ensures count { length result.now ≡ self.now.count }
+        ensures each { (i : ℕ) → i < self.now.count → get_or result.now i blank_load ≡ row self.now i }
+    {
+        &self.loads[..self.count]
+    }
+}
+
 // A row that exerts nothing.
 pub fn no_load() -> Load
     ensures { result ≡ blank_load }
 {
-    let none = Amount {
-        minus: false,
-        size: 0,
-    };
-    Load {
-        class: Class::Permanent,
-        phase: 0,
-        train: 0,
-        v: none,
-        x: none,
-        h: none,
-        twist: none,
-    }
+    Load::default()
 }
 
 // Whether a set has a row, by the row's number from 0.
+#[tactic(auto, unfolding(crate::specs::Sets::bit))]
 pub fn holds(set: u64, row: usize) -> bool
     requires { row < 64 }
     ensures { Decides result (bit set row ≡ 1) }

@@ -10,6 +10,7 @@ ghost use Rattle.sets.specs.steps.Deciding.{RowFits};
 use crate::{Class, Combination, Load};
 
 // Whether a row of a phase acts in a combination.
+#[tactic(auto, unfolding(crate::specs::Sets::Acts, crate::specs::Sets::own_phase))]
 pub fn acts(combination: Combination, phase: u32) -> bool
     ensures { Decides result (Acts combination phase) }
 {
@@ -17,7 +18,7 @@ pub fn acts(combination: Combination, phase: u32) -> bool
         Combination::I | Combination::II | Combination::III => 0,
         Combination::IV => 1,
     };
-    (phase == own) | (phase == 2)
+    phase == own || phase == 2
 }
 
 // Whether a row may stand in a set as its bit says.
@@ -26,15 +27,12 @@ pub fn row_fits(combination: Combination, load: Load, set: u64, held: u64) -> bo
     requires train_bound { load.train ≤ 16 }
     ensures { Decides result (RowFits combination load set held) }
 {
-    if held == 1 {
-        if !crate::trains::has_train(load.train, set) {
-            return false;
-        }
+    if held == 1 && !crate::trains::has_train(load.train, set) {
+        return false;
     }
-    let class = load.class;
     let acting = acts(combination, load.phase);
-    match class {
-        Class::Permanent => (held == 1) == acting,
-        Class::Free | Class::Wind | Class::Earthquake => (held == 0) | acting,
+    if load.class == Class::Permanent {
+        return (held == 1) == acting;
     }
+    held == 0 || acting
 }

@@ -4,12 +4,10 @@ ghost use Rattle.arithmetic.specs.decides.Decides.{Decides};
 ghost use Rattle.sets.specs.Sets.{HasTrain};
 
 // Whether a set has the row at this position, from 1; 0 names no row, and every set will do.
+#[tactic(auto, unfolding(crate::specs::Sets::HasTrain))]
 pub fn has_train(train: u32, set: u64) -> bool
     requires { train ≤ 16 }
     ensures { Decides result (HasTrain train set) }
 {
-    if train == 0 {
-        return true;
-    }
-    crate::holds(set, (train - 1) as usize)
+    train == 0 || crate::holds(set, (train - 1) as usize)
 }

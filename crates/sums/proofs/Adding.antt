@@ -222,6 +222,14 @@ moment_parts load =
 pub low_place : (n : ℕ) → n ≤ 16 → 2 ^ n ≤ 2 ^ 34
 low_place n h = let k : n ≤ 34 = omega arith in pow_mono k
 
+-- and by a shift
+pub shifted : (n : ℕ) → n < 64 → (1 * 2 ^ n) % 2 ^ 64 ≡ 2 ^ n
+shifted n h =
+    let k : n ≤ 63 = omega arith in
+    let p : 2 ^ n ≤ 2 ^ 63 = pow_mono k in
+    let l : 1 * 2 ^ n < 2 ^ 64 = omega arith in
+    mod-eq_of_lt l ∙ omega arith
+
 -- ---- sizes: what a row gives, and sums of rows
 pub room_none : (n : ℕ) → Room n zero_sums
 unfolding zero_sums

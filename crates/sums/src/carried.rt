@@ -5,7 +5,7 @@
 // so much less than 2^64. What is hard is that the sums are read back exactly, since all of them are small.
 ghost use Rattle.std.specs.Prelude.{◌≡◌};
 ghost use Rattle.sums.specs.steps.Sums.{Room};
-ghost use Rattle.sums.specs.steps.Carried.{wrapped, key_of, shift_of, moved, over_zero, from_zero, wind_count, earthquake_count, carried_set};
+ghost use Rattle.sums.specs.steps.Carried.{key_of, shift_of, moved, over_zero, from_zero, wind_count, earthquake_count, carried_set};
 
 use crate::{Balance, Sums};
 
@@ -33,14 +33,8 @@ const MARKS: u64 = 65_536;
 // The sets of 16 rows.
 const SETS: u64 = 65_536;
 
-// By how much a is more than b, modulo 2^64.
-fn wrapped(a: u64, b: u64) -> u64
-    ensures { result ≡ wrapped a b }
-{
-    std::num::wrapping_sub_u64(a, b)
-}
-
 // The key of a set with these sums.
+#[tactic(auto, unfolding(crate::specs::steps::Carried::key_of))]
 fn key_of(sums: Sums) -> u64
     requires { Room 16 sums }
     ensures { result ≡ key_of sums }
@@ -49,48 +43,51 @@ fn key_of(sums: Sums) -> u64
 }
 
 // What leads from the sums of a set to those of another, which has the rows of `up` more and those of `down` less.
+#[tactic(auto, unfolding(crate::specs::steps::Carried::shift_of, crate::specs::steps::Carried::balance_shift, crate::specs::steps::Carried::wrapped))]
 pub fn shift_of(up: Sums, down: Sums) -> Carried
     requires room { Room 16 up }
     requires room_2 { Room 16 down }
     ensures { result ≡ shift_of up down }
 {
     Carried {
-        n: wrapped(up.v.above + down.v.below, up.v.below + down.v.above),
-        h: wrapped(up.h.above + down.h.below, up.h.below + down.h.above),
-        m: wrapped(up.m.above + down.m.below, up.m.below + down.m.above),
+        n: (up.v.above + down.v.below).wrapping_sub(up.v.below + down.v.above),
+        h: (up.h.above + down.h.below).wrapping_sub(up.h.below + down.h.above),
+        m: (up.m.above + down.m.below).wrapping_sub(up.m.below + down.m.above),
         plus: Balance {
-            resisting: wrapped(up.plus.resisting, down.plus.resisting),
-            overturning: wrapped(up.plus.overturning, down.plus.overturning),
+            resisting: up.plus.resisting.wrapping_sub(down.plus.resisting),
+            overturning: up.plus.overturning.wrapping_sub(down.plus.overturning),
         },
         minus: Balance {
-            resisting: wrapped(up.minus.resisting, down.minus.resisting),
-            overturning: wrapped(up.minus.overturning, down.minus.overturning),
+            resisting: up.minus.resisting.wrapping_sub(down.minus.resisting),
+            overturning: up.minus.overturning.wrapping_sub(down.minus.overturning),
         },
-        key: wrapped(key_of(up), key_of(down)),
+        key: key_of(up).wrapping_sub(key_of(down)),
     }
 }
 
 // The sums of the neighbour.
+#[tactic(auto, unfolding(crate::specs::steps::Carried::moved, crate::specs::steps::Carried::balance_moved))]
 pub fn moved(from: Carried, by: Carried) -> Carried
     ensures { result ≡ moved from by }
 {
     Carried {
-        n: std::num::wrapping_add_u64(from.n, by.n),
-        h: std::num::wrapping_add_u64(from.h, by.h),
-        m: std::num::wrapping_add_u64(from.m, by.m),
+        n: from.n.wrapping_add(by.n),
+        h: from.h.wrapping_add(by.h),
+        m: from.m.wrapping_add(by.m),
         plus: Balance {
-            resisting: std::num::wrapping_add_u64(from.plus.resisting, by.plus.resisting),
-            overturning: std::num::wrapping_add_u64(from.plus.overturning, by.plus.overturning),
+            resisting: from.plus.resisting.wrapping_add(by.plus.resisting),
+            overturning: from.plus.overturning.wrapping_add(by.plus.overturning),
         },
         minus: Balance {
-            resisting: std::num::wrapping_add_u64(from.minus.resisting, by.minus.resisting),
-            overturning: std::num::wrapping_add_u64(from.minus.overturning, by.minus.overturning),
+            resisting: from.minus.resisting.wrapping_add(by.minus.resisting),
+            overturning: from.minus.overturning.wrapping_add(by.minus.overturning),
         },
-        key: std::num::wrapping_add_u64(from.key, by.key),
+        key: from.key.wrapping_add(by.key),
     }
 }
 
 // What a carried number is above zero, and 0 where it is below.
+#[tactic(auto, unfolding(crate::specs::steps::Carried::over_zero))]
 pub fn over_zero(x: u64) -> u64
     ensures { result ≡ over_zero x }
 {
@@ -98,6 +95,7 @@ pub fn over_zero(x: u64) -> u64
 }
 
 // How far a carried number is from zero.
+#[tactic(auto, unfolding(crate::specs::steps::Carried::from_zero))]
 pub fn from_zero(x: u64) -> u64
     ensures { result ≡ from_zero x }
 {
@@ -105,6 +103,7 @@ pub fn from_zero(x: u64) -> u64
 }
 
 // How many wind rows the set has whose sums are carried,
+#[tactic(auto, unfolding(crate::specs::steps::Carried::wind_count))]
 pub fn winds_in(carried: Carried) -> u64
     ensures { result ≡ wind_count carried }
 {
@@ -112,6 +111,7 @@ pub fn winds_in(carried: Carried) -> u64
 }
 
 // how many earthquake rows,
+#[tactic(auto, unfolding(crate::specs::steps::Carried::earthquake_count))]
 pub fn earthquakes_in(carried: Carried) -> u64
     ensures { result ≡ earthquake_count carried }
 {
@@ -119,6 +119,7 @@ pub fn earthquakes_in(carried: Carried) -> u64
 }
 
 // and its number.
+#[tactic(auto, unfolding(crate::specs::steps::Carried::carried_set))]
 pub fn set_in(carried: Carried) -> u64
     ensures { result ≡ carried_set carried }
 {

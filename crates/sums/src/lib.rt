@@ -9,13 +9,14 @@ pub mod permitted;
 pub mod row_terms;
 pub mod set_sums;
 
-ghost use Rattle.std.specs.Prelude.{◌≡◌};
-ghost use Rattle.sums.specs.steps.Sums.{zero_sums, add, Room};
+ghost use Rattle.std.specs.Prelude.{◌≡◌, ◌+◌, ◌^◌, ◌<◌};
+ghost use Rattle.sums.specs.steps.Sums.{balance_sum, zero_sums, add, Room};
 
 use arithmetic::signed::{Amount, Parts};
+use std::ops::Add;
 
 // What resists and what overturns at an edge, in kN mm.
-#[derive(Clone, Copy)]
+#[derive(Clone, Copy, Default)]
 pub struct Balance {
     pub resisting: u64,
     pub overturning: u64,
@@ -23,7 +24,7 @@ pub struct Balance {
 
 // The sums over the rows of a set: V, H and the moment by their parts, the balance at the edges at +x and at -x, how many of its
 // rows are wind and earthquake rows, how many rows it has, and the set's number.
-#[derive(Clone, Copy)]
+#[derive(Clone, Copy, Default)]
 pub struct Sums {
     pub v: Parts,
     pub h: Parts,
@@ -47,57 +48,50 @@ pub struct Totals {
 }
 
 // The sums over no rows, from which every set's sums are built up; their set is 0.
+#[tactic(auto, unfolding(crate::specs::steps::Sums::zero_sums))]
 pub fn no_sums() -> Sums
     ensures { result ≡ zero_sums }
 {
-    let none = Parts { above: 0, below: 0 };
-    let even = Balance {
-        resisting: 0,
-        overturning: 0,
-    };
-    Sums {
-        v: none,
-        h: none,
-        m: none,
-        plus: even,
-        minus: even,
-        winds: 0,
-        earthquakes: 0,
-        rows: 0,
-        set: 0,
+    Sums::default()
+}
+
+// What resists and what overturns by two together, where that fits a word.
+impl Add for Balance {
+    type Output = Balance;
+
+    ghost can_add = { λ a b. (a.resisting + b.resisting < 2 ^ 64) × (a.overturning + b.overturning < 2 ^ 64) };
+
+    ghost add_gives = { λ a b sum. sum ≡ balance_sum a b };
+
+    #[tactic(auto, unfolding(crate::specs::steps::Sums::balance_sum))]
+    fn add(self, b: Balance) -> Balance {
+        Balance {
+            resisting: self.resisting + b.resisting,
+            overturning: self.overturning + b.overturning,
+        }
     }
 }
 
-// Two sums together.
-pub fn add_sums(a: Sums, b: Sums) -> Sums
-    requires room { Room 64 a }
-    requires room_2 { Room 64 b }
-    ensures { result ≡ add a b }
-{
-    Sums {
-        v: Parts {
-            above: a.v.above + b.v.above,
-            below: a.v.below + b.v.below,
-        },
-        h: Parts {
-            above: a.h.above + b.h.above,
-            below: a.h.below + b.h.below,
-        },
-        m: Parts {
-            above: a.m.above + b.m.above,
-            below: a.m.below + b.m.below,
-        },
-        plus: Balance {
-            resisting: a.plus.resisting + b.plus.resisting,
-            overturning: a.plus.overturning + b.plus.overturning,
-        },
-        minus: Balance {
-            resisting: a.minus.resisting + b.minus.resisting,
-            overturning: a.minus.overturning + b.minus.overturning,
-        },
-        winds: a.winds + b.winds,
-        earthquakes: a.earthquakes + b.earthquakes,
-        rows: a.rows + b.rows,
-        set: a.set + b.set,
+// Two sums together, where each is of 64 rows at most.
+impl Add for Sums {
+    type Output = Sums;
+
+    ghost can_add = { λ a b. Room 64 a × Room 64 b };
+
+    ghost add_gives = { λ a b sum. sum ≡ add a b };
+
+    #[tactic(auto, unfolding(crate::specs::steps::Sums::add, crate::specs::steps::Sums::parts_sum))]
+    fn add(self, b: Sums) -> Sums {
+        Sums {
+            v: self.v + b.v,
+            h: self.h + b.h,
+            m: self.m + b.m,
+            plus: self.plus + b.plus,
+            minus: self.minus + b.minus,
+            winds: self.winds + b.winds,
+            earthquakes: self.earthquakes + b.earthquakes,
+            rows: self.rows + b.rows,
+            set: self.set + b.set,
+        }
     }
 }

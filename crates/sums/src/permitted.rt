@@ -14,17 +14,14 @@ pub fn permitted(combination: Combination, loads: Loads, set: u64) -> bool
     requires { Bounded loads }
     ensures { Decides result (Permitted combination loads set) }
 {
-    let mut fits = true;
-    let mut i: usize = 0;
-    let mut rest = set;
-    while i < loads.count {
-        let load = loads.loads[i];
-        fits = fits & sets::phases::row_fits(combination, load, set, rest % 2);
-        rest = rest / 2;
-        i = i + 1;
+    for (i, load) in loads.rows().iter().enumerate() {
+        if !sets::phases::row_fits(combination, *load, set, (set >> i) % 2) {
+            return false;
+        }
     }
-    let arises = sets::arising::arises(combination, loads);
+    if set >> loads.count != 0 || !sets::arising::arises(combination, loads) {
+        return false;
+    }
     let sums = crate::set_sums::sums_of(0, loads, set);
-    let admitted = sets::admission::admits(combination, sums.winds, sums.earthquakes, set);
-    fits & (rest == 0) & arises & admitted
+    sets::admission::admits(combination, sums.winds, sums.earthquakes, set)
 }

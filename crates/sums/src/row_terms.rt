@@ -12,6 +12,7 @@ use sets::{Class, Load};
 
 // What one row gives at an edge of a base of this width, where V stands so far toward the edge or so far away from it. The arm is taken
 // twice, as x is in M; of the twist one part holds back and one pushes over.
+#[tactic(auto, using(arithmetic::proofs::signed::Laws::times_low, arithmetic::proofs::signed::Laws::same_parts), unfolding(crate::specs::steps::Sums::arm_by, crate::specs::steps::Sums::balance_at))]
 fn balance_by(width: u64, v: Parts, toward: u64, away: u64, holds: u64, pushes: u64) -> Balance
     requires small { Small v }
     requires width_bound { (width ≤ 30000) × (toward ≤ 32000) × (away ≤ 32000) }
@@ -24,7 +25,7 @@ fn balance_by(width: u64, v: Parts, toward: u64, away: u64, holds: u64, pushes: 
         above: arithmetic::signed::excess(out, back),
         below: arithmetic::signed::excess(back, out),
     };
-    let turned = arithmetic::signed::product(v, arm);
+    let turned = v * arm;
     Balance {
         resisting: turned.above + 2 * holds,
         overturning: turned.below + 2 * pushes,
@@ -37,26 +38,16 @@ pub fn terms_of(width: u64, load: Load, place: u64) -> Sums
     requires bounded_load { BoundedLoad load }
     ensures { result ≡ terms_from width load place }
 {
-    let class = load.class;
-    let v = arithmetic::signed::parts_of(load.v);
-    let x = arithmetic::signed::parts_of(load.x);
-    let h = arithmetic::signed::parts_of(load.h);
-    let twist = arithmetic::signed::parts_of(load.twist);
-    let turned = arithmetic::signed::product(v, x);
-    let m = Parts {
-        above: 2 * (turned.above + twist.above),
-        below: 2 * (turned.below + twist.below),
-    };
+    let v = Parts::from(load.v);
+    let x = Parts::from(load.x);
+    let h = Parts::from(load.h);
+    let twist = Parts::from(load.twist);
+    let moment = v * x + twist;
+    let m = moment + moment;
     let plus = balance_by(width, v, x.above, x.below, twist.below, twist.above);
     let minus = balance_by(width, v, x.below, x.above, twist.above, twist.below);
-    let winds = match class {
-        Class::Wind => 1,
-        Class::Permanent | Class::Free | Class::Earthquake => 0,
-    };
-    let earthquakes = match class {
-        Class::Earthquake => 1,
-        Class::Permanent | Class::Free | Class::Wind => 0,
-    };
+    let winds = u64::from(load.class == Class::Wind);
+    let earthquakes = u64::from(load.class == Class::Earthquake);
     Sums {
         v,
         h,

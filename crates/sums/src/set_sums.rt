@@ -13,21 +13,11 @@ pub fn sums_of(width: u64, loads: Loads, set: u64) -> Sums
     requires bounded { Bounded loads }
     ensures { result ≡ sums_from width loads set }
 {
-    let count = loads.count;
     let mut sums = crate::no_sums();
-    let mut rest = set;
-    let mut place: u64 = 1;
-    let mut i: usize = 0;
-    while i < count {
-        if rest % 2 == 1 {
-            sums = crate::add_sums(
-                sums,
-                crate::row_terms::terms_of(width, loads.loads[i], place),
-            );
+    for (i, load) in loads.rows().iter().enumerate() {
+        if sets::holds(set, i) {
+            sums = sums + crate::row_terms::terms_of(width, *load, 1 << i);
         }
-        rest = rest / 2;
-        place = 2 * place;
-        i = i + 1;
     }
     sums
 }

@@ -2,7 +2,7 @@
 use Rattle.arithmetic.specs.signed.Parts.{parts_in}
 use Rattle.arithmetic.proofs.signed.Laws.{above_minus, above_plain, below_minus, below_plain, same_parts}
 use mathlib.Core.Path.{sym}
-use Rattle.arithmetic.proofs.signed.parts_of.Goals as goal
+use Rattle.arithmetic.proofs.signed.PartsFromAmount.from.Goals as goal
 
 pub returns-then-a : goal.returns-then-a
 unfolding parts_in

@@ -1,2 +1,0 @@
--- The laws of a row in a set.
-pub mod Fitting
