@@ -11,7 +11,7 @@ use crate::{Balance, Sums};
 
 // N, the sum of H, M, the balance at the edges at +x and at -x, and the set's key: from its lowest bits up 8 for the number of wind rows, 8
 // for that of earthquake rows, 16 for the set's number, and then how many rows it has.
-#[derive(Clone, Copy)]
+#[derive(Clone, Copy, Default)]
 pub struct Carried {
     pub n: u64,
     pub h: u64,

@@ -46,7 +46,7 @@ module _ (stance : ℕ → Stance) (terms : ℕ → Sums) where
       (λ l. let d : i ≡ n = omega arith in rw (d, eq-eqb (choosable stance n) (choosable stance n) refl) refl)
 
 -- ---- one step on
-pub reached_more : (steps : List ℕ) (first : Carried) (k : ℕ) → reached steps first (k + 1) ≡ moved (reached steps first k) (change_from steps (2 * changed (k + 1) + taken (k + 1)))
+pub reached_more : (steps : List Carried) (first : Carried) (k : ℕ) → reached steps first (k + 1) ≡ moved (reached steps first k) (change_from steps (2 * changed (k + 1) + taken (k + 1)))
 unfolding reached
 reached_more steps first k = rw add-one
 

@@ -40,7 +40,13 @@ struct Standing {
 
 // From one step to the next whose choice is not within the bounds, or to the last. On the way to step k the row changes whose number is that
 // of the zeros behind the last 1 of k in binary; it is added and taken away by turns.
-fn pass_over(steps: &[u64; 256], last: u64, width: u64, bounds: Bounds, from: Standing) -> Standing
+fn pass_over(
+    steps: &[Carried; 32],
+    last: u64,
+    width: u64,
+    bounds: Bounds,
+    from: Standing,
+) -> Standing
     requires width_bound { width ≤ 30000 }
     requires fitting { Fitting bounds }
     requires ahead { Ahead steps.now last from }
@@ -49,11 +55,10 @@ fn pass_over(steps: &[u64; 256], last: u64, width: u64, bounds: Bounds, from: St
     let mut carried = from.carried;
     let mut k = from.step;
     while k < last {
-        k = k + 1;
-        let row = u64::trailing_zeros(k) as usize;
+        k += 1;
+        let row = k.trailing_zeros() as usize;
         let taken = ((k >> row) / 2 % 2) as usize;
-        let change = step_table::change_at(steps, 2 * row + taken);
-        carried = sums::carried::moved(carried, change);
+        carried = sums::carried::moved(carried, steps[2 * row + taken]);
         if !weighing::bounds::within(width, bounds, carried) {
             return Standing { step: k, carried };
         }

@@ -4,7 +4,7 @@ use mathlib.Core.List.{List}
 use Prim.Native.Nat.{ℕ, zero, suc, ◌+◌, ◌*◌, ◌^◌, ◌≤◌, ◌<◌}
 use native.Mathlib.Omega.{arith}
 use native.Mathlib.Numerals.{add-one}
-use native.Mathlib.Nat.{lt_of_lt_of_le, pow-suc}
+use native.Mathlib.Nat.{lt_of_lt_of_le}
 use native.Mathlib.Decide.{dec_lt}
 use lib.ListN.{length}
 use Rattle.arithmetic.proofs.Cases.{impossible, by_cases}
@@ -21,9 +21,9 @@ use Rattle.worst.specs.declared.choices.Stance.{Stance}
 use Rattle.worst.specs.declared.choices.Stance.TheVariants.{Never, Always, Choosable}
 use Rattle.worst.specs.declared.trains.Trains.{Trains}
 use Rattle.worst.specs.steps.Stance.{next, choosable, fixed_by, fixed, row_terms, stance_at}
-use Rattle.worst.specs.steps.Steps.{change_from, Puts}
+use Rattle.worst.specs.steps.Steps.{change_from}
 use Rattle.worst.proofs.choices.Choices.{next_le}
-use Rattle.worst.proofs.step_table.Entries.{puts_own, puts_others}
+use Rattle.worst.proofs.step_table.Entries.{Puts, puts_size, puts_own, puts_others}
 
 -- a choosable row comes before the number of those up to a later one
 pub choosable_step : (stance : ℕ → Stance) (i n : ℕ) → i < n → stance i ≡ Choosable → choosable stance i < choosable stance n
@@ -39,35 +39,35 @@ choosable_step stance i (suc n) h e =
 
 module _ (combination : Combination) (width : ℕ) (loads : Loads) (trains : Trains) where
   -- the table of the first n rows: m of them are choosable
-  pub record Filled (n : ℕ) (steps : List ℕ) (m last : ℕ) (always : Sums) : Type 0 where
-    pub size : length steps ≡ 256
+  pub record Filled (n : ℕ) (steps : List Carried) (m : ℕ) (always : Sums) : Type 0 where
+    pub size : length steps ≡ 32
     pub count : m ≡ choosable (stance_at combination loads trains) n
-    pub last_made : last + 1 ≡ 2 ^ m
+    pub few : m ≤ n
     pub always_there : always ≡ fixed (stance_at combination loads trains) (row_terms width loads) n
     pub added : (i : ℕ) → i < n → stance_at combination loads trains i ≡ Choosable → change_from steps (2 * choosable (stance_at combination loads trains) i) ≡ shift_of (row_terms width loads i) zero_sums
     pub taken : (i : ℕ) → i < n → stance_at combination loads trains i ≡ Choosable → change_from steps (2 * choosable (stance_at combination loads trains) i + 1) ≡ shift_of zero_sums (row_terms width loads i)
 
-  pub filled_none : (steps : List ℕ) {always : Sums} → length steps ≡ 256 → always ≡ zero_sums → Filled 0 steps 0 0 always
+  pub filled_none : (steps : List Carried) {always : Sums} → length steps ≡ 32 → always ≡ zero_sums → Filled 0 steps 0 always
   unfolding choosable fixed
   filled_none steps l e =
-      record { size = l; count = refl; last_made = refl; always_there = e; added = λ i h. absurd (omega arith); taken = λ i h. absurd (omega arith) }
+      record { size = l; count = refl; few = omega arith; always_there = e; added = λ i h. absurd (omega arith); taken = λ i h. absurd (omega arith) }
 
-  pub filled_as : (n : ℕ) {steps steps' : List ℕ} {m m' last last' : ℕ} {always always' : Sums} → Filled n steps m last always
-      → steps' ≡ steps → m' ≡ m → last' ≡ last → always' ≡ always → Filled n steps' m' last' always'
-  filled_as n f p q r t = rw (p, q, r, t) f
+  pub filled_as : (n : ℕ) {steps steps' : List Carried} {m m' : ℕ} {always always' : Sums} → Filled n steps m always
+      → steps' ≡ steps → m' ≡ m → always' ≡ always → Filled n steps' m' always'
+  filled_as n f p q t = rw (p, q, t) f
 
   -- ---- one row more
-  module _ (n : ℕ) {steps : List ℕ} {m last : ℕ} {always : Sums} (f : Filled n steps m last always) where
+  module _ (n : ℕ) {steps : List Carried} {m : ℕ} {always : Sums} (f : Filled n steps m always) where
     -- one that is not choosable is written nowhere
     unwritten : (a : Stance) → stance_at combination loads trains n ≡ a → (a ≡ Choosable → ⊥) → {sums : Sums} → next a m ≡ m → sums ≡ fixed_by a always (row_terms width loads n)
-        → Filled (n + 1) steps m last sums
+        → Filled (n + 1) steps m sums
     unfolding choosable fixed
     unwritten a e not {sums} same s =
-        subst⁻¹ (λ (k : ℕ). Filled k steps m last sums) (add-one n)
+        subst⁻¹ (λ (k : ℕ). Filled k steps m sums) (add-one n)
         (record {
           size = f.size;
           count = sym same ∙ ap₂ next (sym e) f.count;
-          last_made = f.last_made;
+          few = omega (arith, f.few);
           always_there = s ∙ ap₂ (λ (k : Stance) (x : Sums). fixed_by k x (row_terms width loads n)) (sym e) f.always_there;
           added = λ i h c. f.added i (below i c h) c;
           taken = λ i h c. f.taken i (below i c h) c;
@@ -78,24 +78,24 @@ module _ (combination : Combination) (width : ℕ) (loads : Loads) (trains : Tra
             by_cases (dec_lt i n) (λ l. l)
             (λ l. let d : i ≡ n = omega arith in absurd (not (sym e ∙ sym (ap (stance_at combination loads trains) d) ∙ c)))
 
-    pub more_never : stance_at combination loads trains n ≡ Never → Filled (n + 1) steps m last always
+    pub more_never : stance_at combination loads trains n ≡ Never → Filled (n + 1) steps m always
     unfolding next fixed_by
     more_never e = unwritten Never e (λ q. impossible cc) refl refl
 
-    pub more_always : stance_at combination loads trains n ≡ Always → {sums : Sums} → sums ≡ add always (row_terms width loads n) → Filled (n + 1) steps m last sums
+    pub more_always : stance_at combination loads trains n ≡ Always → {sums : Sums} → sums ≡ add always (row_terms width loads n) → Filled (n + 1) steps m sums
     unfolding next fixed_by
     more_always e s = unwritten Always e (λ q. impossible cc) refl s
 
     -- one that is choosable is written behind those before it, which stay
-    pub more_choosable : stance_at combination loads trains n ≡ Choosable → {mid after : List ℕ} {x y : Carried} → x ≡ shift_of (row_terms width loads n) zero_sums → y ≡ shift_of zero_sums (row_terms width loads n)
-        → Puts steps (2 * m) x mid → Puts mid (2 * m + 1) y after → Filled (n + 1) after (m + 1) (2 * last + 1) always
+    pub more_choosable : stance_at combination loads trains n ≡ Choosable → {mid after : List Carried} {x y : Carried} → x ≡ shift_of (row_terms width loads n) zero_sums → y ≡ shift_of zero_sums (row_terms width loads n)
+        → Puts steps (2 * m) x mid → Puts mid (2 * m + 1) y after → Filled (n + 1) after (m + 1) always
     unfolding choosable fixed next fixed_by
     more_choosable e {mid} {after} {x} {y} by-x by-y p q =
-        subst⁻¹ (λ (k : ℕ). Filled k after (m + 1) (2 * last + 1) always) (add-one n)
+        subst⁻¹ (λ (k : ℕ). Filled k after (m + 1) always) (add-one n)
         (record {
-          size = q.size ∙ p.size ∙ f.size;
+          size = puts_size q ∙ puts_size p ∙ f.size;
           count = add-one m ∙ ap₂ next (sym e) f.count;
-          last_made = omega (arith, f.last_made, ap (λ (k : ℕ). 2 ^ k) (add-one m) ∙ pow-suc 2 m);
+          few = omega (arith, f.few);
           always_there = f.always_there ∙ ap (λ (k : Stance). fixed_by k (fixed (stance_at combination loads trains) (row_terms width loads) n) (row_terms width loads n)) (sym e);
           added = λ i h c. by_cases (dec_lt i n) (λ l. earlier (2 * choosable (stance_at combination loads trains) i) (omega (arith, place i l c)) ∙ f.added i l c)
               (λ l. own i (omega arith) (puts_others q (2 * m) (omega arith) ∙ puts_own p ∙ by-x));

@@ -29,11 +29,11 @@ use Rattle.worst.proofs.walk_choices.Statement.{statement}
 use Rattle.worst.proofs.walk_choices.Tie as tie
 
 -- the table that a walk goes by
-abbrev table_by : List ℕ → ℕ → Carried → StepTable
+abbrev table_by : List Carried → ℕ → Carried → StepTable
 table_by steps last first = record { steps = steps; last = last; first = first }
 
 -- from the first step on, all have been visited up to where the walk stands
-abbrev On : Combination → Bool → Base → List ℕ → ℕ → Carried → Worst → ℕ → Worst → Type 0
+abbrev On : Combination → Bool → Base → List Carried → ℕ → Carried → Worst → ℕ → Worst → Type 0
 On combination serves base steps last first worst₀ step worst =
     (loads : Loads) (trains : Trains) (b : Worst) → Sized base → Bounded loads → TableIs combination base.width loads trains (table_by steps last first)
     → Visited combination serves base (carried_of combination base.width loads trains) 1 b worst₀
@@ -72,7 +72,7 @@ unfolding reached
 visit-requires c κs = (c.requires.0, (all_small c.before.before 0 (omega arith), c.requires.1.1.0))
 
 -- ---- one step, and those passed over before it
-module _ (combination : Combination) (base : Base) (serves : Bool) (loads : Loads) (trains : Trains) (sized : Sized base) (bounded : Bounded loads) (steps : List ℕ) (last : ℕ) (first : Carried)
+module _ (combination : Combination) (base : Base) (serves : Bool) (loads : Loads) (trains : Trains) (sized : Sized base) (bounded : Bounded loads) (steps : List Carried) (last : ℕ) (first : Carried)
     (f : TableIs combination base.width loads trains (table_by steps last first)) where
   abbrev Gone : ℕ → Worst → Worst → Type 0
   Gone n b r = Visited combination serves base (carried_of combination base.width loads trains) n b r
