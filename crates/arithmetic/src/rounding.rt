@@ -7,7 +7,7 @@ ghost use Rattle.std.specs.Prelude.{◌<◌};
 ghost use Rattle.arithmetic.specs.rounding.Least.{RoundedDown};
 ghost use Rattle.arithmetic.specs.rounding.Rounding.{Rounding, Exactly, RoundsUp};
 
-// A rounded number, and whether nothing was rounded away.
+// A rounded number, and whether nothing was rounded away. Not an Option, since `Rounding` promises the value either way.
 #[derive(Clone, Copy)]
 pub struct Rounded {
     pub value: u64,

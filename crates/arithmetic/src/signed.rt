@@ -9,7 +9,7 @@ ghost use Rattle.arithmetic.specs.signed.Parts.{parts_in, times, Small};
 
 use std::ops::{Add, Mul};
 
-// A whole number: its size, and whether it is below zero.
+// A whole number: its size, and whether it is below zero. Not an i64, which the difference of two numbers of a whole word does not fit.
 #[derive(Clone, Copy, Default)]
 pub struct Amount {
     pub minus: bool,

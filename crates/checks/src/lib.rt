@@ -43,7 +43,8 @@ pub enum Figure {
     Off,
 }
 
-// The rank of "none", past every number's. The number of PR or RK is what its rank leaves of this.
+// The rank of "none", past every number's. Ranks are plain numbers, as `rank` defines them: the bounds of a search multiply them out, where an enum would be opened.
+// The number of PR or RK is what its rank leaves of this.
 pub const TOP: u64 = 18446744073709551615;
 
 // The figure of a rank: for OP, OM and SL a number is its own rank; for PR and RK the rank falls as the number grows, down to "off".

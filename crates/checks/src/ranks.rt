@@ -97,6 +97,8 @@ pub(crate) fn lean(width: u64, n: u64, m: u64) -> Rounded
     falling(arithmetic::rounding::up(1000 * m, 2 * (n * width)))
 }
 
+// The ranks alone, which a search compares: whether a figure is exact is asked of the set that is named, by the functions above.
+//
 // The rank of OP or OM.
 pub fn tip_rank(resisting: u64, overturning: u64) -> u64
     requires { resisting ≤ 2 ^ 40 }

@@ -35,7 +35,8 @@ pub enum Combination {
 
 // What a load row exerts: V in kN, down positive; x in mm from the base's centre; H in kN, positive toward +x; the twist is H
 // times its height above the base, in kN mm. The phase is 0 service, 1 erection, 2 both. A row that comes with a train has the position of
-// its LL row among the load rows, from 1, and any other 0 (02, P3).
+// its LL row among the load rows, from 1, and any other 0 (02, P3), by
+// which `HasTrain` and `Led` go, so it is no Option.
 #[derive(Clone, Copy, Default)]
 pub struct Load {
     pub class: Class,
@@ -47,7 +48,7 @@ pub struct Load {
     pub twist: Amount,
 }
 
-// The loads of a job: the first `count` of them.
+// The loads of a job: the first `count` of them. The count stands beside the places since `row` and `Permitted` go by both, and a library function uses no heap.
 #[derive(Clone, Copy)]
 pub struct Loads {
     pub count: usize,

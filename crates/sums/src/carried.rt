@@ -10,7 +10,7 @@ ghost use Rattle.sums.specs.steps.Carried.{key_of, shift_of, moved, over_zero, f
 use crate::{Balance, Sums};
 
 // N, the sum of H, M, the balance at the edges at +x and at -x, and the set's key: from its lowest bits up 8 for the number of wind rows, 8
-// for that of earthquake rows, 16 for the set's number, and then how many rows it has.
+// for that of earthquake rows, 16 for the set's number, and then how many rows it has. Words that wrap, and no i64, whose `+` would ask for bounds at each step.
 #[derive(Clone, Copy, Default)]
 pub struct Carried {
     pub n: u64,

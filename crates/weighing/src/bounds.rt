@@ -51,10 +51,11 @@ const SQUARE_METRE: u64 = 1_000_000;
 const ORDER: u64 = 65_536;
 
 // The later of two keys.
+#[tactic(auto, unfolding(crate::specs::steps::Bounds::later))]
 fn later(a: u64, b: u64) -> u64
     ensures { result ≡ later a b }
 {
-    if a < b { b } else { a }
+    a.max(b)
 }
 
 // The bound of OP, OM or SL, where it is weighed. Its figure is so many times what counts for a set over so many times what counts
@@ -90,14 +91,12 @@ fn tied_from(weighed: bool, worst: RankedSet) -> u64
 }
 
 // One less than the figure of a rank of PR or RK, 0 where that is 0, and at most this.
+#[tactic(auto, unfolding(crate::specs::steps::Bounds::lesser_number))]
 fn number_below(most: u64, rank: u64) -> u64
     ensures { result ≡ lesser_number most rank }
 {
     let shown = TOP - rank;
-    if most < shown {
-        return most;
-    }
-    arithmetic::signed::excess(shown, 1)
+    most.min(shown.saturating_sub(1))
 }
 
 // The bound of RK, in half thousandths; on soil, of how far a base may lean for PR not to be "off".

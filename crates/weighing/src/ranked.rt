@@ -5,7 +5,8 @@
 ghost use Rattle.std.specs.Prelude.{◌≡◌, ◌<◌};
 ghost use Rattle.weighing.specs.steps.Ranked.{order_of_ties, WorseOf};
 
-// The worst so far of a check: the rank of its figure, and its set; set 0 where there is none yet.
+// The worst so far of a check: the rank of its figure, and its set; set 0 where there is none yet, which as a bit pattern
+// (document 01) has no row, so that `weight_of` orders it as the last of all without an Option.
 #[derive(Clone, Copy)]
 pub struct RankedSet {
     pub rank: u64,
@@ -20,7 +21,7 @@ pub(crate) fn tie_order(set: u64) -> u64
     if set == 0 {
         return 17 * 65536;
     }
-    let rows = u64::count_ones(set) as u64;
+    let rows = u64::from(set.count_ones());
     65536 * rows + set
 }
 
@@ -32,10 +33,8 @@ pub(crate) fn worse(worst: RankedSet, rank: u64, set: u64) -> RankedSet
     if rank < worst.rank {
         return RankedSet { rank, set };
     }
-    if rank == worst.rank {
-        if tie_order(set) < tie_order(worst.set) {
-            return RankedSet { rank, set };
-        }
+    if rank == worst.rank && tie_order(set) < tie_order(worst.set) {
+        return RankedSet { rank, set };
     }
     worst
 }

@@ -1,2 +1,3 @@
 -- The laws of leading rows.
 pub mod Leaders
+pub mod Present

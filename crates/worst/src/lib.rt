@@ -39,7 +39,7 @@ struct Standing {
 }
 
 // From one step to the next whose choice is not within the bounds, or to the last. On the way to step k the row changes whose number is that
-// of the zeros behind the last 1 of k in binary; it is added and taken away by turns.
+// of the zeros behind the last 1 of k in binary; it is added and taken away by turns. No `for`: from past the last it stays where it stands.
 fn pass_over(
     steps: &[Carried; 32],
     last: u64,
@@ -119,14 +119,12 @@ fn walk(combination: Combination, base: Base, loads: Loads) -> Worst
         pr: none,
         rk: none,
     };
-    let mut way: u64 = 0;
-    while way < ways {
+    for way in 0..ways {
         let trains = Trains {
             leaders,
             present: trains::present_in(leaders, way),
         };
         worst = walk_choices(combination, serves, base, loads, trains, worst);
-        way = way + 1;
     }
     worst
 }

@@ -33,11 +33,8 @@ pub(crate) fn leaders_of(combination: Combination, loads: Loads) -> u64
     requires { Bounded loads }
     ensures { LeadersIs combination loads loads.count result }
 {
-    let count = loads.count;
     let mut leaders: u64 = 0;
-    let mut i: usize = 0;
-    while i < count {
-        let load = loads.loads[i];
+    for load in loads.rows() {
         if 0 < load.train {
             let row = (load.train - 1) as usize;
             let lead = loads.loads[row];
@@ -45,7 +42,6 @@ pub(crate) fn leaders_of(combination: Combination, loads: Loads) -> u64
                 leaders = with_row(leaders, row);
             }
         }
-        i = i + 1;
     }
     leaders
 }
@@ -55,12 +51,10 @@ pub(crate) fn ways_of(leaders: u64) -> u64
     ensures { result ≡ 2 ^ choosable (leading leaders) 16 }
 {
     let mut ways: u64 = 1;
-    let mut i: usize = 0;
-    while i < 16 {
+    for i in 0..16 {
         if sets::holds(leaders, i) {
             ways = 2 * ways;
         }
-        i = i + 1;
     }
     ways
 }
@@ -71,17 +65,13 @@ pub(crate) fn present_in(leaders: u64, way: u64) -> u64
 {
     let mut present: u64 = 0;
     let mut rest = way;
-    let mut place: u64 = 1;
-    let mut i: usize = 0;
-    while i < 16 {
+    for i in 0..16 {
         if sets::holds(leaders, i) {
             if rest % 2 == 1 {
-                present = present + place;
+                present = present + (1u64 << i);
             }
             rest = rest / 2;
         }
-        place = 2 * place;
-        i = i + 1;
     }
     present
 }
