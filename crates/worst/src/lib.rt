@@ -40,6 +40,7 @@ struct Standing {
 
 // From one step to the next whose choice is not within the bounds, or to the last. On the way to step k the row changes whose number is that
 // of the zeros behind the last 1 of k in binary; it is added and taken away by turns. No `for`: from past the last it stays where it stands.
+#[inline(never)]
 fn pass_over(
     steps: &[Carried; 32],
     last: u64,
