@@ -9,6 +9,7 @@ use Rattle.fields.specs.names.Names.{no_name}
 use Rattle.fields.specs.declared.names.Name.{Name}
 use Rattle.std.proofs.Common.{None, Some}
 use Rattle.fills.specs.declared.fill_rows.Fill.{Fill}
+use Rattle.fills.specs.declared.digest.FillWords.{FillWords}
 use Rattle.fills.specs.declared.fill_rows.Whose.{Whose}
 use Rattle.fills.specs.declared.fill_rows.Whose.TheVariants.{Own, Common}
 use Rattle.fills.specs.FillBook.{Lists, FillBook}
@@ -29,32 +30,32 @@ blank_shape = record { soils = length-replicate 5 (replicate {A = ℕ} 5 0); slo
 blank_cell : (i j : ℕ) → i < 5 → j < 5 → cell blank i j ≡ 0
 blank_cell i j l k = ap (λ (r : List ℕ). get_or r j 0) (get_or-replicate 5 i (replicate {A = ℕ} 5 0) [] l) ∙ get_or-replicate {A = ℕ} 5 j 0 0 k
 
-all_laid : {fs : List Fill} {n : ℕ} {high low value : List ℕ} → DigestOf fs n high low value → {m : Name} {s p : ℕ} → ((v : ℕ) (l : Lists fs m s p v) → l.at < n → ⊥) → Lacks fs m s p
+all_laid : {fs : List Fill} {ws : List FillWords} → DigestOf fs ws → {m : Name} {s p : ℕ} → ((v : ℕ) (l : Lists fs m s p v) → l.at < length ws → ⊥) → Lacks fs m s p
 all_laid d none v l =
     let many = d.many in
     let within = l.within in
     none v l (omega arith)
 
-module _ {owns commons : List Fill} {n o : ℕ} {h l v k m w : List ℕ} (mine : DigestOf owns n h l v) (all : DigestOf commons o k m w) where
+module _ {owns commons : List Fill} {ws vs : List FillWords} (mine : DigestOf owns ws) (all : DigestOf commons vs) where
   module _ {member : Name} {s p : ℕ} where
-    marks : {x y z : ℕ} → LaidAt commons o no_name s p x y → x ≡ 0 → LaidAt owns n member s p y z → Marked owns commons member s p z
+    marks : {x y z : ℕ} → LaidAt commons (length vs) no_name s p x y → x ≡ 0 → LaidAt owns (length ws) member s p y z → Marked owns commons member s p z
     marks a e (listed {value = u} q t f) = record { held = Some u; says = own q refl; is = f }
     marks (listed {value = u} q t f) e (unlisted none g) = record { held = Some u; says = common (all_laid mine none) q refl; is = g ∙ f }
     marks (unlisted lacks f) e (unlisted none g) = record { held = None; says = neither (all_laid mine none) (all_laid all lacks) refl; is = g ∙ f ∙ e }
 
-  laid_values : {member : Name} {shared held : List (List ℕ)} → LaidOver commons o no_name blank shared → LaidOver owns n member shared held → ValuesFor owns commons member held
+  laid_values : {member : Name} {shared held : List (List ℕ)} → LaidOver commons (length vs) no_name blank shared → LaidOver owns (length ws) member shared held → ValuesFor owns commons member held
   laid_values a b = record { shape = b.shape; each = λ i j x y. marks (a.each i j x y) (blank_cell i j x y) (b.each i j x y) }
 
 -- for whatever fills the books have
-pub member_values : {own common : List ℕ} {n o : ℕ} {h l v k m w : List ℕ} {member : Name} {shared held : List (List ℕ)}
-    → Digested Own own n h l v → Digested Common common o k m w → Laid o k m w no_name blank shared → Laid n h l v member shared held
+pub member_values : {own common : List ℕ} {ws vs : List FillWords} {member : Name} {shared held : List (List ℕ)}
+    → Digested Own own ws → Digested Common common vs → Laid vs no_name blank shared → Laid ws member shared held
     → (owns commons : List Fill) → FillBook Own own owns → FillBook Common common commons → ValuesFor owns commons member held
 member_values {member = member} {shared} {held} mine all a b owns commons p q =
     subst (λ (x : List Fill). ValuesFor x commons member held) (fills_one mine.book p)
     (subst (λ (x : List Fill). ValuesFor mine.fills x member held) (fills_one all.book q) (laid_values mine.digest all.digest (a all.fills all.digest) (b mine.fills mine.digest)))
 
--- what the arrays hold, for what laying asks
-pub digested_held : {whose : Whose} {s : List ℕ} {n : ℕ} {high low value : List ℕ} → Digested whose s n high low value → Held n high low value
+-- what is held, for what laying asks
+pub digested_held : {whose : Whose} {s : List ℕ} {ws : List FillWords} → Digested whose s ws → Held ws
 digested_held d = record { fills = d.fills; digest = d.digest }
 
 -- the values of one member more

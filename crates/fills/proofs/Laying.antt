@@ -10,15 +10,17 @@ use Rattle.arithmetic.proofs.Cases.{by_cases}
 use Rattle.fields.specs.declared.names.Name.{Name}
 use Rattle.fills.specs.declared.fill_rows.Fill.{Fill}
 use Rattle.fills.specs.FillBook.{no_fill, Lists}
-use Rattle.fills.specs.digest.Digest.{high_of, low_of, Proper, Small, InWords, DigestOf}
+use Rattle.fills.specs.declared.digest.TwoWords.{TwoWords}
+use Rattle.fills.specs.declared.digest.FillWords.{FillWords}
+use Rattle.fills.specs.digest.Digest.{high_of, low_of, Proper, no_words, InWords, DigestOf}
 use Rattle.fills.specs.Values.{cell, FiveByFive}
 use Rattle.fills.specs.steps.Laid.{LaidAt, listed, unlisted, LaidOver}
 use Rattle.fills.proofs.digest.Words.{names_one}
 
 -- the first i fills of the member with these words are laid over the values
-abbrev pub Laying : ℕ → List ℕ → List ℕ → List ℕ → ℕ → ℕ → ℕ → List (List ℕ) → List (List ℕ) → Type 0
-Laying n high low value h l i before after =
-    (fs : List Fill) → DigestOf fs n high low value → (m : Name) → Proper m → high_of m ≡ h → low_of m ≡ l → LaidOver fs i m before after
+abbrev pub Laying : List FillWords → TwoWords → ℕ → List (List ℕ) → List (List ℕ) → Type 0
+Laying ws key i before after =
+    (fs : List Fill) → DigestOf fs ws → (m : Name) → Proper m → high_of m ≡ key.high → low_of m ≡ key.low → LaidOver fs i m before after
 
 -- member, soil and slope of one word
 decode : (n x a b : ℕ) → a ≤ 5 → b ≤ 5 → n ≡ x * 64 + a * 8 + b → (n / 64 ≡ x) × (n / 8 % 8 ≡ a) × (n % 8 ≡ b)
@@ -29,7 +31,7 @@ module _ {fs : List Fill} {m : Name} {before : List (List ℕ)} where
   laid_start shape = record { shape = shape; each = λ i j l k. unlisted (λ v w z. absurd (omega arith)) refl }
 
   -- no fill names a member with more than twelve letters
-  pub laid_none : {n : ℕ} {high low value : List ℕ} → DigestOf fs n high low value → 12 < m.len → FiveByFive before → LaidOver fs n m before before
+  pub laid_none : {ws : List FillWords} → DigestOf fs ws → 12 < m.len → FiveByFive before → LaidOver fs (length ws) m before before
   laid_none digest long shape = record {
     shape = shape;
     each = λ i j h k.
@@ -67,20 +69,23 @@ module _ {held : List (List ℕ)} (shape : FiveByFive held) (i j v : ℕ) (a : i
   }
 
 -- one fill more
-module _ {fs : List Fill} {n : ℕ} {high low value : List ℕ} (digest : DigestOf fs n high low value) (i : ℕ) (l : i < n) where
+module _ {fs : List Fill} {ws : List FillWords} (digest : DigestOf fs ws) (i : ℕ) (l : i < length ws) where
+  abbrev these : FillWords
+  these = get_or ws i no_words
+
   abbrev this : Fill
   this = get_or fs i no_fill
 
-  told : InWords this (get_or high i 0) (get_or low i 0) (get_or value i 0)
+  told : InWords this these
   told = digest.holds i l
 
-  parts : (get_or low i 0 / 64 ≡ low_of this.member) × (get_or low i 0 / 8 % 8 ≡ this.soil) × (get_or low i 0 % 8 ≡ this.slope)
-  parts = decode (get_or low i 0) (low_of this.member) this.soil this.slope told.small.soil.1 told.small.slope.1 told.low_is
+  parts : (these.key.low / 64 ≡ low_of this.member) × (these.key.low / 8 % 8 ≡ this.soil) × (these.key.low % 8 ≡ this.slope)
+  parts = decode these.key.low (low_of this.member) this.soil this.slope told.small.soil.1 told.small.slope.1 told.low_is
 
-  pub soil_told : (1 ≤ get_or low i 0 / 8 % 8) × (get_or low i 0 / 8 % 8 ≤ 5)
+  pub soil_told : (1 ≤ these.key.low / 8 % 8) × (these.key.low / 8 % 8 ≤ 5)
   soil_told = subst (λ (k : ℕ). (1 ≤ k) × (k ≤ 5)) (sym parts.1) told.small.soil
 
-  pub slope_told : (1 ≤ get_or low i 0 % 8) × (get_or low i 0 % 8 ≤ 5)
+  pub slope_told : (1 ≤ these.key.low % 8) × (these.key.low % 8 ≤ 5)
   slope_told = subst (λ (k : ℕ). (1 ≤ k) × (k ≤ 5)) (sym parts.2) told.small.slope
 
   module _ {m : Name} {before after : List (List ℕ)} (laid : LaidOver fs i m before after) where
@@ -103,10 +108,10 @@ module _ {fs : List Fill} {n : ℕ} {high low value : List ℕ} (digest : Digest
 
     module _ (own : this.member ≡ m) where
       abbrev row : ℕ
-      row = get_or low i 0 / 8 % 8 - 1
+      row = these.key.low / 8 % 8 - 1
 
       abbrev place : ℕ
-      place = get_or low i 0 % 8 - 1
+      place = these.key.low % 8 - 1
 
       within : (row < 5) × (place < 5)
       within =
@@ -114,42 +119,43 @@ module _ {fs : List Fill} {n : ℕ} {high low value : List ℕ} (digest : Digest
           let p = slope_told in
           (omega arith, omega arith)
 
-      here : LaidAt fs (i + 1) m (suc row) (suc place) (cell before row place) (cell (put_at after row place (get_or value i 0)) row place)
+      here : LaidAt fs (i + 1) m (suc row) (suc place) (cell before row place) (cell (put_at after row place these.value) row place)
       here =
           let s = soil_told in
           let p = slope_told in
           let many = digest.many in
-          let a : this.soil ≡ suc row = sym parts.1 ∙ (let z : get_or low i 0 / 8 % 8 ≡ suc row = omega arith in z) in
-          let b : this.slope ≡ suc place = sym parts.2 ∙ (let z : get_or low i 0 % 8 ≡ suc place = omega arith in z) in
+          let a : this.soil ≡ suc row = sym parts.1 ∙ (let z : these.key.low / 8 % 8 ≡ suc row = omega arith in z) in
+          let b : this.slope ≡ suc place = sym parts.2 ∙ (let z : these.key.low % 8 ≡ suc place = omega arith in z) in
           listed {value = this.value} (record { at = i; within = omega arith; is = λ t. record { member = own t; soil = a t; slope = b t; value = this.value } }) (omega arith)
-          (put_here laid.shape row place (get_or value i 0) within.0 within.1 ∙ told.value_is)
+          (put_here laid.shape row place these.value within.0 within.1 ∙ told.value_is)
 
-      pub laid_put : LaidOver fs (i + 1) m before (put_at after row place (get_or value i 0))
+      pub laid_put : LaidOver fs (i + 1) m before (put_at after row place these.value)
       laid_put = record {
-        shape = put_shape laid.shape row place (get_or value i 0) within.0 within.1;
+        shape = put_shape laid.shape row place these.value within.0 within.1;
         each = λ a b h k.
             by_cases (ℕ_discrete a row)
             (λ e.
             by_cases (ℕ_discrete b place)
-            (λ f. subst (λ (x : ℕ). LaidAt fs (i + 1) m (suc x) (suc b) (cell before x b) (cell (put_at after row place (get_or value i 0)) x b)) (sym e)
-            (subst (λ (y : ℕ). LaidAt fs (i + 1) m (suc row) (suc y) (cell before row y) (cell (put_at after row place (get_or value i 0)) row y)) (sym f) here))
+            (λ f. subst (λ (x : ℕ). LaidAt fs (i + 1) m (suc x) (suc b) (cell before x b) (cell (put_at after row place these.value) x b)) (sym e)
+            (subst (λ (y : ℕ). LaidAt fs (i + 1) m (suc row) (suc y) (cell before row y) (cell (put_at after row place these.value) row y)) (sym f) here))
             (λ f.
             stays (suc a) (suc b) _ _ _ (laid.each a b h k)
-            (subst (λ (x : ℕ). cell (put_at after row place (get_or value i 0)) x b ≡ cell after x b) (sym e) (put_beside laid.shape row place (get_or value i 0) within.0 within.1 b f))
-            (λ v q. let z : suc b ≡ get_or low i 0 % 8 = sym (ap (λ (g : Fill). g.slope) q) ∙ sym parts.2 in f (omega arith))))
+            (subst (λ (x : ℕ). cell (put_at after row place these.value) x b ≡ cell after x b) (sym e) (put_beside laid.shape row place these.value within.0 within.1 b f))
+            (λ v q. let z : suc b ≡ these.key.low % 8 = sym (ap (λ (g : Fill). g.slope) q) ∙ sym parts.2 in f (omega arith))))
             (λ e.
-            stays (suc a) (suc b) _ _ _ (laid.each a b h k) (put_apart laid.shape row place (get_or value i 0) within.0 within.1 a b e)
-            (λ v q. let z : suc a ≡ get_or low i 0 / 8 % 8 = sym (ap (λ (g : Fill). g.soil) q) ∙ sym parts.1 in e (omega arith)));
+            stays (suc a) (suc b) _ _ _ (laid.each a b h k) (put_apart laid.shape row place these.value within.0 within.1 a b e)
+            (λ v q. let z : suc a ≡ these.key.low / 8 % 8 = sym (ap (λ (g : Fill). g.soil) q) ∙ sym parts.1 in e (omega arith)));
       }
 
 -- the fills of a book, passed one by one
-module _ {n : ℕ} {high low value : List ℕ} {h w : ℕ} {i : ℕ} {before after : List (List ℕ)} (laying : Laying n high low value h w i before after) (l : i < n) where
-  pub laying_put : get_or high i 0 ≡ h → get_or low i 0 / 64 ≡ w → Laying n high low value h w (i + 1) before (put_at after (get_or low i 0 / 8 % 8 - 1) (get_or low i 0 % 8 - 1) (get_or value i 0))
+module _ {ws : List FillWords} {key : TwoWords} {i : ℕ} {before after : List (List ℕ)} (laying : Laying ws key i before after) (l : i < length ws) where
+  pub laying_put : (get_or ws i no_words).key.high ≡ key.high → (get_or ws i no_words).key.low / 64 ≡ key.low
+      → Laying ws key (i + 1) before (put_at after ((get_or ws i no_words).key.low / 8 % 8 - 1) ((get_or ws i no_words).key.low % 8 - 1) (get_or ws i no_words).value)
   laying_put e f fs d m p a b =
       let t = told d i l in
       laid_put d i l (laying fs d m p a b) (names_one t.small.member p (sym t.high_is ∙ e ∙ sym a) (sym (parts d i l).0 ∙ f ∙ sym b))
 
-  pub laying_skip : (get_or high i 0 ≡ h → get_or low i 0 / 64 ≡ w → ⊥) → Laying n high low value h w (i + 1) before after
+  pub laying_skip : ((get_or ws i no_words).key.high ≡ key.high → (get_or ws i no_words).key.low / 64 ≡ key.low → ⊥) → Laying ws key (i + 1) before after
   laying_skip other fs d m p a b =
       let t = told d i l in
       laid_skip d i l (laying fs d m p a b) (λ e. other (t.high_is ∙ ap high_of e ∙ a) ((parts d i l).0 ∙ ap low_of e ∙ b))

@@ -2,7 +2,6 @@
 pub mod OneReading
 pub mod Sharing
 mod Walking
-mod TellWalking
 mod Laying
 mod Gathering
 pub mod Holding

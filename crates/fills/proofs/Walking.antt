@@ -1,16 +1,21 @@
 -- The loop over the rows of a fill book: those passed mean the fills that are held, and none is listed twice.
-use Prim.Native.Nat.{ℕ, suc, ◌+◌, ◌*◌, ◌≤◌, ◌<◌, min}
+use Prim.Native.Nat.{ℕ, zero, suc, ◌+◌, ◌*◌, ◌≤◌, ◌<◌}
 use native.Mathlib.Decide.{dec_lt}
 use native.Mathlib.Omega.{arith}
 use mathlib.Core.Path.{◌≡◌, refl, sym, ap, subst, ◌∙◌}
-use mathlib.Core.Bool.{Bool, true, false}
 use mathlib.Core.List.{List, [], ◌∷◌, ◌++◌}
-use lib.ListN.{length, get_or, set, length-set, length-append, get_or-append}
+use lib.ListN.{length, get_or, length-append, get_or-append}
 use lib.Seq.{get_or_at}
+use Rattle.std.specs.Prelude.{Some, None, Result, Ok, Err}
 use Rattle.arithmetic.proofs.Cases.{by_cases}
 use Rattle.csv_text.specs.rfc4180.Rfc4180.{DQUOTE, Cell, Field, plain, quoted, File, Readable}
-use Rattle.csv_text.specs.cells.Cells.{offset}
-use Rattle.csv_text.proofs.rfc4180.Unique.{file_unique}
+use Rattle.csv_text.specs.Nth.{Nth}
+use Rattle.csv_text.specs.cells.Cells.{offset, RowIs, RowAt}
+use Rattle.csv_text.specs.strays.Strays.{TextSays}
+use Rattle.csv_text.specs.declared.cells.Cells.{Cells}
+use Rattle.csv_text.specs.declared.strays.TextFault.{TextFault}
+use Rattle.csv_text.proofs.strays.Answers.{sound_readable}
+use Rattle.csv_text.proofs.cells.Standing.{standing}
 use Rattle.csv_text.proofs.cells.Fields.{row_fields}
 use Rattle.csv_text.proofs.notes.Reached.{RowReached, reached_start, reached_more, reached_last}
 use Rattle.fields.specs.Numbers.{IsNumber, is_positive, is_negative}
@@ -19,17 +24,20 @@ use Rattle.fields.specs.declared.Entry.{Entry}
 use Rattle.fields.specs.names.Names.{name, Letter, hyphen, digit, upper}
 use Rattle.fields.specs.declared.names.Name.{Name}
 use Rattle.fills.specs.declared.fill_rows.Fill.{Fill}
-use Rattle.fills.specs.declared.fill_rows.FillRead.{FillRead}
 use Rattle.fills.specs.declared.fill_rows.Whose.{Whose}
 use Rattle.fills.specs.declared.fill_rows.Whose.TheVariants.{Own, Common}
 use Rattle.fills.specs.declared.digest.TwoWords.{TwoWords}
+use Rattle.fills.specs.declared.digest.FillWords.{FillWords}
+use Rattle.fills.specs.declared.faults.FillFault.{FillFault}
+use Rattle.fills.specs.declared.faults.FillFault.TheVariants.{Text, Twice}
 use Rattle.fills.specs.fill_rows.Form.{cells_of, MemberIs, UpTo, Form}
-use Rattle.fills.specs.fill_rows.steps.Reading.{FillGiven, FillSeen, SeenAt}
-use Rattle.fills.specs.FillBook.{TextRows, no_bytes, bytes, Forms, no_form, form, no_fill, Lists, SamePlace, Once, FillBook}
-use Rattle.fills.specs.digest.Digest.{high_of, low_of, Proper, KeyIs, FoundAt, Small, InWords, DigestOf}
-use Rattle.fills.specs.reading.Rows.{Places, Digested}
+use Rattle.fills.specs.fill_rows.steps.Reading.{RowMeans, MeantBy}
+use Rattle.fills.specs.FillBook.{no_bytes, bytes, Forms, no_form, form, no_fill, Lists, SamePlace, Once}
+use Rattle.fills.specs.digest.Digest.{Proper, KeyIs, FoundAt, Small, DigestOf}
+use Rattle.fills.specs.reading.Rows.{Digested}
+use Rattle.fills.specs.faults.Faults.{RowLies, twice, FillLies, text, row}
 use Rattle.fills.proofs.OneReading.{form_one}
-use Rattle.fills.proofs.digest.Words.{proper_name, found_lists, not_found, digest_more}
+use Rattle.fills.proofs.digest.Words.{proper_name, found_fill, not_found, digest_more}
 
 -- a member that a row names is told by its words
 letter_small : {b : ℕ} → Letter b → b < 256
@@ -70,15 +78,15 @@ module _ {whose : Whose} {cs : List Cell} {f : Fill} (w : Form whose cs f) where
       subst (λ (l : List Cell). 8 ≤ offset l (length l)) (sym w.are) (omega arith)
 
 -- the rows of a book, cut behind those that were passed
-record Cut (fs gone : List Fill) (f : Fill) : Type 0 where
-  behind : List Fill
-  are : fs ≡ gone ++ f ∷ behind
+pub record Cut (fs gone : List Fill) (f : Fill) : Type 0 where
+  pub behind : List Fill
+  pub are : fs ≡ gone ++ f ∷ behind
 
 pub some_form : {whose : Whose} (os : List (List Cell)) (cs : List Cell) (bs : List (List Cell)) {fs : List Fill} → Forms whose (os ++ cs ∷ bs) fs → (f : Fill) × Form whose cs f
 some_form [] cs bs (form {f = f} w ws) = (f, w)
 some_form (o ∷ os) cs bs (form w ws) = some_form os cs bs ws
 
-cut : {whose : Whose} {os : List (List Cell)} {gone : List Fill} {cs : List Cell} {f : Fill} (bs : List (List Cell)) {fs : List Fill} → Forms whose os gone → Form whose cs f → Forms whose (os ++ cs ∷ bs) fs → Cut fs gone f
+pub cut : {whose : Whose} {os : List (List Cell)} {gone : List Fill} {cs : List Cell} {f : Fill} (bs : List (List Cell)) {fs : List Fill} → Forms whose os gone → Form whose cs f → Forms whose (os ++ cs ∷ bs) fs → Cut fs gone f
 cut bs no_form w (form {fs = fs} v vs) = let e = form_one v w in record { behind = fs; are = cc }
 cut bs (form u us) w (form v vs) =
     let c = cut bs us w vs in
@@ -112,7 +120,17 @@ once_more {fs} f once new j k l m same =
     let tt' : x.slope ≡ f.slope = sym (ap (λ (g : Fill). g.slope) there) ∙ r ∙ ap (λ (g : Fill). g.slope) here in
     new x.value (record { at = j; within = omega arith; is = λ i. record { member = mm i; soil = ss i; slope = tt' i; value = x.value } }))
 
-pub record Walk (whose : Whose) (s : List ℕ) (n at : ℕ) (high low value : List ℕ) : Type 0 where
+-- the n-th of a list, by its place
+nth_at : {A : Type 0} (d : A) (xs : List A) (k : ℕ) → k < length xs → Nth xs (k + 1) (get_or xs k d)
+nth_at d [] k l = absurd (omega arith)
+nth_at d (x ∷ xs) zero l = record { before = []; behind = xs; are = refl; number = refl }
+nth_at d (x ∷ xs) (suc k) l =
+    let a = nth_at d xs k (omega arith) in
+    let n = a.number in
+    record { before = x ∷ a.before; behind = a.behind; are = ap (λ (ys : List _). x ∷ ys) a.are; number = omega arith }
+
+-- the first rows of a text mean fills, which are held in words, and the next row is reached
+pub record Walk (whose : Whose) (s : List ℕ) (n at : ℕ) (ws : List FillWords) : Type 0 where
   pub size : length s ≤ 65536
   pub some : 0 < length s
   pub passed : List (List Cell)
@@ -120,13 +138,13 @@ pub record Walk (whose : Whose) (s : List ℕ) (n at : ℕ) (high low value : Li
   pub fills : List Fill
   pub forms : Forms whose passed fills
   pub once : Once fills
-  pub digest : DigestOf fills n high low value
+  pub digest : DigestOf fills ws
+  pub many : length ws ≡ n
   pub room : 9 * n ≤ at
-  pub long : Places high low value
   pub more_text : at < length s
 
-pub walk_start : {whose : Whose} {s high low value : List ℕ} → Places high low value → 0 < length s → length s ≤ 65536 → Readable s → Walk whose s 0 0 high low value
-walk_start long h k q = record {
+pub walk_start : {whose : Whose} {s : List ℕ} {ws : List FillWords} → ws ≡ [] → 0 < length s → length s ≤ 65536 → Readable s → Walk whose s 0 0 ws
+walk_start none h k q = record {
   size = k;
   some = h;
   passed = [];
@@ -134,114 +152,100 @@ walk_start long h k q = record {
   fills = [];
   forms = no_form;
   once = λ j k l m same. absurd (omega arith);
-  digest = record { many = refl; holds = λ k l. absurd (omega arith) };
+  digest = record { many = ap length none; holds = λ k l. let e = ap length none in absurd (omega arith) };
+  many = ap length none;
   room = omega arith;
-  long = long;
   more_text = h;
 }
 
 -- there is a place for one fill more
-pub walk_room : {whose : Whose} {s : List ℕ} {n at : ℕ} {high low value : List ℕ} → Walk whose s n at high low value → n < 7282
+pub walk_room : {whose : Whose} {s : List ℕ} {n at : ℕ} {ws : List FillWords} → Walk whose s n at ws → n < 7282
 walk_room i =
     let a = i.room in
     let b = i.more_text in
     let c = i.size in
     omega arith
 
-not_empty : {s : List ℕ} {rows : List (List Cell)} → 0 < length s → TextRows s rows → File s rows
-not_empty h no_bytes = absurd (omega arith)
-not_empty h (bytes n q) = q
+-- a text that is no RFC 4180 text
+pub text_refused : {whose : Whose} {s : List ℕ} {fault : TextFault} → length s ≤ 65536 → (Readable s → ⊥) → TextSays s fault → FillLies whose s (Some (Text fault))
+text_refused {s = s} h n t = text h t (λ e. n (sound_readable (subst (TextSays s) e t)))
 
--- a fill book of some bytes is RFC 4180, and one of no bytes has no rows
-pub readable : {whose : Whose} {s : List ℕ} {fs : List Fill} → (length s ≡ 0 → ⊥) → FillBook whose s fs → Readable s
-readable h b = record { rows = b.rows; reading = not_empty (omega (arith, h)) b.text }
-
-pub empty_book : {whose : Whose} (s : List ℕ) {high low value : List ℕ} → length s ≡ 0 → Digested whose s 0 high low value
-empty_book [] h = record {
+-- a fill book of no bytes has no rows
+pub empty_book : {whose : Whose} (s : List ℕ) {ws : List FillWords} → length s ≡ 0 → ws ≡ [] → Digested whose s ws
+empty_book [] h none = record {
   fills = [];
   book = record { size = omega arith; rows = []; text = no_bytes; forms = no_form; once = λ j k l m same. absurd (omega arith) };
-  digest = record { many = refl; holds = λ k l. absurd (omega arith) };
-  few = omega arith;
+  digest = record { many = ap length none; holds = λ k l. let e = ap length none in absurd (omega arith) };
 }
-empty_book (b ∷ s) h = absurd (omega arith)
+empty_book (b ∷ s) h none = absurd (omega arith)
 
-module _ {whose : Whose} {s : List ℕ} {n at : ℕ} {high low value : List ℕ} (i : Walk whose s n at high low value) {r : FillRead} (h : SeenAt whose s at r) where
+module _ {whose : Whose} {s : List ℕ} {n at : ℕ} {ws : List FillWords} (i : Walk whose s n at ws) {c : Cells} (h : RowAt s at c) where
   abbrev cs : List Cell
   cs = i.reached.row
 
-  seen : FillSeen whose s at cs i.reached.behind r
+  seen : RowIs s at cs i.reached.behind c
   seen = h _ _ i.reached.here
 
-  -- the rows of a fill book that the text would be
-  rows_are : {fs : List Fill} (b : FillBook whose s fs) → Forms whose (i.passed ++ cs ∷ i.reached.behind) fs
-  rows_are {fs} b = subst (λ (l : List (List Cell)). Forms whose l fs) (file_unique (not_empty i.some b.text) i.reached.reading refl ∙ i.reached.are) b.forms
+  meant : (r : Result Fill FillFault) → MeantBy whose s c (n + 1) r → RowMeans whose cs (n + 1) r
+  meant r w = w cs seen.count (standing h cs i.reached.behind i.reached.here (omega arith))
 
-  pub walk_formless : r.good ≡ false → (fs : List Fill) → FillBook whose s fs → ⊥
-  walk_formless g fs b =
-      let none = subst (λ (x : Bool). FillGiven whose x cs r.fill) g seen.means in
-      let f = some_form i.passed cs i.reached.behind (rows_are b) in
-      none f.0 f.1
+  -- it may not stand behind those passed
+  lies : {fault : FillFault} → RowLies whose i.fills cs (n + 1) fault → FillLies whose s (Some fault)
+  lies w =
+      row i.size (bytes (λ (z : s ≡ []). let l = ap length z in let m = i.some in omega arith) i.reached.reading)
+      (record { before = i.passed; behind = i.reached.behind; are = i.reached.are; number = i.reached.number })
+      (record { forms = i.forms; once = i.once }) w
 
-  module _ (g : r.good ≡ true) where
-    pub means : Form whose cs r.fill
-    means = subst (λ (x : Bool). FillGiven whose x cs r.fill) g seen.means
+  pub walk_fault : {fault : FillFault} → MeantBy whose s c (n + 1) (Err fault) → FillLies whose s (Some fault)
+  walk_fault {fault} w = lies (meant (Err fault) w i.fills)
 
-    pub small : Small r.fill
+  module _ {f : Fill} (w : MeantBy whose s c (n + 1) (Ok f)) where
+    means : Form whose cs f
+    means = meant (Ok f) w
+
+    pub small : Small f
     small = form_small means
 
-    module _ {key : TwoWords} (is : KeyIs r.fill.member r.fill.soil r.fill.slope key) {found : ℕ} (place : FoundAt high low n key found) where
-      pub walk_twice : found < n → (fs : List Fill) → FillBook whose s fs → ⊥
-      walk_twice l fs b =
-          let listed = found_lists i.digest is small.soil.1 small.slope.1 place l in
-          let c = cut i.reached.behind i.forms means (rows_are b) in
+    module _ {key : TwoWords} (is : KeyIs f.member f.soil f.slope key) where
+      pub walk_twice : {found : ℕ} → FoundAt ws key (Some found) → FillLies whose s (Some (Twice (n + 1) (found + 1)))
+      walk_twice {found} place =
           let many = i.digest.many in
-          let within = listed.within in
-          let e = c.are in
-          let at_end : get_or fs (length i.fills) no_fill ≡ r.fill = ap (λ (x : List Fill). get_or x (length i.fills) no_fill) e ∙ get_or_at i.fills r.fill c.behind no_fill (length i.fills) refl in
-          let before = ap (λ (x : List Fill). get_or x listed.at no_fill) e ∙ get_or-append i.fills (r.fill ∷ c.behind) no_fill listed.at within ∙ listed.is in
-          b.once listed.at (length i.fills) within (omega (arith, ap length e, length-append i.fills (r.fill ∷ c.behind)))
-          (record {
-            member = ap (λ (x : Fill). x.member) before ∙ sym (ap (λ (x : Fill). x.member) at_end);
-            soil = ap (λ (x : Fill). x.soil) before ∙ sym (ap (λ (x : Fill). x.soil) at_end);
-            slope = ap (λ (x : Fill). x.slope) before ∙ sym (ap (λ (x : Fill). x.slope) at_end);
-          })
+          let within = place.0 in
+          let same = found_fill i.digest is small.soil.1 small.slope.1 place in
+          lies
+          (twice means (nth_at no_fill i.fills found (omega arith))
+          (record { member = ap (λ (g : Fill). g.member) same; soil = ap (λ (g : Fill). g.soil) same; slope = ap (λ (g : Fill). g.slope) same }))
 
-      module _ (new : found < n → ⊥) where
-        once : Once (i.fills ++ r.fill ∷ [])
-        once = once_more r.fill i.once (not_found i.digest is small.soil.1 small.slope.1 place new)
+      module _ (new : FoundAt ws key None) where
+        abbrev these : FillWords
+        these = record { key = key; value = f.value }
 
-        held : DigestOf (i.fills ++ r.fill ∷ []) (n + 1) (set high n key.high) (set low n key.low) (set value n r.fill.value)
-        held =
-            let k = walk_room i in
-            let a = i.long.high_long in
-            let b = i.long.low_long in
-            let c = i.long.value_long in
-            digest_more i.digest (omega arith, omega arith, omega arith) r.fill key.high key.low r.fill.value
-            (record { small = small; high_is = is.high; low_is = is.low; value_is = refl })
+        once : Once (i.fills ++ f ∷ [])
+        once = once_more f i.once (not_found i.digest is small.soil.1 small.slope.1 new)
 
-        pub longer : Places (set high n key.high) (set low n key.low) (set value n r.fill.value)
-        longer = record { high_long = length-set high n key.high ∙ i.long.high_long; low_long = length-set low n key.low ∙ i.long.low_long; value_long = length-set value n r.fill.value ∙ i.long.value_long }
+        held : DigestOf (i.fills ++ f ∷ []) (ws ++ these ∷ [])
+        held = digest_more i.digest f these (record { small = small; high_is = is.high; low_is = is.low; value_is = refl })
 
-        pub walk_more : r.next < length s → Walk whose s (n + 1) r.next (set high n key.high) (set low n key.low) (set value n r.fill.value)
+        pub walk_more : c.next < length s → Walk whose s (n + 1) c.next (ws ++ these ∷ [])
         walk_more k = record {
           size = i.size;
           some = i.some;
           passed = _;
           reached = reached_more i.reached seen.rest (seen.on k) k;
-          fills = i.fills ++ r.fill ∷ [];
+          fills = i.fills ++ f ∷ [];
           forms = forms_more i.forms means;
           once = once;
           digest = held;
-          room = let a = i.room in let b = seen.behind in let c = row_long means i.reached.here in omega arith;
-          long = longer;
+          many = let e = length-append ws (these ∷ []) in let m = i.many in omega arith;
+          room = let a = i.room in let b = seen.behind in let l = row_long means i.reached.here in omega arith;
           more_text = k;
         }
 
-        pub walk_last : length s ≤ r.next → Digested whose s (n + 1) (set high n key.high) (set low n key.low) (set value n r.fill.value)
+        pub walk_last : length s ≤ c.next → Digested whose s (ws ++ these ∷ [])
         walk_last k =
             let e = reached_last i.reached seen.rest k in
             record {
-              fills = i.fills ++ r.fill ∷ [];
+              fills = i.fills ++ f ∷ [];
               book = record {
                 size = i.size;
                 rows = i.passed ++ cs ∷ [];
@@ -250,8 +254,7 @@ module _ {whose : Whose} {s : List ℕ} {n at : ℕ} {high low value : List ℕ}
                 once = once;
               };
               digest = held;
-              few = let free = walk_room i in omega arith;
             }
 
-  pub walk_on : r.next < length s → at < r.next
+  pub walk_on : c.next < length s → at < c.next
   walk_on k = seen.on k

@@ -1,7 +1,6 @@
 pub mod fill_rows
 pub mod digest
 pub mod reading
-pub mod telling
 pub mod lookup
 pub mod FillBook
 pub mod faults

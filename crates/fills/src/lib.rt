@@ -11,49 +11,33 @@ pub mod fill_rows;
 pub mod lookup;
 mod reading;
 pub mod table2_book;
-mod telling;
 
-ghost use Rattle.std.specs.Prelude.{◌≤◌};
 ghost use Rattle.fills.specs.Values.{FiveByFive, ValuesGiven};
 ghost use Rattle.fills.specs.steps.Laid.{Held, Laid};
 
+use digest::Digest;
 use fields::names::Name;
 use fill_rows::Whose;
-use reading::Rows;
 
 // The fills of a member laid over values, each at its soil and slope.
-fn laid(
-    high: &[u64; 7282],
-    low: &[u64; 7282],
-    value: &[u32; 7282],
-    n: usize,
-    member: Name,
-    under: [[u32; 5]; 5],
-) -> [[u32; 5]; 5]
-    requires n_bound { n ≤ 7282 }
-    requires held { Held n high.now low.now value.now }
+fn laid(fills: &Digest, member: Name, under: [[u32; 5]; 5]) -> [[u32; 5]; 5]
+    requires held { Held fills.now }
     requires five_by_five { FiveByFive under }
-    ensures { Laid n high.now low.now value.now member under result }
+    ensures { Laid fills.now member under result }
 {
-    let mut held = under;
     // no row names a member with more than twelve letters
     if 12 < member.len {
-        return held;
+        return under;
     }
     let key = digest::name_key(member);
-    let h = key.high;
-    let l = key.low;
-    let mut i: usize = 0;
-    while i < n {
-        let at = low[i];
-        if high[i] == h {
-            if at / 64 == l {
-                let soil = (at / 8 % 8) as usize;
-                let slope = (at % 8) as usize;
-                held[soil - 1][slope - 1] = value[i];
-            }
+    let mut held = under;
+    for fill in fills.words() {
+        let at = fill.key.low;
+        if fill.key.high == key.high && at / 64 == key.low {
+            let soil = (at / 8 % 8) as usize;
+            let slope = (at % 8) as usize;
+            held[soil - 1][slope - 1] = fill.value;
         }
-        i += 1;
     }
     held
 }
@@ -69,30 +53,17 @@ pub fn values_for(
 ) -> bool
     ensures { ValuesGiven own.now common.now members n values.old values.new result }
 {
-    let mut high = [0u64; 7282];
-    let mut low = [0u64; 7282];
-    let mut value = [0u32; 7282];
-    let Rows::Given(commons) = reading::read_rows(
-        common,
-        Whose::Common,
-        &mut high,
-        &mut low,
-        &mut value,
-    ) else {
+    let mut fills = Digest::new();
+    if reading::read_rows(common, Whose::Common, &mut fills).is_err() {
         return false;
-    };
+    }
     let nobody = fields::names::blank_name();
-    let blank = [[0u32; 5]; 5];
-    let shared = laid(&high, &low, &value, commons, nobody, blank);
-    let Rows::Given(owns) = reading::read_rows(own, Whose::Own, &mut high, &mut low, &mut value)
-    else {
+    let shared = laid(&fills, nobody, [[0u32; 5]; 5]);
+    if reading::read_rows(own, Whose::Own, &mut fills).is_err() {
         return false;
-    };
-    let mut k: usize = 0;
-    while (k < n) & (k < 64) {
-        let member = members[k];
-        values[k] = laid(&high, &low, &value, owns, member, shared);
-        k += 1;
+    }
+    for k in 0..n.min(64) {
+        values[k] = laid(&fills, members[k], shared);
     }
     true
 }

@@ -1,78 +1,59 @@
-// The rows of a fill book, one by one (02, P4): their fills in words; or that the bytes are no fill book (refusal 8).
+// The rows of a fill book, one by one (02, P4): their fills in words; or where the refusal of the bytes lies (8).
 //
 // The loop's invariant is in the words of `specs/FillBook.antt`: the rows passed mean the fills that are held, and none of these is listed twice.
-ghost use Rattle.std.specs.Prelude.{◌≤◌, ◌<◌, length};
+ghost use Rattle.std.specs.Prelude.{◌≡◌, ◌≤◌, ◌<◌, [], length};
 ghost use Rattle.csv_text.specs.rfc4180.Rfc4180.{Readable};
-ghost use Rattle.fills.specs.reading.Rows.{Places, RowsAre};
+ghost use Rattle.fills.specs.reading.Rows.{RowsAre};
 
+use crate::digest::{Digest, FillWords};
+use crate::faults::FillFault;
 use crate::fill_rows::Whose;
 use crate::{digest, fill_rows};
 
-// How many fills a book has; or that it is refused.
-#[derive(Clone, Copy)]
-pub enum Rows {
-    Given(usize),
-    Refused,
-}
-
 // The fills of an RFC 4180 text that is not empty.
-fn walk(
-    s: &[u8],
-    whose: Whose,
-    high: &mut [u64; 7282],
-    low: &mut [u64; 7282],
-    value: &mut [u32; 7282],
-) -> Rows
-    requires s_nonzero { (0 < length s.now) × (length s.now ≤ 65536) }
+fn walk(s: &[u8], whose: Whose, fills: &mut Digest) -> Result<(), FillFault>
+    requires some { 0 < length s.now }
+    requires few { length s.now ≤ 65536 }
     requires readable { Readable s.now }
-    requires places { Places high.old low.old value.old }
-    ensures rows_are { RowsAre whose s.now high.new low.new value.new result }
-    ensures places_2 { Places high.new low.new value.new }
+    requires none { fills.old ≡ [] }
+    ensures { RowsAre whose s.now fills.new result }
 {
     let mut n: usize = 0;
     let mut at: usize = 0;
-    loop {
-        let read = fill_rows::fill_at(s, at, whose);
-        if !read.good {
-            return Rows::Refused;
-        }
-        let fill = read.fill;
-        let member = fill.member;
-        let key = digest::fill_key(member, fill.soil, fill.slope);
-        if digest::find(high, low, n, key) < n {
-            return Rows::Refused;
-        }
-        high[n] = key.high;
-        low[n] = key.low;
-        value[n] = fill.value;
+    'rows: loop {
         n += 1;
-        at = read.next;
+        let cells = csv_text::cells::cells_at(s, at);
+        let fill = fill_rows::fill_of(s, cells, whose, n)?;
+        let key = digest::fill_key(fill.member, fill.soil, fill.slope);
+        if let Some(place) = fills.find(key) {
+            let earlier = place + 1;
+            return Err(FillFault::Twice(n, earlier));
+        }
+        fills.push(FillWords {
+            key,
+            value: fill.value,
+        });
+        at = cells.next;
         if s.len() <= at {
-            return Rows::Given(n);
+            break;
         }
     }
+    Ok(())
 }
 
-// The fills of a book, in words.
-pub(crate) fn read_rows(
-    s: &[u8],
-    whose: Whose,
-    high: &mut [u64; 7282],
-    low: &mut [u64; 7282],
-    value: &mut [u32; 7282],
-) -> Rows
-    requires { Places high.old low.old value.old }
-    ensures rows_are { RowsAre whose s.now high.new low.new value.new result }
-    ensures places { Places high.new low.new value.new }
+// The fills of a book, in words; or where its refusal lies.
+pub(crate) fn read_rows(s: &[u8], whose: Whose, fills: &mut Digest) -> Result<(), FillFault>
+    ensures { RowsAre whose s.now fills.new result }
 {
+    fills.clear();
     if 65536 < s.len() {
-        return Rows::Refused;
+        return Err(FillFault::TooLong);
     }
-    if s.len() == 0 {
-        return Rows::Given(0);
+    if s.is_empty() {
+        return Ok(());
     }
     if !csv_text::is_csv(s) {
-        return Rows::Refused;
+        return Err(FillFault::Text(csv_text::strays::text_fault(s)));
     }
-    walk(s, whose, high, low, value)
+    walk(s, whose, fills)
 }

@@ -4,16 +4,18 @@ use native.Mathlib.Decide.{dec_lt}
 use native.Mathlib.Omega.{arith}
 use mathlib.Core.Path.{◌≡◌, refl, sym, ap, subst, ◌∙◌}
 use mathlib.Core.List.{List, [], ◌∷◌, ◌++◌}
-use lib.ListN.{length, get_or, set, replicate, length-append, length-replicate, get_or-replicate, get_or-append}
-use lib.Seq.{ext_get_or, get_or-append-add, get_or-set_same, get_or-set_other}
+use lib.ListN.{length, get_or, replicate, length-append, length-replicate, get_or-replicate, get_or-append}
+use lib.Seq.{ext_get_or, get_or_at, get_or-append-add}
+use Rattle.std.specs.Prelude.{Some, None}
 use Rattle.arithmetic.proofs.Cases.{by_cases}
 use Rattle.fields.specs.names.Names.{name}
 use Rattle.fields.specs.declared.names.Name.{Name}
 use Rattle.fills.specs.declared.fill_rows.Fill.{Fill}
 use Rattle.fills.specs.declared.digest.TwoWords.{TwoWords}
+use Rattle.fills.specs.declared.digest.FillWords.{FillWords}
 use Rattle.fills.specs.FillBook.{no_fill, Lists, SamePlace}
 use Rattle.fills.specs.Says.{Lacks}
-use Rattle.fills.specs.digest.Digest.{word, word_at, high_of, low_of, Proper, KeyIs, WordsAt, FoundAt, Small, InWords, DigestOf}
+use Rattle.fills.specs.digest.Digest.{word, word_at, high_of, low_of, Proper, KeyIs, no_words, WordsAt, FoundAt, InWords, DigestOf}
 
 -- one byte more
 last_byte : (x y a b : ℕ) → a < 256 → b < 256 → x * 256 + a ≡ y * 256 + b → (x ≡ y) × (a ≡ b)
@@ -28,18 +30,6 @@ six P a b c d e f (suc (suc (suc zero))) l = d
 six P a b c d e f (suc (suc (suc (suc zero)))) l = e
 six P a b c d e f (suc (suc (suc (suc (suc zero))))) l = f
 six P a b c d e f (suc (suc (suc (suc (suc (suc k)))))) l = absurd (omega arith)
-
--- twelve bytes, of which each six are
-abbrev Bytes : List ℕ → ℕ → Type 0
-Bytes bs at =
-    ((get_or bs at 0 < 256) × (get_or bs (at + 1) 0 < 256) × (get_or bs (at + 2) 0 < 256)) × ((get_or bs (at + 3) 0 < 256) × (get_or bs (at + 4) 0 < 256) × (get_or bs (at + 5) 0 < 256))
-
-pub halves : (bs : List ℕ) → Bytes bs 0 → Bytes bs 6 → (k : ℕ) → k < 12 → get_or bs k 0 < 256
-halves bs front back k l =
-    by_cases (dec_lt k 6) (λ h. six (λ (i : ℕ). get_or bs i 0 < 256) front.0.0 front.0.1 front.0.2 front.1.0 front.1.1 front.1.2 k h)
-    (λ h.
-    let d : 6 + (k - 6) ≡ k = omega arith in
-    subst (λ (i : ℕ). get_or bs i 0 < 256) d (six (λ (i : ℕ). get_or bs (6 + i) 0 < 256) back.0.0 back.0.1 back.0.2 back.1.0 back.1.1 back.1.2 (k - 6) (omega arith)))
 
 -- a word is that of one list of six bytes
 module _ (xs ys : List ℕ) (at : ℕ) (small : (k : ℕ) → k < 6 → get_or xs (at + k) 0 < 256) (low : (k : ℕ) → k < 6 → get_or ys (at + k) 0 < 256) where
@@ -91,53 +81,51 @@ three : (x y a b c d : ℕ) → a ≤ 5 → b ≤ 5 → c ≤ 5 → d ≤ 5 → 
 three x y a b c d h i j k e = (omega arith, omega arith, omega arith)
 
 -- the words that are found are those of one member, soil and slope
-module _ {fs : List Fill} {n : ℕ} {high low value : List ℕ} (digest : DigestOf fs n high low value) {member : Name} {soil slope : ℕ} {key : TwoWords} (is : KeyIs member soil slope key) (s : soil ≤ 5) (p : slope ≤ 5) where
-  words_tell : (k : ℕ) → k < n → WordsAt high low key k → get_or fs k no_fill ≡ record { member = member; soil = soil; slope = slope; value = get_or value k 0 }
+module _ {fs : List Fill} {ws : List FillWords} (digest : DigestOf fs ws) {member : Name} {soil slope : ℕ} {key : TwoWords} (is : KeyIs member soil slope key) (s : soil ≤ 5) (p : slope ≤ 5) where
+  words_tell : (k : ℕ) → k < length ws → WordsAt ws key k → get_or fs k no_fill ≡ record { member = member; soil = soil; slope = slope; value = (get_or ws k no_words).value }
   words_tell k l w =
       let h = digest.holds k l in
       let f = get_or fs k no_fill in
-      let t = three (low_of f.member) (low_of member) f.soil f.slope soil slope h.small.soil.1 h.small.slope.1 s p (sym h.low_is ∙ w.1 ∙ is.low) in
-      let m = names_one h.small.member is.proper (sym h.high_is ∙ w.0 ∙ is.high) t.0 in
+      let high = ap (λ (x : TwoWords). x.high) w in
+      let low = ap (λ (x : TwoWords). x.low) w in
+      let t = three (low_of f.member) (low_of member) f.soil f.slope soil slope h.small.soil.1 h.small.slope.1 s p (sym h.low_is ∙ low ∙ is.low) in
+      let m = names_one h.small.member is.proper (sym h.high_is ∙ high ∙ is.high) t.0 in
       let a = t.1 in
       let b = t.2 in
       let v = sym h.value_is in
       λ i. record { member = m i; soil = a i; slope = b i; value = v i }
 
-  tell_words : {v : ℕ} (w : Lists fs member soil slope v) → WordsAt high low key w.at
+  tell_words : {v : ℕ} (w : Lists fs member soil slope v) → WordsAt ws key w.at
   tell_words w =
       let many = digest.many in
       let within = w.within in
       let h = digest.holds w.at (omega arith) in
       let e = w.is in
       let m = ap (λ (f : Fill). f.member) e in
-      (h.high_is ∙ ap high_of m ∙ sym is.high, h.low_is ∙ ap (λ (f : Fill). low_of f.member * 64 + f.soil * 8 + f.slope) e ∙ sym is.low)
+      let high = h.high_is ∙ ap high_of m ∙ sym is.high in
+      let low = h.low_is ∙ ap (λ (f : Fill). low_of f.member * 64 + f.soil * 8 + f.slope) e ∙ sym is.low in
+      λ i. record { high = high i; low = low i }
 
-  module _ {r : ℕ} (found : FoundAt high low n key r) where
-    pub found_fill : r < n → get_or fs r no_fill ≡ record { member = member; soil = soil; slope = slope; value = get_or value r 0 }
-    found_fill l = words_tell r l (found.there l)
+  pub found_fill : {r : ℕ} → FoundAt ws key (Some r) → get_or fs r no_fill ≡ record { member = member; soil = soil; slope = slope; value = (get_or ws r no_words).value }
+  found_fill {r} found = words_tell r found.0 found.1
 
-    pub found_lists : r < n → Lists fs member soil slope (get_or value r 0)
-    found_lists l = let many = digest.many in record { at = r; within = omega arith; is = found_fill l }
-
-    pub not_found : (r < n → ⊥) → Lacks fs member soil slope
-    not_found l v w =
-        let many = digest.many in
-        let within = w.within in
-        found.before w.at (omega (arith, l)) (tell_words w)
+  pub not_found : FoundAt ws key None → Lacks fs member soil slope
+  not_found found v w =
+      let many = digest.many in
+      let within = w.within in
+      found w.at (omega arith) (tell_words w)
 
 -- one fill more
-module _ {fs : List Fill} {n : ℕ} {high low value : List ℕ} (digest : DigestOf fs n high low value) (long : (n < length high) × (n < length low) × (n < length value)) (f : Fill) (h l v : ℕ) (w : InWords f h l v) where
-  pub digest_more : DigestOf (fs ++ f ∷ []) (n + 1) (set high n h) (set low n l) (set value n v)
-  digest_more =
-      let many = digest.many in
-      record {
-        many = let e = length-append fs (f ∷ []) in omega arith;
-        holds = λ k b.
-            by_cases (dec_lt k n)
-            (λ a.
-            rw (get_or-append fs (f ∷ []) no_fill k (omega arith), get_or-set_other high n k h 0 (λ e. omega arith), get_or-set_other low n k l 0 (λ e. omega arith), get_or-set_other value n k v 0 (λ e. omega arith))
-            (digest.holds k a))
-            (λ a.
-            let e : k ≡ n = omega arith in
-            rw (e, ap (λ (i : ℕ). get_or (fs ++ f ∷ []) i no_fill) many, lib.Seq.get_or-append_seam fs f [] no_fill, get_or-set_same high n h 0 long.0, get_or-set_same low n l 0 long.1, get_or-set_same value n v 0 long.2) w);
-      }
+pub digest_more : {fs : List Fill} {ws : List FillWords} → DigestOf fs ws → (f : Fill) (w : FillWords) → InWords f w → DigestOf (fs ++ f ∷ []) (ws ++ w ∷ [])
+digest_more {fs} {ws} digest f w is =
+    let many = digest.many in
+    record {
+      many = let e = length-append fs (f ∷ []) in let d = length-append ws (w ∷ []) in omega arith;
+      holds = λ k b.
+          by_cases (dec_lt k (length ws))
+          (λ a. rw (get_or-append fs (f ∷ []) no_fill k (omega arith), get_or-append ws (w ∷ []) no_words k a) (digest.holds k a))
+          (λ a.
+          let d = length-append ws (w ∷ []) in
+          let e : length ws ≡ k = omega arith in
+          rw (get_or_at fs f [] no_fill k (sym many ∙ e), get_or_at ws w [] no_words k e) is);
+    }

@@ -10,21 +10,26 @@ use lib.Seq.{get_or_at}
 use Rattle.arithmetic.proofs.Cases.{by_cases, impossible}
 use Rattle.arithmetic.proofs.rounding.Laws.{least_one}
 use Rattle.csv_text.specs.rfc4180.Rfc4180.{Cell, plain, none, only, last, Readable}
+use mathlib.Core.Bool.{true, false}
+use Rattle.std.specs.Prelude.{Option, Some, None, Result, Ok, Err}
+use Rattle.std.specs.Result.{result_err, is_err}
 use Rattle.csv_text.specs.Nth.{Nth}
+use Rattle.csv_text.specs.declared.strays.TextFault.{TextFault}
 use Rattle.csv_text.proofs.strays.Answers as strays
 use Rattle.csv_text.proofs.Lists.{heads, tails, conses, level}
 use Rattle.fills.specs.declared.fill_rows.Fill.{Fill}
 use Rattle.fills.specs.declared.fill_rows.Whose.{Whose}
 use Rattle.fills.specs.declared.fill_rows.Whose.TheVariants.{Own, Common}
 use Rattle.fills.specs.declared.faults.FillFault.{FillFault}
-use Rattle.fills.specs.declared.faults.FillFault.TheVariants.{Sound, Text, Count, Column, Twice}
+use Rattle.fills.specs.declared.faults.FillFault.TheVariants.{Text, Count, Column, Twice}
 use Rattle.fills.specs.FillBook.{TextRows, no_bytes, bytes, Forms, no_fill, SamePlace, Once, FillBook}
 use Rattle.fills.specs.Says.{Accepted}
+use Rattle.fills.specs.declared.digest.FillWords.{FillWords}
+use Rattle.fills.specs.reading.Rows.{Digested, RowsAre}
 use Rattle.fills.specs.faults.Faults.{Begins, RowLies, count, column, twice, FillLies, sound, too_long, text, row}
-use Rattle.fills.specs.telling.Told.{RefusedFor}
 use Rattle.fills.proofs.OneReading.{form_one, forms_one, text_one, one_place}
 use Rattle.fills.proofs.fill_rows.Cells.{form_length}
-use Rattle.fills.proofs.TellWalking.{some_form, cut, row_unsound}
+use Rattle.fills.proofs.Walking.{some_form, cut}
 use Rattle.fills.proofs.faults.Columns.{wrong_formless}
 
 -- the n-th of a list, by its place
@@ -112,7 +117,7 @@ text_readable (bytes n q) = record { rows = _; reading = q }
 
 -- no fault is told of a fill book: it has no bad row, and its text is RFC 4180
 module _ {whose : Whose} {s : List ℕ} {fs : List Fill} (b : FillBook whose s fs) where
-  pub book_sound : {fault : FillFault} → FillLies whose s fault → fault ≡ Sound
+  pub book_sound : {fault : Option FillFault} → FillLies whose s fault → fault ≡ None
   book_sound (sound d) = refl
   book_sound (too_long l) = let size = b.size in absurd (omega arith)
   book_sound (text l t n) = absurd (strays.fault_unreadable t n (text_readable b.text))
@@ -120,7 +125,7 @@ module _ {whose : Whose} {s : List ℕ} {fs : List Fill} (b : FillBook whose s f
       absurd (bad_row a.before cs a.behind x.forms v (subst (λ (r : List (List Cell)). Forms whose r fs) (text_one b.text t ∙ a.are) b.forms) b.once)
 
 -- what `fill_fault` promises is met by one answer only
-pub fill_lies_one : {whose : Whose} {s : List ℕ} {a b : FillFault} → FillLies whose s a → FillLies whose s b → a ≡ b
+pub fill_lies_one : {whose : Whose} {s : List ℕ} {a b : Option FillFault} → FillLies whose s a → FillLies whose s b → a ≡ b
 fill_lies_one (sound b) q = sym (book_sound b q)
 fill_lies_one (too_long l) (sound b) = book_sound b (too_long l)
 fill_lies_one (too_long l) (too_long k) = refl
@@ -128,32 +133,43 @@ fill_lies_one (too_long l) (text k t n) = absurd (omega arith)
 fill_lies_one (too_long l) (row k t a x v) = absurd (omega arith)
 fill_lies_one (text l t n) (sound b) = book_sound b (text l t n)
 fill_lies_one (text l t n) (too_long k) = absurd (omega arith)
-fill_lies_one (text l t n) (text k u m) = ap Text (strays.text_one t u)
+fill_lies_one (text l t n) (text k u m) = ap (λ (f : TextFault). Some (Text f)) (strays.text_one t u)
 fill_lies_one (text l t n) (row k u a x v) = absurd (strays.fault_unreadable t n (text_readable u))
 fill_lies_one (row l t a x v) (sound b) = book_sound b (row l t a x v)
 fill_lies_one (row l t a x v) (too_long k) = absurd (omega arith)
 fill_lies_one (row l t a x v) (text k u n) = absurd (strays.fault_unreadable u n (text_readable t))
-fill_lies_one (row l t a x v) (row k u b y w) = first_one a (record { before = b.before; behind = b.behind; are = text_one t u ∙ b.are; number = b.number }) x y v w
+fill_lies_one (row l t a x v) (row k u b y w) = ap Some (first_one a (record { before = b.before; behind = b.behind; are = text_one t u ∙ b.are; number = b.number }) x y v w)
 
 -- and where none is told there is one, so that a fault is refusal 8
-pub sound_book : {whose : Whose} {s : List ℕ} {fault : FillFault} → fault ≡ Sound → FillLies whose s fault → (fs : List Fill) × FillBook whose s fs
+pub sound_book : {whose : Whose} {s : List ℕ} {fault : Option FillFault} → fault ≡ None → FillLies whose s fault → (fs : List Fill) × FillBook whose s fs
 sound_book e (sound {fs} b) = (fs, b)
 sound_book e (too_long l) = impossible cc
 sound_book e (text l t n) = impossible cc
-sound_book e (row l t a x v) = absurd (row_unsound v e)
+sound_book e (row l t a x v) = impossible cc
 
-pub fault_refused : {whose : Whose} {s : List ℕ} {fault : FillFault} → FillLies whose s fault → (fault ≡ Sound → ⊥) → (fs : List Fill) → FillBook whose s fs → ⊥
-fault_refused l n fs b = n (book_sound b l)
-
-pub refused_book : {whose : Whose} {s : List ℕ} {fault : FillFault} → RefusedFor whose s fault → (fs : List Fill) → FillBook whose s fs → ⊥
-refused_book r = fault_refused r.lies r.unsound
+pub refused_book : {whose : Whose} {s : List ℕ} {fault : FillFault} → FillLies whose s (Some fault) → (fs : List Fill) → FillBook whose s fs → ⊥
+refused_book l fs b = let e = book_sound b l in impossible cc
 
 -- two books are accepted exactly where no fault is told of either
-pub accepted_sound : {own common : List ℕ} {a b : FillFault} → Accepted own common → FillLies Own own a → FillLies Common common b → (a ≡ Sound) × (b ≡ Sound)
+pub accepted_sound : {own common : List ℕ} {a b : Option FillFault} → Accepted own common → FillLies Own own a → FillLies Common common b → (a ≡ None) × (b ≡ None)
 accepted_sound w p q = (book_sound w.is_own p, book_sound w.is_common q)
 
-pub sound_accepted : {own common : List ℕ} {a b : FillFault} → FillLies Own own a → FillLies Common common b → a ≡ Sound → b ≡ Sound → Accepted own common
+pub sound_accepted : {own common : List ℕ} {a b : Option FillFault} → FillLies Own own a → FillLies Common common b → a ≡ None → b ≡ None → Accepted own common
 sound_accepted p q e f =
     let mine = sound_book e p in
     let all = sound_book f q in
     record { owns = mine.0; commons = all.0; is_own = mine.1; is_common = all.1 }
+
+-- of a book that is read, where its refusal lies
+pub lies_of : {whose : Whose} {s : List ℕ} (ws : List FillWords) (r : Result (Unit {0}) FillFault) → RowsAre whose s ws r → FillLies whose s (result_err r)
+lies_of ws (Ok done) d = sound d.book
+lies_of ws (Err fault) l = l
+
+-- and whether it is refused
+pub refused_of : {whose : Whose} {s : List ℕ} (ws : List FillWords) (r : Result (Unit {0}) FillFault) → RowsAre whose s ws r → is_err r ≡ true → (fs : List Fill) → FillBook whose s fs → ⊥
+refused_of ws (Ok done) d e = impossible cc
+refused_of ws (Err fault) l e = refused_book l
+
+pub given_of : {whose : Whose} {s : List ℕ} {ws : List FillWords} (r : Result (Unit {0}) FillFault) → RowsAre whose s ws r → is_err r ≡ false → Digested whose s ws
+given_of (Ok done) d e = d
+given_of (Err fault) l e = impossible cc

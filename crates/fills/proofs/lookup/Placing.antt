@@ -5,6 +5,7 @@ use mathlib.Core.Path.{◌≡◌, refl, sym, ap, subst, ◌∙◌}
 use mathlib.Core.Bool.{Bool, true, false}
 use mathlib.Core.List.{List, [], ◌∷◌, ◌++◌}
 use lib.ListN.{length, get_or, length-append}
+use Rattle.std.specs.Prelude.{Option, Some, None, Ok}
 use Rattle.arithmetic.proofs.Cases.{impossible}
 use Rattle.csv_text.specs.rfc4180.Rfc4180.{Cell, File}
 use Rattle.csv_text.specs.Part.{part}
@@ -20,14 +21,18 @@ use Rattle.fills.specs.declared.fill_rows.Fill.{Fill}
 use Rattle.fills.specs.declared.fill_rows.Whose.{Whose}
 use Rattle.fills.specs.declared.fill_rows.Whose.TheVariants as whose
 use Rattle.fills.specs.declared.lookup.Place.{Place}
-use Rattle.fills.specs.declared.lookup.Place.TheVariants.{Own, Common, Nowhere}
+use Rattle.fills.specs.declared.lookup.Place.TheVariants.{Own, Common}
+use Rattle.fills.specs.declared.lookup.Lies.{Lies}
+use Rattle.fills.specs.declared.faults.FillFault.{FillFault}
+use Rattle.fills.specs.faults.Faults.{FillLies}
 use Rattle.fills.specs.FillBook.{Forms, form, no_fill, Lists, FillBook}
 use Rattle.fills.specs.fill_rows.Form.{Form}
 use Rattle.fills.specs.Says.{Lacks}
 use Rattle.fills.specs.lookup.Lookup.{RowFor, LacksOwn, PlaceIs, refused, in_own, in_common, nowhere, stretch, RowIs}
-use Rattle.fills.specs.lookup.steps.Found.{WithoutRow}
+use Rattle.fills.specs.lookup.steps.Found.{WithoutRow, FoundIs}
 use Rattle.fills.proofs.OneReading.{form_one, rows_one, fills_one, one_place}
 use Rattle.fills.proofs.lookup.Rows.{rows_file}
+use Rattle.fills.proofs.faults.Lying.{refused_book}
 
 -- an own row has a name
 no_name_own : {s : List ℕ} {soil slope from to : ℕ} → RowFor whose.Own s no_name soil slope from to → ⊥
@@ -51,27 +56,25 @@ pub record HasBook (of : Whose) (s : List ℕ) : Type 0 where
   pub fills : List Fill
   pub book : FillBook of s fills
 
-pub with_row : {of : Whose} {s : List ℕ} {m : Name} {soil slope from to : ℕ} → RowFor of s m soil slope from to → HasBook of s
-with_row r = record { fills = r.fills; book = r.book }
-
-pub without_row : {of : Whose} {s : List ℕ} {m : Name} {soil slope : ℕ} → WithoutRow of s m soil slope → HasBook of s
-without_row r = record { fills = r.fills; book = r.book }
+pub has_book : {of : Whose} {s : List ℕ} (m : Name) (soil slope : ℕ) (found : Option Lies) → FoundIs of s m soil slope (Ok found) → HasBook of s
+has_book m soil slope (Some lies) r = record { fills = r.fills; book = r.book }
+has_book m soil slope None r = record { fills = r.fills; book = r.book }
 
 module _ {own common member : List ℕ} {soil slope : ℕ} where
-  pub no_common : ((fs : List Fill) → FillBook whose.Common common fs → ⊥) → PlaceIs own common member soil slope Nowhere
-  no_common h = refused (λ b. h b.commons b.is_common) refl
+  pub no_common : {fault : FillFault} → FillLies whose.Common common (Some fault) → PlaceIs own common member soil slope None
+  no_common h = refused (λ b. refused_book h b.commons b.is_common) refl
 
-  pub no_own : ((fs : List Fill) → FillBook whose.Own own fs → ⊥) → PlaceIs own common member soil slope Nowhere
-  no_own h = refused (λ b. h b.owns b.is_own) refl
+  pub no_own : {fault : FillFault} → FillLies whose.Own own (Some fault) → PlaceIs own common member soil slope None
+  no_own h = refused (λ b. refused_book h b.owns b.is_own) refl
 
 module _ {own common member : List ℕ} {soil slope : ℕ} (read : NameRead) (named : ContentNamed read.good member read.name) where
-  pub own_row : {from to : ℕ} → RowFor whose.Own own read.name soil slope from to → HasBook whose.Common common → PlaceIs own common member soil slope (Own from to)
+  pub own_row : {from to : ℕ} → RowFor whose.Own own read.name soil slope from to → HasBook whose.Common common → PlaceIs own common member soil slope (Some (Own (record { from = from; to = to })))
   own_row r c = in_own (record { owns = r.fills; commons = c.fills; is_own = r.book; is_common = c.book }) (row_named read.good named r) r refl
 
-  pub common_row : {from to : ℕ} → WithoutRow whose.Own own read.name soil slope → RowFor whose.Common common no_name soil slope from to → PlaceIs own common member soil slope (Common from to)
+  pub common_row : {from to : ℕ} → WithoutRow whose.Own own read.name soil slope → RowFor whose.Common common no_name soil slope from to → PlaceIs own common member soil slope (Some (Common (record { from = from; to = to })))
   common_row w r = in_common (record { owns = w.fills; commons = r.fills; is_own = w.book; is_common = r.book }) (none_named read.good named w.lacks) r refl
 
-  pub no_row : WithoutRow whose.Own own read.name soil slope → WithoutRow whose.Common common no_name soil slope → PlaceIs own common member soil slope Nowhere
+  pub no_row : WithoutRow whose.Own own read.name soil slope → WithoutRow whose.Common common no_name soil slope → PlaceIs own common member soil slope None
   no_row w c = nowhere (record { owns = w.fills; commons = c.fills; is_own = w.book; is_common = c.book }) (none_named read.good named w.lacks) c.lacks refl
 
 -- a row lies within its book, and it is the row itself that lies there
@@ -98,30 +101,30 @@ module _ {of : Whose} {s : List ℕ} {m : Name} {soil slope from to : ℕ} (r : 
       let f : to ≡ row_start r.at.before + length (row_text r.row) = r.ends ∙ ap (λ (k : ℕ). k + length (row_text r.row)) e in
       (λ i. part (e i) (f i) s) ∙ row_lies s (row_start r.at.before) here.file
 
-module _ {own common member : List ℕ} {soil slope from to : ℕ} {p : Place} where
-  pub own_within : PlaceIs own common member soil slope p → p ≡ Own from to → (from ≤ to) × (to ≤ length own)
-  own_within (refused n e) f = impossible cc
-  own_within (in_own {from = a} {to = b} n w r e) f =
-      let x : a ≡ from = cc in
-      let y : b ≡ to = cc in
+module _ {own common member : List ℕ} {soil slope : ℕ} {lies : Lies} where
+  pub own_within : PlaceIs own common member soil slope (Some (Own lies)) → (lies.from ≤ lies.to) × (lies.to ≤ length own)
+  own_within (refused n e) = impossible cc
+  own_within (in_own {from = a} {to = b} n w r e) =
+      let x : lies.from ≡ a = cc in
+      let y : lies.to ≡ b = cc in
       let z = lies_within r in
       let u = z.0 in
       let v = z.1 in
       (omega arith, omega arith)
-  own_within (in_common n l r e) f = impossible cc
-  own_within (nowhere n l k e) f = impossible cc
+  own_within (in_common n l r e) = impossible cc
+  own_within (nowhere n l k e) = impossible cc
 
-  pub common_within : PlaceIs own common member soil slope p → p ≡ Common from to → (from ≤ to) × (to ≤ length common)
-  common_within (refused n e) f = impossible cc
-  common_within (in_own n w r e) f = impossible cc
-  common_within (in_common {from = a} {to = b} n l r e) f =
-      let x : a ≡ from = cc in
-      let y : b ≡ to = cc in
+  pub common_within : PlaceIs own common member soil slope (Some (Common lies)) → (lies.from ≤ lies.to) × (lies.to ≤ length common)
+  common_within (refused n e) = impossible cc
+  common_within (in_own n w r e) = impossible cc
+  common_within (in_common {from = a} {to = b} n l r e) =
+      let x : lies.from ≡ a = cc in
+      let y : lies.to ≡ b = cc in
       let z = lies_within r in
       let u = z.0 in
       let v = z.1 in
       (omega arith, omega arith)
-  common_within (nowhere n l k e) f = impossible cc
+  common_within (nowhere n l k e) = impossible cc
 
 -- a row that has a member, soil and slope stands where its fill does
 record FillHere (fs : List Fill) (k : ℕ) (f : Fill) : Type 0 where
@@ -161,7 +164,7 @@ row_listed : {of : Whose} {s : List ℕ} {m : Name} {soil slope from to : ℕ} (
 row_listed {m = m} {soil} {slope} r b = subst (λ (l : List Fill). Lists l m soil slope r.value) (fills_one r.book b) (record { at = _; within = (placed r).within; is = (placed r).is })
 
 module _ {own common member : List ℕ} {soil slope : ℕ} where
-  pub place_one : {p q : Place} → PlaceIs own common member soil slope p → PlaceIs own common member soil slope q → p ≡ q
+  pub place_one : {p q : Option Place} → PlaceIs own common member soil slope p → PlaceIs own common member soil slope q → p ≡ q
   place_one (refused n e) (refused m f) = e ∙ sym f
   place_one (refused n e) (in_own b w r f) = absurd (n b)
   place_one (refused n e) (in_common b l r f) = absurd (n b)
@@ -169,12 +172,12 @@ module _ {own common member : List ℕ} {soil slope : ℕ} where
   place_one (in_own b w r e) (refused m f) = absurd (m b)
   place_one (in_own {from = x} {to = y} b w r e) (in_own {from = u} {to = v} c z q f) =
       let o = row_one (subst (λ (n : Name). RowFor whose.Own own n soil slope x y) (name_one w z) r) q in
-      e ∙ (λ i. Own (o.0 i) (o.1 i)) ∙ sym f
+      e ∙ (λ i. Some (Own (record { from = o.0 i; to = o.1 i }))) ∙ sym f
   place_one (in_own b w r e) (in_common c l q f) = absurd (l _ w _ (row_listed r c.is_own))
   place_one (in_own b w r e) (nowhere c l k f) = absurd (l _ w _ (row_listed r c.is_own))
   place_one (in_common b l r e) (refused m f) = absurd (m b)
   place_one (in_common b l r e) (in_own c z q f) = absurd (l _ z _ (row_listed q b.is_own))
-  place_one (in_common b l r e) (in_common c k q f) = let o = row_one r q in e ∙ (λ i. Common (o.0 i) (o.1 i)) ∙ sym f
+  place_one (in_common b l r e) (in_common c k q f) = let o = row_one r q in e ∙ (λ i. Some (Common (record { from = o.0 i; to = o.1 i }))) ∙ sym f
   place_one (in_common b l r e) (nowhere c k j f) = absurd (j _ (row_listed r c.is_common))
   place_one (nowhere b l k e) (refused m f) = absurd (m b)
   place_one (nowhere b l k e) (in_own c z q f) = absurd (l _ z _ (row_listed q b.is_own))

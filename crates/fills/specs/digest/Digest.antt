@@ -1,8 +1,9 @@
--- The fills of a book in words: what `word`, `name_key`, `fill_key` and `find` answer, and arrays that hold fills.
-use Rattle.std.specs.Prelude.{ℕ, ◌+◌, ◌*◌, ◌≤◌, ◌<◌, ◌^◌, ◌≡◌, List, length, get_or}
+-- The fills of a book in words: what `word`, `name_key`, `fill_key` and `find` answer, and words that are those of fills.
+use Rattle.std.specs.Prelude.{ℕ, ◌+◌, ◌*◌, ◌≤◌, ◌<◌, ◌^◌, ◌≡◌, List, length, get_or, Option, Some, None}
 use Rattle.fields.specs.declared.names.Name.{Name}
 use Rattle.fills.specs.declared.fill_rows.Fill.{Fill}
 use Rattle.fills.specs.declared.digest.TwoWords.{TwoWords}
+use Rattle.fills.specs.declared.digest.FillWords.{FillWords}
 use Rattle.fills.specs.FillBook.{no_fill}
 
 -- six bytes in a word
@@ -41,15 +42,18 @@ pub record KeyIs (n : Name) (soil slope : ℕ) (key : TwoWords) : Type 0 where
   pub low : key.low ≡ low_of n * 64 + soil * 8 + slope
   pub proper : Proper n
 
--- the words at a place are these
-abbrev pub WordsAt : List ℕ → List ℕ → TwoWords → ℕ → Type 0
-WordsAt high low key k = (get_or high k 0 ≡ key.high) × (get_or low k 0 ≡ key.low)
+-- what stands in no list
+abbrev pub no_words : FillWords
+no_words = record { key = record { high = 0; low = 0 }; value = 0 }
 
--- the first place of n that has the words, or n
-pub record FoundAt (high low : List ℕ) (n : ℕ) (key : TwoWords) (r : ℕ) : Type 0 where
-  pub within : r ≤ n
-  pub there : r < n → WordsAt high low key r
-  pub before : (k : ℕ) → k < r → WordsAt high low key k → ⊥
+-- the words at a place are these
+abbrev pub WordsAt : List FillWords → TwoWords → ℕ → Type 0
+WordsAt ws key k = (get_or ws k no_words).key ≡ key
+
+-- the first place that has the words, or that none has them
+abbrev pub FoundAt : List FillWords → TwoWords → Option ℕ → Type 0
+FoundAt ws key (Some r) = (r < length ws) × WordsAt ws key r × ((k : ℕ) → k < r → WordsAt ws key k → ⊥)
+FoundAt ws key None = (k : ℕ) → k < length ws → WordsAt ws key k → ⊥
 
 -- a fill whose words tell it
 pub record Small (f : Fill) : Type 0 where
@@ -59,13 +63,13 @@ pub record Small (f : Fill) : Type 0 where
   pub value : (1 ≤ f.value) × (f.value ≤ 40000)
 
 -- a fill in words
-pub record InWords (f : Fill) (high low value : ℕ) : Type 0 where
+pub record InWords (f : Fill) (w : FillWords) : Type 0 where
   pub small : Small f
-  pub high_is : high ≡ high_of f.member
-  pub low_is : low ≡ low_of f.member * 64 + f.soil * 8 + f.slope
-  pub value_is : value ≡ f.value
+  pub high_is : w.key.high ≡ high_of f.member
+  pub low_is : w.key.low ≡ low_of f.member * 64 + f.soil * 8 + f.slope
+  pub value_is : w.value ≡ f.value
 
--- the first n places of the arrays hold these fills
-pub record DigestOf (fs : List Fill) (n : ℕ) (high low value : List ℕ) : Type 0 where
-  pub many : n ≡ length fs
-  pub holds : (k : ℕ) → k < n → InWords (get_or fs k no_fill) (get_or high k 0) (get_or low k 0) (get_or value k 0)
+-- these fills in words
+pub record DigestOf (fs : List Fill) (ws : List FillWords) : Type 0 where
+  pub many : length ws ≡ length fs
+  pub holds : (k : ℕ) → k < length ws → InWords (get_or fs k no_fill) (get_or ws k no_words)

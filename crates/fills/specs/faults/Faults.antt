@@ -1,6 +1,6 @@
 -- Where a refusal lies, 8: "too long; not RFC 4180, with its place; the first bad row: its number of fields, its first bad column, or the earlier
 -- row of the same member, soil and slope." Stated of one fill book, the members' own or the common one.
-use Rattle.std.specs.Prelude.{ℕ, ◌≤◌, ◌<◌, ◌≡◌, List, length}
+use Rattle.std.specs.Prelude.{ℕ, ◌≤◌, ◌<◌, ◌≡◌, List, length, Option, Some, None}
 use Rattle.arithmetic.specs.rounding.Least.{Least}
 use Rattle.csv_text.specs.rfc4180.Rfc4180.{Cell}
 use Rattle.csv_text.specs.Nth.{Nth}
@@ -12,7 +12,7 @@ use Rattle.fields.specs.declared.names.Name.{Name}
 use Rattle.fills.specs.declared.fill_rows.Fill.{Fill}
 use Rattle.fills.specs.declared.fill_rows.Whose.{Whose}
 use Rattle.fills.specs.declared.faults.FillFault.{FillFault}
-use Rattle.fills.specs.declared.faults.FillFault.TheVariants.{Sound, TooLong, Text, Count, Column, Twice}
+use Rattle.fills.specs.declared.faults.FillFault.TheVariants.{TooLong, Text, Count, Column, Twice}
 use Rattle.fills.specs.fill_rows.Form.{MemberIs, UpTo, Form}
 use Rattle.fills.specs.FillBook.{TextRows, Forms, SamePlace, Once, FillBook}
 
@@ -34,10 +34,10 @@ pub data RowLies (whose : Whose) (fs : List Fill) (cs : List Cell) (n : ℕ) : F
   column : {k : ℕ} → length cs ≡ 5 → Least (WrongColumn whose cs) k → RowLies whose fs cs n (Column n k)
   twice : {f earlier : Fill} {m : ℕ} → Form whose cs f → Nth fs m earlier → SamePlace earlier f → RowLies whose fs cs n (Twice n m)
 
--- where the refusal of a fill book lies
-pub data FillLies (whose : Whose) (s : List ℕ) : FillFault → Type 0 where
-  sound : {fs : List Fill} → FillBook whose s fs → FillLies whose s Sound
-  too_long : 65536 < length s → FillLies whose s TooLong
-  text : {fault : TextFault} → length s ≤ 65536 → TextSays s fault → (fault ≡ strays.Sound → ⊥) → FillLies whose s (Text fault)
+-- where the refusal of a fill book lies, if it is refused
+pub data FillLies (whose : Whose) (s : List ℕ) : Option FillFault → Type 0 where
+  sound : {fs : List Fill} → FillBook whose s fs → FillLies whose s None
+  too_long : 65536 < length s → FillLies whose s (Some TooLong)
+  text : {fault : TextFault} → length s ≤ 65536 → TextSays s fault → (fault ≡ strays.Sound → ⊥) → FillLies whose s (Some (Text fault))
   row : {rows : List (List Cell)} {n : ℕ} {cs : List Cell} {fs : List Fill} {fault : FillFault} → length s ≤ 65536 → TextRows s rows
-      → (at : Nth rows n cs) → Begins whose at.before fs → RowLies whose fs cs n fault → FillLies whose s fault
+      → (at : Nth rows n cs) → Begins whose at.before fs → RowLies whose fs cs n fault → FillLies whose s (Some fault)

@@ -1,6 +1,6 @@
 -- Document 02, P4: "A lookup hands back the matching row itself, still lying in whichever book holds it .. its CRLF is left out, and without a
 -- match, or where a fill book is refused, the stretch is empty." An own row wins.
-use Rattle.std.specs.Prelude.{ℕ, ◌+◌, ◌≡◌, List, [], length}
+use Rattle.std.specs.Prelude.{ℕ, ◌+◌, ◌≡◌, List, [], length, Option, Some, None}
 use Rattle.csv_text.specs.rfc4180.Rfc4180.{Cell}
 use Rattle.csv_text.specs.Nth.{Nth}
 use Rattle.csv_text.specs.Part.{part}
@@ -10,8 +10,9 @@ use Rattle.fields.specs.declared.names.Name.{Name}
 use Rattle.fills.specs.declared.fill_rows.Fill.{Fill}
 use Rattle.fills.specs.declared.fill_rows.Whose.{Whose}
 use Rattle.fills.specs.declared.fill_rows.Whose.TheVariants as whose
+use Rattle.fills.specs.declared.lookup.Lies.{Lies}
 use Rattle.fills.specs.declared.lookup.Place.{Place}
-use Rattle.fills.specs.declared.lookup.Place.TheVariants.{Own, Common, Nowhere}
+use Rattle.fills.specs.declared.lookup.Place.TheVariants.{Own, Common}
 use Rattle.fills.specs.fill_rows.Form.{Form}
 use Rattle.fills.specs.FillBook.{FillBook}
 use Rattle.fills.specs.Says.{Lacks, Accepted}
@@ -32,22 +33,22 @@ pub record RowFor (of : Whose) (s : List ℕ) (member : Name) (soil slope from t
 abbrev pub LacksOwn : List Fill → List ℕ → ℕ → ℕ → Type 0
 LacksOwn owns member soil slope = (name : Name) → NameOf member name → Lacks owns name soil slope
 
--- where the row that counts for a member, soil and slope lies
-pub data PlaceIs (own common member : List ℕ) (soil slope : ℕ) (p : Place) : Type 0 where
-  refused : (Accepted own common → ⊥) → p ≡ Nowhere → PlaceIs own common member soil slope p
-  in_own : {name : Name} {from to : ℕ} → Accepted own common → NameOf member name → RowFor whose.Own own name soil slope from to → p ≡ Own from to → PlaceIs own common member soil slope p
-  in_common : {from to : ℕ} (books : Accepted own common) → LacksOwn books.owns member soil slope → RowFor whose.Common common no_name soil slope from to → p ≡ Common from to
+-- where the row that counts for a member, soil and slope lies, if there is one and no book is refused
+pub data PlaceIs (own common member : List ℕ) (soil slope : ℕ) (p : Option Place) : Type 0 where
+  refused : (Accepted own common → ⊥) → p ≡ None → PlaceIs own common member soil slope p
+  in_own : {name : Name} {from to : ℕ} → Accepted own common → NameOf member name → RowFor whose.Own own name soil slope from to → p ≡ Some (Own (record { from = from; to = to })) → PlaceIs own common member soil slope p
+  in_common : {from to : ℕ} (books : Accepted own common) → LacksOwn books.owns member soil slope → RowFor whose.Common common no_name soil slope from to → p ≡ Some (Common (record { from = from; to = to }))
       → PlaceIs own common member soil slope p
-  nowhere : (books : Accepted own common) → LacksOwn books.owns member soil slope → Lacks books.commons no_name soil slope → p ≡ Nowhere → PlaceIs own common member soil slope p
+  nowhere : (books : Accepted own common) → LacksOwn books.owns member soil slope → Lacks books.commons no_name soil slope → p ≡ None → PlaceIs own common member soil slope p
 
 -- the stretch that lies at a place
-abbrev pub stretch : List ℕ → List ℕ → Place → List ℕ
-stretch own common (Own from to) = part from to own
-stretch own common (Common from to) = part from to common
-stretch own common Nowhere = []
+abbrev pub stretch : List ℕ → List ℕ → Option Place → List ℕ
+stretch own common (Some (Own lies)) = part lies.from lies.to own
+stretch own common (Some (Common lies)) = part lies.from lies.to common
+stretch own common None = []
 
 -- the row that counts, as the stretch that it is
 pub record RowIs (own common member : List ℕ) (soil slope : ℕ) (row : List ℕ) : Type 0 where
-  pub place : Place
+  pub place : Option Place
   pub lies : PlaceIs own common member soil slope place
   pub is : row ≡ stretch own common place

@@ -1,7 +1,8 @@
 -- What `laid` answers: the fills of a member laid over values, each at its soil and slope.
-use Rattle.std.specs.Prelude.{ℕ, suc, ◌<◌, ◌≡◌, List}
+use Rattle.std.specs.Prelude.{ℕ, suc, ◌<◌, ◌≡◌, List, length}
 use Rattle.fields.specs.declared.names.Name.{Name}
 use Rattle.fills.specs.declared.fill_rows.Fill.{Fill}
+use Rattle.fills.specs.declared.digest.FillWords.{FillWords}
 use Rattle.fills.specs.FillBook.{Lists}
 use Rattle.fills.specs.digest.Digest.{DigestOf}
 use Rattle.fills.specs.Values.{cell, FiveByFive}
@@ -15,11 +16,11 @@ pub record LaidOver (fs : List Fill) (n : ℕ) (member : Name) (before after : L
   pub shape : FiveByFive after
   pub each : (i j : ℕ) → i < 5 → j < 5 → LaidAt fs n member (suc i) (suc j) (cell before i j) (cell after i j)
 
--- the arrays hold some fills
-pub record Held (n : ℕ) (high low value : List ℕ) : Type 0 where
+-- these are some fills in words
+pub record Held (ws : List FillWords) : Type 0 where
   pub fills : List Fill
-  pub digest : DigestOf fills n high low value
+  pub digest : DigestOf fills ws
 
--- of whatever fills they hold
-abbrev pub Laid : ℕ → List ℕ → List ℕ → List ℕ → Name → List (List ℕ) → List (List ℕ) → Type 0
-Laid n high low value member before after = (fs : List Fill) → DigestOf fs n high low value → LaidOver fs n member before after
+-- of whatever fills they are
+abbrev pub Laid : List FillWords → Name → List (List ℕ) → List (List ℕ) → Type 0
+Laid ws member before after = (fs : List Fill) → DigestOf fs ws → LaidOver fs (length ws) member before after

@@ -1,5 +1,5 @@
 -- What `row_part` and `find_row` answer: where a row of one book lies.
-use Rattle.std.specs.Prelude.{ℕ, ◌+◌, ◌<◌, ◌≡◌, List, length}
+use Rattle.std.specs.Prelude.{ℕ, ◌+◌, ◌<◌, ◌≡◌, List, length, Option, Some, None, Result, Ok, Err}
 use Rattle.csv_text.specs.rfc4180.Rfc4180.{Cell}
 use Rattle.csv_text.specs.Nth.{Nth}
 use Rattle.csv_text.specs.cells.Standing.{row_text, row_start}
@@ -7,10 +7,10 @@ use Rattle.fields.specs.declared.names.Name.{Name}
 use Rattle.fills.specs.declared.fill_rows.Fill.{Fill}
 use Rattle.fills.specs.declared.fill_rows.Whose.{Whose}
 use Rattle.fills.specs.declared.lookup.Lies.{Lies}
-use Rattle.fills.specs.declared.lookup.Found.{Found}
-use Rattle.fills.specs.declared.lookup.Found.TheVariants.{At, Missing, Refused}
+use Rattle.fills.specs.declared.faults.FillFault.{FillFault}
 use Rattle.fills.specs.FillBook.{FillBook}
 use Rattle.fills.specs.Says.{Lacks}
+use Rattle.fills.specs.faults.Faults.{FillLies}
 use Rattle.fills.specs.lookup.Lookup.{RowFor}
 
 -- a fill book that has none
@@ -19,10 +19,10 @@ pub record WithoutRow (of : Whose) (s : List ℕ) (member : Name) (soil slope : 
   pub book : FillBook of s fills
   pub lacks : Lacks fills member soil slope
 
-abbrev pub FoundIs : Whose → List ℕ → Name → ℕ → ℕ → Found → Type 0
-FoundIs of s member soil slope (At from to) = RowFor of s member soil slope from to
-FoundIs of s member soil slope Missing = WithoutRow of s member soil slope
-FoundIs of s member soil slope Refused = (fs : List Fill) → FillBook of s fs → ⊥
+abbrev pub FoundIs : Whose → List ℕ → Name → ℕ → ℕ → Result (Option Lies) FillFault → Type 0
+FoundIs of s member soil slope (Ok (Some lies)) = RowFor of s member soil slope lies.from lies.to
+FoundIs of s member soil slope (Ok None) = WithoutRow of s member soil slope
+FoundIs of s member soil slope (Err fault) = FillLies of s (Some fault)
 
 -- a fill book that has a row n, the first being 0
 pub record HasRow (s : List ℕ) (n : ℕ) : Type 0 where
