@@ -12,7 +12,7 @@ use std::rt::{Env, Files};
 fn print_lines(rt: &impl Print, err: &impl Print, book: &[u8], own: &[u8], common: &[u8]) {
     let mut lines = [0u8; 131072];
     let len = debtarush::book_lines(book, own, common, &mut lines);
-    if rt.write_all(&lines[0..len]).is_err() {
+    if rt.write_all(&lines[..len]).is_err() {
         files::put(err, b"corpus_fills: the lines could not be written\n");
     }
 }
@@ -25,11 +25,11 @@ fn print_named(
     own: &[u8],
     common: &[u8],
 ) {
-    let mut name = [0u8; 4096];
     let mut text = [0u8; 65537];
     let Some(got) = files::read_argument(rt, err, b"corpus_fills", i, &mut text) else {
         return;
     };
+    let mut name = [0u8; 4096];
     let len = files::argument(rt, i, &mut name);
     files::put(rt, &name[..len]);
     files::put(rt, b"\r\n");
@@ -61,10 +61,7 @@ fn main(rt: HostRuntime) {
         );
         return;
     }
-    let books = count / 3;
-    let mut n: usize = 0;
-    while n < books {
+    for n in 0..count / 3 {
         print_with(&rt, &err, 3 * n + 1);
-        n += 1;
     }
 }

@@ -35,7 +35,6 @@ impl<'a> WrongFills<'a> {
     fn fmt_fault<W: fmt::Write>(&self, f: &mut fmt::Formatter<W>) -> fmt::Result {
         let text = self.text;
         match self.fault {
-            FillFault::Sound => Ok(()),
             FillFault::TooLong => write!(
                 f,
                 "the text has more than 65,536 bytes\n  and a fill book has at most 65,536."

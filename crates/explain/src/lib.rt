@@ -18,7 +18,6 @@ use book::counted::Count;
 use book::faults::BookFault;
 use book_words::WrongBook;
 use fill_words::WrongFills;
-use fills::faults::FillFault;
 use fills::fill_rows::Whose;
 use job_faults::JobFault;
 use job_words::JobOf;
@@ -76,8 +75,8 @@ fn tell_jobs(
 // Where the refusal of a fill book lies; and whether there is one.
 fn tell_fills(rt: &impl Print, text: &[u8], whose: Whose) -> io::Result<bool> {
     match fills::faults::fill_fault(text, whose) {
-        FillFault::Sound => Ok(false),
-        fault => {
+        None => Ok(false),
+        Some(fault) => {
             print!(rt; "{}", WrongFills { text, whose, fault })?;
             Ok(true)
         }

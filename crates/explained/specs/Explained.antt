@@ -1,5 +1,5 @@
 -- Where a refusal lies: "The number and row are those that `job_lines` tells: a theorem." And there is one such place.
-use Rattle.std.specs.Prelude.{ℕ, ◌+◌, ◌≡◌, List, ◌++◌, length, drop}
+use Rattle.std.specs.Prelude.{ℕ, ◌+◌, ◌≡◌, List, ◌++◌, length, drop, Option, None}
 use Rattle.csv_text.specs.Nth.{Nth}
 use Rattle.jobs.specs.declared.Job.{Job}
 use Rattle.kinds.specs.declared.Row.{Row}
@@ -14,7 +14,6 @@ use Rattle.fills.specs.Says.{FillFor}
 use Rattle.fills.specs.faults.Faults.{FillLies}
 use Rattle.fills.specs.declared.fill_rows.Whose.TheVariants.{Own, Common}
 use Rattle.fills.specs.declared.faults.FillFault.{FillFault}
-use Rattle.fills.specs.declared.faults.FillFault.TheVariants as fill_fault
 use Rattle.lines.specs.declared.Verdict.TheVariants.{Refused}
 use Rattle.lines.specs.Lines.{verdict_line}
 use Rattle.printing.specs.Text.{line_text}
@@ -32,7 +31,7 @@ pub record CallExplained (own common b : List ℕ) (place : ℕ) (before after :
   -- 1 to 6: the number and the row of the book's fault
   pub book : (f : BookFault) → BookLies b f → (f ≡ book_fault.Sound → ⊥) → t ≡ refused (fault_number f) (fault_row f)
   -- 8: one of the fill books has a fault
-  pub fills : (js : Jobs) (f g : FillFault) → JobBook b js → FillLies Own own f → FillLies Common common g → (f ≡ fill_fault.Sound → g ≡ fill_fault.Sound → ⊥) → t ≡ refused 8 0
+  pub fills : (js : Jobs) (f g : Option FillFault) → JobBook b js → FillLies Own own f → FillLies Common common g → (f ≡ None → g ≡ None → ⊥) → t ≡ refused 8 0
   -- 11 to 20: the one line of the job has the number of its fault
   pub job : (len : ℕ) (js : Jobs) (job : Job) (fill : ℕ → ℕ → Coefficient) (f : JobFault) → t ≡ written len → JobBook b js → Nth (values js) place job
       → FillFor own common job.key.member fill → JobLies fill job f → (f ≡ job_fault.Sound → ⊥)
@@ -44,6 +43,6 @@ pub record Explained : Type 0 where
   pub row : {s : List ℕ} {js : Jobs} (b : JobBook s js) {j : WrittenJob} {n : ℕ} → JobAt j n js → (i : ℕ) (row : Row) → StandsAt (rows_in (job_value j)) i row → RowInBook b.typed (n + i) row
   -- one place, of a book, of a fill book and of a job
   pub one_book : {s : List ℕ} {f g : BookFault} → BookLies s f → BookLies s g → f ≡ g
-  pub one_own : {s : List ℕ} {f g : FillFault} → FillLies Own s f → FillLies Own s g → f ≡ g
-  pub one_common : {s : List ℕ} {f g : FillFault} → FillLies Common s f → FillLies Common s g → f ≡ g
+  pub one_own : {s : List ℕ} {f g : Option FillFault} → FillLies Own s f → FillLies Own s g → f ≡ g
+  pub one_common : {s : List ℕ} {f g : Option FillFault} → FillLies Common s f → FillLies Common s g → f ≡ g
   pub one_job : (fill : ℕ → ℕ → Coefficient) (job : Job) (f g : JobFault) → JobLies fill job f → JobLies fill job g → f ≡ g

@@ -5,73 +5,55 @@
 #![tactic(auto)]
 
 use fields::Entered;
+use fills::faults::fill_fault;
+use fills::fill_rows::Whose;
 use fills::lookup::Place;
 use std::rt::Env;
 
-// Whether both fill books are accepted.
-fn are_accepted(own: &[u8], common: &[u8]) -> bool {
-    let nobody = fields::names::blank_name();
-    let members = [nobody; 64];
-    let blank = [[0u32; 5]; 5];
-    let mut values = [blank; 64];
-    fills::values_for(own, common, members, 0, &mut values)
-}
-
 // Prints the row that counts, behind the book that it lies in.
-fn print_row<'a>(
+fn print_row(
     rt: &impl Print,
     err: &impl Print,
-    own: &'a [u8],
-    common: &'a [u8],
+    own: &[u8],
+    common: &[u8],
     member: &[u8],
     soil: u32,
     slope: u32,
 ) {
-    if !are_accepted(own, common) {
+    if fill_fault(own, Whose::Own).is_some() || fill_fault(common, Whose::Common).is_some() {
         files::put(err, b"fill_row: a fill book is refused (8)\n");
         return;
     }
-    let place = fills::lookup::place_of(own, common, member, soil, slope);
-    match place {
-        Place::Own { from: _, to: _ } => {
-            files::put(rt, b"own: ");
-        }
-        Place::Common { from: _, to: _ } => {
-            files::put(rt, b"common: ");
-        }
-        Place::Nowhere => {
-            files::put(rt, b"none");
-        }
-    }
-    let row = fills::lookup::row_of(own, common, member, soil, slope);
-    files::put(rt, row);
+    let book = match fills::lookup::place_of(own, common, member, soil, slope) {
+        Some(Place::Own(_)) => "own: ",
+        Some(Place::Common(_)) => "common: ",
+        None => "none",
+    };
+    files::put(rt, book.as_bytes());
+    // the note may be any bytes, so the row is no text to be formatted
+    files::put(rt, fills::lookup::row_of(own, common, member, soil, slope));
     files::put(rt, b"\r\n");
 }
 
-// The soil or slope that an argument is; or 0, where it is none.
-fn number_of(rt: &impl Env, i: usize) -> u32 {
+// The soil or slope that an argument is.
+fn number_of(rt: &impl Env, i: usize) -> Option<u32> {
     let mut text = [0u8; 4096];
     let len = files::argument(rt, i, &mut text);
-    let Entered::Is(entry) = fields::number_at(&text[..len]) else {
-        return 0;
-    };
-    if entry.minus | (5 < entry.size) {
-        return 0;
+    match fields::number_at(&text[..len]) {
+        Entered::Is(entry) if !entry.minus && (1..=5).contains(&entry.size) => Some(entry.size),
+        _ => None,
     }
-    entry.size
 }
 
 // The row of what the first three arguments name, in these books.
-fn look_up<'a>(rt: &(impl Env + Print), err: &impl Print, own: &'a [u8], common: &'a [u8]) {
-    let soil = number_of(rt, 2);
-    let slope = number_of(rt, 3);
-    if (soil == 0) | (slope == 0) {
+fn look_up(rt: &(impl Env + Print), err: &impl Print, own: &[u8], common: &[u8]) {
+    let (Some(soil), Some(slope)) = (number_of(rt, 2), number_of(rt, 3)) else {
         files::put(
             err,
             b"fill_row: soil and slope are whole numbers from 1 to 5\n",
         );
         return;
-    }
+    };
     let mut member = [0u8; 4096];
     let len = files::argument(rt, 1, &mut member);
     print_row(rt, err, own, common, &member[..len], soil, slope);
@@ -80,7 +62,7 @@ fn look_up<'a>(rt: &(impl Env + Print), err: &impl Print, own: &'a [u8], common:
 fn main(rt: HostRuntime) {
     let err = rt.stderr();
     let count = files::arg_count(&rt);
-    if (count < 4) | (6 < count) {
+    if !(4..=6).contains(&count) {
         files::put(
             &err,
             b"fill_row: it takes a member, a soil and a slope, and then, if there are any, the files of the own and the common fill book\n",

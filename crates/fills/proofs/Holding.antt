@@ -3,8 +3,8 @@ use Prim.Native.Nat.{ℕ, zero, suc, ◌≤◌, ◌<◌, min}
 use native.Mathlib.Decide.{dec_lt, ℕ_discrete}
 use native.Mathlib.Omega.{arith}
 use mathlib.Core.Path.{◌≡◌, refl, sym, ap, subst, ◌∙◌}
-use mathlib.Core.Bool.{Bool, true, false}
-use mathlib.Core.List.{List, [], ◌∷◌}
+use mathlib.Core.Bool.{Bool}
+use mathlib.Core.List.{List, []}
 use lib.ListN.{length, get_or, set, length-set, get_or-eq_default}
 use lib.Seq.{ext_get_or, get_or-set_same, get_or-set_other}
 use Rattle.arithmetic.proofs.Cases.{impossible, by_cases}
@@ -16,8 +16,8 @@ use Rattle.earth.proofs.coefficients.Held.{coefficient_value, coefficient_blank}
 use Rattle.fills.specs.declared.fill_rows.Fill.{Fill}
 use Rattle.fills.specs.declared.fill_rows.Whose.{Whose}
 use Rattle.fills.specs.FillBook.{Forms, no_form, form, no_fill, Lists, FillBook}
-use Rattle.fills.specs.Says.{Lacks, Says, own, common, neither, Accepted, FillFor}
-use Rattle.fills.specs.Values.{cell, FiveByFive, mark, Marked, ValuesFor, void_name, OneMore, Gathered, ValuesGiven, given, refused}
+use Rattle.fills.specs.Says.{Says, own, common, neither, Accepted, FillFor}
+use Rattle.fills.specs.Values.{cell, mark, ValuesFor, void_name, Gathered, ValuesGiven, given, refused}
 use Rattle.fills.specs.digest.Digest.{Small}
 use Rattle.fills.proofs.OneReading.{fills_one, says_one}
 use Rattle.fills.proofs.Walking.{form_small}

@@ -9,7 +9,7 @@ use lib.Seq.{get_or-set_same, get_or-set_other}
 use Rattle.arithmetic.proofs.Cases.{by_cases}
 use Rattle.fields.specs.declared.names.Name.{Name}
 use Rattle.fills.specs.declared.fill_rows.Fill.{Fill}
-use Rattle.fills.specs.FillBook.{no_fill, Lists}
+use Rattle.fills.specs.FillBook.{no_fill}
 use Rattle.fills.specs.declared.digest.TwoWords.{TwoWords}
 use Rattle.fills.specs.declared.digest.FillWords.{FillWords}
 use Rattle.fills.specs.digest.Digest.{high_of, low_of, Proper, no_words, InWords, DigestOf}

@@ -21,7 +21,7 @@ use Rattle.csv_text.proofs.notes.Reached.{RowReached, reached_start, reached_mor
 use Rattle.fields.specs.Numbers.{IsNumber, is_positive, is_negative}
 use Rattle.fields.proofs.digits.Numerals.{numeral_some}
 use Rattle.fields.specs.declared.Entry.{Entry}
-use Rattle.fields.specs.names.Names.{name, Letter, hyphen, digit, upper}
+use Rattle.fields.specs.names.Names.{Letter, hyphen, digit, upper}
 use Rattle.fields.specs.declared.names.Name.{Name}
 use Rattle.fills.specs.declared.fill_rows.Fill.{Fill}
 use Rattle.fills.specs.declared.fill_rows.Whose.{Whose}
@@ -30,7 +30,7 @@ use Rattle.fills.specs.declared.digest.TwoWords.{TwoWords}
 use Rattle.fills.specs.declared.digest.FillWords.{FillWords}
 use Rattle.fills.specs.declared.faults.FillFault.{FillFault}
 use Rattle.fills.specs.declared.faults.FillFault.TheVariants.{Text, Twice}
-use Rattle.fills.specs.fill_rows.Form.{cells_of, MemberIs, UpTo, Form}
+use Rattle.fills.specs.fill_rows.Form.{MemberIs, Form}
 use Rattle.fills.specs.fill_rows.steps.Reading.{RowMeans, MeantBy}
 use Rattle.fills.specs.FillBook.{no_bytes, bytes, Forms, no_form, form, no_fill, Lists, SamePlace, Once}
 use Rattle.fills.specs.digest.Digest.{Proper, KeyIs, FoundAt, Small, DigestOf}

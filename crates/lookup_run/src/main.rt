@@ -7,23 +7,12 @@ use csv_text::cells::Cells;
 use fields::Entered;
 use fills::lookup::Place;
 
-// The number that a field is; or one that is no soil and no slope.
-fn number_of(raw: &[u8]) -> u32 {
-    let Entered::Is(entry) = fields::number_at(raw) else {
-        return 0;
-    };
-    if entry.minus {
-        return 0;
+// The number that a field is.
+fn number_of(raw: &[u8]) -> Option<u32> {
+    match fields::number_at(raw) {
+        Entered::Is(entry) if !entry.minus => Some(entry.size),
+        _ => None,
     }
-    entry.size
-}
-
-// The book that holds the row, and where the row starts in it.
-fn put_place(rt: &impl Print, book: &[u8], from: usize) {
-    files::put(rt, book);
-    files::put(rt, b",");
-    files::put_number(rt, from as u64);
-    files::put(rt, b",");
 }
 
 // The row in hex. A book that is read has at most 65,536 bytes, and so has a row.
@@ -33,21 +22,14 @@ fn put_row(rt: &impl Print, row: &[u8]) {
     files::put(rt, &digits[..len]);
 }
 
-// One lookup.
-fn look_up<'a>(
-    rt: &impl Print,
-    own: &'a [u8],
-    common: &'a [u8],
-    member: &[u8],
-    soil: u32,
-    slope: u32,
-) {
-    let place = fills::lookup::place_of(own, common, member, soil, slope);
-    match place {
-        Place::Own { from, to: _ } => put_place(rt, b"own", from),
-        Place::Common { from, to: _ } => put_place(rt, b"common", from),
-        Place::Nowhere => put_place(rt, b"none", 0),
-    }
+// One lookup: the book that holds the row, where the row starts in it, and the row.
+fn look_up(rt: &impl Print, own: &[u8], common: &[u8], member: &[u8], soil: u32, slope: u32) {
+    let (book, from) = match fills::lookup::place_of(own, common, member, soil, slope) {
+        Some(Place::Own(row)) => ("own", row.from),
+        Some(Place::Common(row)) => ("common", row.from),
+        None => ("none", 0),
+    };
+    let _ = print!(rt; "{book},{from},");
     put_row(rt, fills::lookup::row_of(own, common, member, soil, slope));
     files::put(rt, b"\r\n");
 }
@@ -58,10 +40,11 @@ fn look_up_row(rt: &impl Print, s: &[u8], cells: Cells) {
     let mut common = [0u8; 65537];
     let owns = hex_text::decode(csv_text::cells::cell(s, cells, 0), &mut own);
     let commons = hex_text::decode(csv_text::cells::cell(s, cells, 1), &mut common);
-    let soil = number_of(csv_text::cells::cell(s, cells, 3));
-    let slope = number_of(csv_text::cells::cell(s, cells, 4));
     let member = csv_text::cells::cell(s, cells, 2);
-    look_up(rt, &own[0..owns], &common[0..commons], member, soil, slope);
+    // what is no number is no soil and no slope, and neither is 0
+    let soil = number_of(csv_text::cells::cell(s, cells, 3)).unwrap_or(0);
+    let slope = number_of(csv_text::cells::cell(s, cells, 4)).unwrap_or(0);
+    look_up(rt, &own[..owns], &common[..commons], member, soil, slope);
 }
 
 // Each row of a comma-separated text.

@@ -2,7 +2,7 @@
 use Prim.Native.Nat.{ℕ, zero, suc, ◌+◌, ◌*◌, ◌-◌, ◌≤◌, ◌<◌}
 use native.Mathlib.Decide.{dec_lt}
 use native.Mathlib.Omega.{arith}
-use mathlib.Core.Path.{◌≡◌, refl, sym, ap, subst, ◌∙◌}
+use mathlib.Core.Path.{◌≡◌, sym, ap, subst, ◌∙◌}
 use mathlib.Core.List.{List, [], ◌∷◌, ◌++◌}
 use lib.ListN.{length, get_or, replicate, length-append, length-replicate, get_or-replicate, get_or-append}
 use lib.Seq.{ext_get_or, get_or_at, get_or-append-add}
@@ -13,9 +13,9 @@ use Rattle.fields.specs.declared.names.Name.{Name}
 use Rattle.fills.specs.declared.fill_rows.Fill.{Fill}
 use Rattle.fills.specs.declared.digest.TwoWords.{TwoWords}
 use Rattle.fills.specs.declared.digest.FillWords.{FillWords}
-use Rattle.fills.specs.FillBook.{no_fill, Lists, SamePlace}
+use Rattle.fills.specs.FillBook.{no_fill, Lists}
 use Rattle.fills.specs.Says.{Lacks}
-use Rattle.fills.specs.digest.Digest.{word, word_at, high_of, low_of, Proper, KeyIs, no_words, WordsAt, FoundAt, InWords, DigestOf}
+use Rattle.fills.specs.digest.Digest.{word_at, high_of, low_of, Proper, KeyIs, no_words, WordsAt, FoundAt, InWords, DigestOf}
 
 -- one byte more
 last_byte : (x y a b : ℕ) → a < 256 → b < 256 → x * 256 + a ≡ y * 256 + b → (x ≡ y) × (a ≡ b)

@@ -2,9 +2,9 @@
 use Prim.Native.Nat.{ℕ, ◌≤◌, ◌<◌}
 use native.Mathlib.Omega.{arith}
 use mathlib.Core.Path.{◌≡◌, refl, sym, ap, subst}
-use mathlib.Core.Bool.{true, false}
+use mathlib.Core.Bool.{false}
 use mathlib.Core.List.{List, [], ◌∷◌}
-use lib.ListN.{length, get_or, drop}
+use lib.ListN.{length, get_or}
 use Rattle.arithmetic.proofs.Cases.{impossible}
 use Rattle.csv_text.specs.rfc4180.Rfc4180.{Cell, Field}
 use Rattle.csv_text.specs.cells.Cells.{CellAt}
@@ -17,7 +17,6 @@ use Rattle.csv_text.proofs.cells.Standing.{cell_field}
 use Rattle.fields.specs.Numbers.{positive, IsNumber, is_positive, is_negative, IsEmpty}
 use Rattle.fields.specs.digits.Numerals.{Digited}
 use Rattle.fields.specs.Entries.{EntryIn, EntryAt}
-use Rattle.fields.specs.names.Names.{no_name}
 use Rattle.fields.specs.names.NameAt.{NameGiven}
 use Rattle.fields.specs.declared.Entry.{Entry}
 use Rattle.fields.specs.declared.Entered.TheVariants.{Wrong}

@@ -1,7 +1,7 @@
 -- The row of a fill that is found by its words: rows and fills stand in one order.
 use Prim.Native.Nat.{ℕ, zero, suc, ◌+◌, ◌≤◌, ◌<◌}
 use native.Mathlib.Omega.{arith}
-use mathlib.Core.Path.{◌≡◌, refl, sym, ap, subst, ◌∙◌}
+use mathlib.Core.Path.{◌≡◌, refl, ap, subst}
 use mathlib.Core.List.{List, [], ◌∷◌}
 use lib.ListN.{length, get_or}
 use Rattle.std.specs.Prelude.{Some, None}
@@ -14,7 +14,7 @@ use Rattle.fills.specs.declared.digest.TwoWords.{TwoWords}
 use Rattle.fills.specs.declared.digest.FillWords.{FillWords}
 use Rattle.fills.specs.declared.lookup.Lies.{Lies}
 use Rattle.fills.specs.fill_rows.Form.{Form}
-use Rattle.fills.specs.FillBook.{Forms, no_form, form, no_fill, Lists}
+use Rattle.fills.specs.FillBook.{Forms, no_form, form, no_fill}
 use Rattle.fills.specs.digest.Digest.{no_words, KeyIs, FoundAt}
 use Rattle.fills.specs.reading.Rows.{Digested}
 use Rattle.fills.specs.lookup.Lookup.{RowFor}

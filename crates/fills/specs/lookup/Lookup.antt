@@ -10,7 +10,6 @@ use Rattle.fields.specs.declared.names.Name.{Name}
 use Rattle.fills.specs.declared.fill_rows.Fill.{Fill}
 use Rattle.fills.specs.declared.fill_rows.Whose.{Whose}
 use Rattle.fills.specs.declared.fill_rows.Whose.TheVariants as whose
-use Rattle.fills.specs.declared.lookup.Lies.{Lies}
 use Rattle.fills.specs.declared.lookup.Place.{Place}
 use Rattle.fills.specs.declared.lookup.Place.TheVariants.{Own, Common}
 use Rattle.fills.specs.fill_rows.Form.{Form}

@@ -1,5 +1,5 @@
 -- A number is taken if it is not below zero, not zero and not past its bound.
-use Rattle.std.proofs.Common.{arith, sym, ◌∙◌}
+use Rattle.std.proofs.Common.{arith}
 use Rattle.fills.proofs.fill_rows.Cells.{wrong_number, no_number, a_number}
 use Rattle.fills.proofs.fill_rows.number_to.Goals as goal
 use Rattle.fills.proofs.fill_rows.number_to.Goals.{then-entry-via-then-entry, then-entry-via-else-entry+then-entry-eq0, then-entry-via-else-entry+else-entry-eq0+then-bound-entry}

@@ -1,6 +1,6 @@
 -- A row that means no fill, or one that is listed, is where the refusal lies; any other is passed, and its fill held.
 use Rattle.std.proofs.lemmas.Result.{err_from_is_err_and}
-use Rattle.fills.proofs.Walking.{walk_start, walk_fault, small, walk_twice, walk_room, walk_more, walk_last}
+use Rattle.fills.proofs.Walking.{walk_start, walk_fault, small, walk_twice, walk_more, walk_last}
 use Rattle.fills.proofs.reading.walk.Goals as goal
 
 pub rows-init : goal.rows-init
