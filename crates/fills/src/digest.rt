@@ -79,7 +79,8 @@ impl Digest {
         &self.places[..self.len]
     }
 
-    // The place of the first fill that has these words.
+    // The place of the first fill that has these words. Inlined into the walk, LLVM no longer unrolls this loop, and it takes twice as long.
+    #[inline(never)]
     pub(crate) fn find(&self, key: TwoWords) -> Option<usize>
         ensures { FoundAt self.now key result }
     {

@@ -12,19 +12,11 @@ fn worth(byte: u8) -> u8
     ensures value { result ≡ worth byte }
     ensures below { result < 16 }
 {
-    if byte < b'0' {
-        return 0;
+    match byte {
+        b'0'..=b'9' => byte - b'0',
+        b'a'..=b'f' => byte - b'a' + 10,
+        _ => 0,
     }
-    if byte <= b'9' {
-        return byte - b'0';
-    }
-    if byte < b'a' {
-        return 0;
-    }
-    if byte <= b'f' {
-        return byte - b'a' + 10;
-    }
-    0
 }
 
 // Bytes from their hexadecimal digits, two by two, as many as fit; how many is answered.
@@ -32,29 +24,23 @@ pub fn decode(hex: &[u8], bytes: &mut [u8]) -> usize
     ensures decoded { Decoded hex.now bytes.old bytes.new result }
     ensures within { IsPrefixLen result bytes.new }
 {
-    let n = hex.len() / 2;
-    let mut i: usize = 0;
-    while i < bytes.len() {
-        if n <= i {
-            return i;
-        }
+    let n = bytes.len().min(hex.len() / 2);
+    for i in 0..n {
         let high = worth(hex[2 * i]);
         let low = worth(hex[2 * i + 1]);
         bytes[i] = high * 16 + low;
-        i += 1;
     }
-    i
+    n
 }
 
 // The last hexadecimal digit of a number.
 fn digit_of(number: u8) -> u8
     ensures { result ≡ digit (number % 16) }
 {
-    let worth = number % 16;
-    if worth < 10 {
-        return b'0' + worth;
+    match number % 16 {
+        worth @ 0..=9 => b'0' + worth,
+        worth => b'a' + (worth - 10),
     }
-    b'a' + (worth - 10)
 }
 
 // The bytes in hexadecimal digits, two a byte, as many whole bytes as fit; how many digits there are is answered.
@@ -62,18 +48,12 @@ pub fn encode(bytes: &[u8], out: &mut [u8]) -> usize
     ensures encoded { Encoded bytes.now out.old out.new result }
     ensures within { IsPrefixLen result out.new }
 {
-    let room = out.len() / 2;
-    let mut i: usize = 0;
-    while i < bytes.len() {
-        if room <= i {
-            return 2 * i;
-        }
-        let byte = bytes[i];
-        let high = digit_of(byte / 16);
-        let low = digit_of(byte);
+    let n = bytes.len().min(out.len() / 2);
+    for i in 0..n {
+        let high = digit_of(bytes[i] / 16);
+        let low = digit_of(bytes[i]);
         out[2 * i] = high;
         out[2 * i + 1] = low;
-        i += 1;
     }
-    2 * i
+    2 * n
 }
