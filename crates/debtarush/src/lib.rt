@@ -61,7 +61,7 @@ fn append(out: &mut [u8], at: usize, block: Block) -> usize
     }
 }
 
-// What the two fill books hold for the member of each of the first n jobs, at the job's place; and whether both are accepted.
+// What the two fill books hold for the member of each of the first n jobs, at the job's place; and whether both are accepted, as `fills::values_for` tells it.
 fn gather(
     own: &[u8],
     common: &[u8],

@@ -45,7 +45,7 @@ pub fn of_bits(bits: u64) -> f64
     f64::from_bits(bits)
 }
 
-// Whether a double is finite: neither an infinity nor not a number.
+// Whether a double is finite: neither an infinity nor not a number. By comparisons, since the library's doubles have no `is_finite` and no `is_nan`.
 pub fn is_finite(x: f64) -> bool
     ensures { Decides result (Finite x) }
 {

@@ -115,7 +115,7 @@ fn numbers_of(sent: &[u8], kind: Kind, phase: u32) -> Result<Numbers, RowRefusal
     let x = reaction.x;
     let h = kilonewtons(reaction.horizontal);
     let y = reaction.y;
-    // a product is finite only if its factors are
+    // a product is finite only if its factors are; `&` and not `&&`, so that `decides_finite` speaks of the four tests at once
     if !(doubles::is_finite(v)
         & doubles::is_finite(x)
         & doubles::is_finite(h)
