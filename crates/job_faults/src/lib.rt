@@ -80,13 +80,6 @@ pub enum JobFault {
     },
 }
 
-// The first row that shows a refusal, by its position, or none.
-#[derive(Clone, Copy)]
-enum Found {
-    At(usize, Row),
-    Nothing,
-}
-
 // How many rows stand before the load rows: B, and S and C where the job has them.
 fn ahead_of(stage: Stage) -> usize
     ensures { result ≡ ahead stage }
@@ -140,8 +133,8 @@ fn row_at(job: Job, place: usize) -> Row
     }
 }
 
-// The first row of a job that shows a refusal. How many optional rows were passed is counted on the way, for 16.
-fn first_row(held: [[u32; 5]; 5], job: Job, rule: Rule) -> Found
+// The first row of a job that shows a refusal, behind its position. How many optional rows were passed is counted on the way, for 16.
+fn first_row(held: [[u32; 5]; 5], job: Job, rule: Rule) -> Option<(usize, Row)>
     requires { PastRange rule (AllInRange job) }
     ensures { FoundIs (fill_of held) job rule result }
 {
@@ -151,13 +144,13 @@ fn first_row(held: [[u32; 5]; 5], job: Job, rule: Rule) -> Found
     while i < n {
         let row = row_at(job, i);
         if rules::shows(held, job, rule, optional, row) {
-            return Found::At(i + 1, row);
+            return Some((i + 1, row));
         }
         let kind = row.kind;
         optional = optional + kinds::classes::optional_count(kinds::classes::class_of(kind));
         i = i + 1;
     }
-    Found::Nothing
+    None
 }
 
 // Where the refusal of a job lies, by what is held for each soil and slope, 0 where nothing is. "Order as numbered".
@@ -168,10 +161,10 @@ pub fn job_fault(held: [[u32; 5]; 5], job: Job) -> JobFault
     while number <= 20 {
         let rule = rules::rule_of(number);
         match first_row(held, job, rule) {
-            Found::At(position, row) => {
+            Some((position, row)) => {
                 return figures::fault_at(held, job, rule, position, row);
             }
-            Found::Nothing => number = number + 1,
+            None => number = number + 1,
         }
     }
     JobFault::Sound
