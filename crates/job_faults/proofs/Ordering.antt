@@ -35,9 +35,25 @@ use Rattle.job_faults.proofs.Standing.{stands_there, every_stands, stands_every}
 use Rattle.job_faults.proofs.Listing.{scour_stands, clearance_stands, rows_every, loads_every, ranged_rows, rows_ranged, optionals_first, optionals_next, rows_optionals}
 
 -- ---- a number is that of one refusal
+abbrev in_order : List Rule
+in_order = rules.OutOfRange ∷ rules.LargeCatchment ∷ rules.TooIntense ∷ rules.OverObstructed ∷ rules.NoFill ∷ rules.TooManyOptional ∷ rules.UpperBelowLower ∷ rules.NoTrain ∷ rules.NotAbove ∷ rules.TypeE ∷ []
+
 abbrev rule_at : ℕ → Rule
-rule_at n =
-    get_or (rules.OutOfRange ∷ rules.LargeCatchment ∷ rules.TooIntense ∷ rules.OverObstructed ∷ rules.NoFill ∷ rules.TooManyOptional ∷ rules.UpperBelowLower ∷ rules.NoTrain ∷ rules.NotAbove ∷ rules.TypeE ∷ []) (n - 11) rules.TypeE
+rule_at n = get_or in_order (n - 11) rules.TypeE
+
+-- the place of each in their order is told by its number
+pub number_at : (i : ℕ) (d : Rule) → i < 10 → rule_number (get_or in_order i d) ≡ 11 + i
+number_at zero d l = refl
+number_at (suc zero) d l = refl
+number_at (suc (suc zero)) d l = refl
+number_at (suc (suc (suc zero))) d l = refl
+number_at (suc (suc (suc (suc zero)))) d l = refl
+number_at (suc (suc (suc (suc (suc zero))))) d l = refl
+number_at (suc (suc (suc (suc (suc (suc zero)))))) d l = refl
+number_at (suc (suc (suc (suc (suc (suc (suc zero))))))) d l = refl
+number_at (suc (suc (suc (suc (suc (suc (suc (suc zero)))))))) d l = refl
+number_at (suc (suc (suc (suc (suc (suc (suc (suc (suc zero))))))))) d l = refl
+number_at (suc (suc (suc (suc (suc (suc (suc (suc (suc (suc i)))))))))) d l = absurd (omega (arith, l))
 
 numbered : (rule : Rule) → rule_at (rule_number rule) ≡ rule
 numbered rules.OutOfRange = refl
@@ -85,6 +101,10 @@ module _ (fill : ℕ → ℕ → Coefficient) (job : Job) where
   -- ---- past 11 every number is in its range
   pub in_range : Unshown fill job rules.OutOfRange → AllInRange job
   in_range none = rows_ranged job (stands_every _ rows (λ i r s. ranged_unless r.kind r.numbers (none i r s)))
+
+  -- what is asked before one in their order is every number before its own
+  pub before_it : (i : ℕ) (d : Rule) → i < 10 → ((r : Rule) → rule_number r < 11 + i → Unshown fill job r) → (r : Rule) → rule_number r < rule_number (get_or in_order i d) → Unshown fill job r
+  before_it i d l none r h = none r (omega (arith, h, number_at i d l))
 
   pub past_range : (rule : Rule) → ((r : Rule) → rule_number r < rule_number rule → Unshown fill job r) → PastRange rule (AllInRange job)
   past_range rule none n =

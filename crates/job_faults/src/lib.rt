@@ -157,14 +157,9 @@ fn first_row(held: [[u32; 5]; 5], job: Job, rule: Rule) -> Option<(usize, Row)>
 pub fn job_fault(held: [[u32; 5]; 5], job: Job) -> JobFault
     ensures { JobLies (fill_of held) job result }
 {
-    let mut number: u8 = 11;
-    while number <= 20 {
-        let rule = rules::rule_of(number);
-        match first_row(held, job, rule) {
-            Some((position, row)) => {
-                return figures::fault_at(held, job, rule, position, row);
-            }
-            None => number = number + 1,
+    for rule in rules::IN_ORDER {
+        if let Some((position, row)) = first_row(held, job, rule) {
+            return figures::fault_at(held, job, rule, position, row);
         }
     }
     JobFault::Sound

@@ -12,7 +12,7 @@ ghost use Rattle.earth.specs.coefficients.Coefficients.{fill_of};
 ghost use Rattle.earth.specs.Earth.{refused, backfill_in, Pushed};
 ghost use Rattle.jobs.specs.stages.Rows.{HasScour};
 ghost use Rattle.loads.specs.LoadRows.{NamesLive};
-ghost use Rattle.job_faults.specs.rules.Shows.{rule_number, Shows};
+ghost use Rattle.job_faults.specs.rules.Shows.{Shows};
 ghost use Rattle.job_faults.specs.rules.steps.Tests.{Gives, Obstructed, Past, PastRange};
 
 use jobs::Job;
@@ -38,24 +38,19 @@ pub enum Rule {
 // "More than 12 optional load rows" (document 01, Refusals of a job, 16): the row behind 12 others shows it.
 const MOST: u64 = 12;
 
-// The refusal with a number.
-pub(crate) fn rule_of(number: u8) -> Rule
-    requires { (11 ≤ number) × (number ≤ 20) }
-    ensures { rule_number result ≡ number }
-{
-    match number {
-        11 => Rule::OutOfRange,
-        12 => Rule::LargeCatchment,
-        13 => Rule::TooIntense,
-        14 => Rule::OverObstructed,
-        15 => Rule::NoFill,
-        16 => Rule::TooManyOptional,
-        17 => Rule::UpperBelowLower,
-        18 => Rule::NoTrain,
-        19 => Rule::NotAbove,
-        _ => Rule::TypeE,
-    }
-}
+// All of them.
+pub(crate) const IN_ORDER: [Rule; 10] = [
+    Rule::OutOfRange,
+    Rule::LargeCatchment,
+    Rule::TooIntense,
+    Rule::OverObstructed,
+    Rule::NoFill,
+    Rule::TooManyOptional,
+    Rule::UpperBelowLower,
+    Rule::NoTrain,
+    Rule::NotAbove,
+    Rule::TypeE,
+];
 
 // Whether the S row of a job, if it has one, gives a refusal (document 01, Refusals of a job, 12 and 13).
 fn scour_gives(stage: Stage, row: Numbers, number: u8) -> bool
