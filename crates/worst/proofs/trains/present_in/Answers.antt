@@ -1,5 +1,5 @@
 -- A row that leads takes the next bit of the way, and counts where that is 1.
-use Rattle.std.proofs.Common.{◌≡◌, ℕ, ◌+◌, ◌^◌, refl, ◌∙◌, ap, pow_mono, arith}
+use Rattle.std.proofs.Common.{ℕ, ◌+◌, refl, ◌∙◌, ap, pow_mono, arith}
 use Rattle.arithmetic.proofs.Deciding.{decided, refuted}
 use Rattle.sums.proofs.Adding.{shifted}
 use Rattle.worst.specs.steps.Stance.{leading, choosable, pick}
