@@ -9,50 +9,55 @@ ghost use Rattle.csv_text.specs.rfc4180.Rfc4180.{Readable};
 
 use crate::field::Ended;
 
-// A row: how many fields it has, where the first ten start and end, and where the next row starts.
+// Where a field stands: from one place up to another.
+#[derive(Clone, Copy)]
+pub struct Place {
+    pub from: usize,
+    pub to: usize,
+}
+
+// A row: how many fields it has, where the first ten stand, and where the next row starts.
 #[derive(Clone, Copy)]
 pub struct Cells {
     pub count: usize,
-    pub from: [usize; 10],
-    pub to: [usize; 10],
+    pub places: [Place; 10],
     pub next: usize,
 }
 
-// The cell k of a row, as the stretch of the text that it is.
-pub fn cell(s: &[u8], cells: Cells, k: usize) -> &[u8]
-    ensures { CellAt s.now cells k result.now }
-{
-    if k < 10 {
-        let a = cells.from[k];
-        let e = cells.to[k];
-        if (a <= e) & (e <= s.len()) {
-            return &s[a..e];
+impl Cells {
+    // The cell k of the row, as the stretch of the text that it is.
+    pub fn cell(self, s: &[u8], k: usize) -> &[u8]
+        ensures { CellAt s.now self k result.now }
+    {
+        if k < 10 {
+            let Place { from, to } = self.places[k];
+            if (from <= to) & (to <= s.len()) {
+                return &s[from..to];
+            }
         }
+        &s[0..0]
     }
-    &s[0..0]
 }
 
-// The array with v at n, or as it is where it has no n.
-fn with_place(a: [usize; 10], n: usize, v: usize) -> [usize; 10]
-    ensures { result ≡ set a n v }
+// Notes where the field n stands; one behind the tenth is not noted.
+fn note_place(places: &mut [Place; 10], n: usize, place: Place)
+    ensures { places.new ≡ set places.old n place }
 {
-    let mut b = a;
     if n < 10 {
-        b[n] = v;
+        places[n] = place;
     }
-    b
 }
 
-// The row whose last field is n, which ends at a place; and where the next row starts.
-fn closed(from: [usize; 10], to: [usize; 10], n: usize, end: usize, next: usize) -> Cells
+// The row whose last field is n, which stands at a place; and where the next row starts.
+fn closed(places: [Place; 10], n: usize, last: Place, next: usize) -> Cells
     requires { n < 2 ^ 63 }
-    ensures { result ≡ record { count = n + 1; from = from; to = set to n end; next = next } }
+    ensures { result ≡ record { count = n + 1; places = set places n last; next = next } }
 {
-    let ends = with_place(to, n, end);
+    let mut places = places;
+    note_place(&mut places, n, last);
     Cells {
         count: n + 1,
-        from,
-        to: ends,
+        places,
         next,
     }
 }
@@ -63,24 +68,23 @@ pub fn cells_at(s: &[u8], start: usize) -> Cells
     requires readable { Readable (drop start s.now) }
     ensures { RowAt s.now start result }
 {
-    let mut from = [0usize; 10];
-    let mut to = [0usize; 10];
+    let mut places = [Place { from: 0, to: 0 }; 10];
     let mut n: usize = 0;
     let mut at = start;
     loop {
-        let f = crate::field::field_end(s, at);
-        let a = with_place(from, n, at);
-        from = a;
-        match f {
-            Ended::Comma(e) => {
-                let b = with_place(to, n, e);
-                to = b;
+        match crate::field::field_end(s, at) {
+            Some(Ended::Comma(to)) => {
+                note_place(&mut places, n, Place { from: at, to });
                 n += 1;
-                at = e + 1;
+                at = to + 1;
             }
-            Ended::Row(e) => return closed(from, to, n, e, e + 2),
+            Some(Ended::Row(to)) => return closed(places, n, Place { from: at, to }, to + 2),
+            Some(Ended::End) => {
+                let to = s.len();
+                return closed(places, n, Place { from: at, to }, to);
+            }
             // the text is readable, so no field is bad
-            Ended::End | Ended::Bad => return closed(from, to, n, s.len(), s.len()),
+            None => unreachable!(),
         }
     }
 }

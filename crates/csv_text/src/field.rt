@@ -3,19 +3,17 @@
 // Where a quoted field closes stands in `quoted`. The grammar gives a text one reading at most, so the field at a place, with what may
 // follow it, is one.
 ghost use Rattle.std.specs.Prelude.{◌≤◌, length};
-ghost use Rattle.csv_text.specs.steps.FieldAt.{PlainTo, FieldAt};
+ghost use Rattle.csv_text.specs.steps.FieldAt.{PlainTo, EndIs, FieldAt};
 
 use crate::quoted;
-use crate::quoted::ClosingQuote;
 
-// What follows the field at a place: a comma or a row's end, with the index at which the field ends; the text's end, which is
-// that index itself; or Bad, where no field stands there that may be followed so.
+// What follows the field at a place: a comma or a row's end, with the index at which the field ends; or the text's end, which is
+// that index itself.
 #[derive(Clone, Copy)]
 pub enum Ended {
     Comma(usize),
     Row(usize),
     End,
-    Bad,
 }
 
 // The end of the longest plain stretch that starts at a place.
@@ -30,27 +28,32 @@ fn plain_end(s: &[u8], at: usize) -> usize
     i
 }
 
-// The field that starts at a place: where it ends, and what follows it.
-pub(crate) fn field_end(s: &[u8], at: usize) -> Ended
+// The only end that a field at a place can have, if something may follow it; nothing, where none stands there.
+fn end_of(s: &[u8], at: usize) -> Option<usize>
+    requires { at ≤ length s.now }
+    ensures { EndIs s.now at result }
+{
+    if quoted::byte_is(s, at, 0x22) {
+        let closing = quoted::closing(s, at + 1)?;
+        return Some(closing + 1);
+    }
+    Some(plain_end(s, at))
+}
+
+// The field that starts at a place: where it ends, and what follows it; nothing, where no field stands there that may be followed so.
+pub(crate) fn field_end(s: &[u8], at: usize) -> Option<Ended>
     requires { at ≤ length s.now }
     ensures { FieldAt s.now at result }
 {
-    let end = if quoted::byte_is(s, at, 0x22) {
-        match quoted::closing(s, at + 1) {
-            ClosingQuote::At(i) => i + 1,
-            ClosingQuote::Unclosed => return Ended::Bad,
-        }
-    } else {
-        plain_end(s, at)
-    };
+    let end = end_of(s, at)?;
     if end == s.len() {
-        return Ended::End;
+        return Some(Ended::End);
     }
     if quoted::byte_is(s, end, 0x2C) {
-        return Ended::Comma(end);
+        return Some(Ended::Comma(end));
     }
     if quoted::byte_is(s, end, 0x0D) & quoted::byte_is(s, end + 1, 0x0A) {
-        return Ended::Row(end);
+        return Some(Ended::Row(end));
     }
-    Ended::Bad
+    None
 }

@@ -24,16 +24,11 @@ pub fn is_csv(s: &[u8]) -> bool
 {
     let mut at: usize = 0;
     loop {
-        let f = field::field_end(s, at);
-        match f {
-            Ended::Comma(e) => {
-                at = e + 1;
-            }
-            Ended::Row(e) => {
-                at = e + 2;
-            }
-            Ended::End => return true,
-            Ended::Bad => return false,
+        match field::field_end(s, at) {
+            Some(Ended::Comma(e)) => at = e + 1,
+            Some(Ended::Row(e)) => at = e + 2,
+            Some(Ended::End) => return true,
+            None => return false,
         }
     }
 }

@@ -15,7 +15,7 @@ pub fn note_at(s: &[u8], row: usize) -> &[u8]
     loop {
         let cells = crate::cells::cells_at(s, at);
         if n == row {
-            return crate::cells::cell(s, cells, 9);
+            return cells.cell(s, 9);
         }
         at = cells.next;
         if s.len() <= at {

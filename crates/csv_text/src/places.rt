@@ -42,8 +42,8 @@ pub fn cell_of(s: &[u8], row: usize, column: usize) -> &[u8]
     if s.len() <= start {
         return &s[0..0];
     }
-    let places = cells::cells_at(s, start);
-    cells::cell(s, places, column - 1)
+    let passed = cells::cells_at(s, start);
+    passed.cell(s, column - 1)
 }
 
 // The line of a place, by the line breaks before it.

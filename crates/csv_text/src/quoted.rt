@@ -7,13 +7,6 @@ ghost use Rattle.csv_text.specs.rfc4180.Rfc4180.{Textdata};
 ghost use Rattle.arithmetic.specs.decides.Decides.{Decides};
 ghost use Rattle.csv_text.specs.steps.Closing.{FirstByte, ClosedAt};
 
-// Where a closing quote stands.
-#[derive(Clone, Copy)]
-pub enum ClosingQuote {
-    At(usize),
-    Unclosed,
-}
-
 // Whether a byte is TEXTDATA.
 pub(crate) fn is_text(b: u8) -> bool
     ensures { Decides result (Textdata b) }
@@ -32,7 +25,7 @@ pub(crate) fn byte_is(s: &[u8], i: usize, b: u8) -> bool
 }
 
 // The closing quote of what stands between quotes from a place on.
-pub(crate) fn closing(s: &[u8], at: usize) -> ClosingQuote
+pub(crate) fn closing(s: &[u8], at: usize) -> Option<usize>
     requires { at ≤ length s.now }
     ensures { ClosedAt s.now at result }
 {
@@ -43,13 +36,13 @@ pub(crate) fn closing(s: &[u8], at: usize) -> ClosingQuote
             if byte_is(s, i + 1, 0x22) {
                 i += 2;
             } else {
-                return ClosingQuote::At(i);
+                return Some(i);
             }
         } else if (b == 0x2C) | (b == 0x0D) | (b == 0x0A) | is_text(b) {
             i += 1;
         } else {
-            return ClosingQuote::Unclosed;
+            return None;
         }
     }
-    ClosingQuote::Unclosed
+    None
 }

@@ -24,79 +24,49 @@ pub enum Spot {
 // which it ends.
 #[derive(Clone, Copy)]
 pub enum TextFault {
-    Sound,
     Stray(usize, Spot),
     Unclosed(usize),
     Return(usize),
 }
 
-// What stands right behind a byte, or that no text goes on with it.
-#[derive(Clone, Copy)]
-enum Onward {
-    To(Spot),
-    Nowhere,
-}
-
-// Behind a byte that follows a field.
-fn ended(b: u8) -> Onward
+// What stands behind a byte that follows a field; nothing, where no text goes on with it.
+fn ended(b: u8) -> Option<Spot>
     ensures { EndedBy b result }
 {
-    if b == 0x2C {
-        return Onward::To(Spot::Start);
+    match b {
+        b',' => Some(Spot::Start),
+        b'\r' => Some(Spot::Return),
+        _ => None,
     }
-    if b == 0x0D {
-        return Onward::To(Spot::Return);
-    }
-    Onward::Nowhere
 }
 
 // Behind a byte that follows an open quote and what stands between quotes.
-fn in_quotes(b: u8) -> Onward
+fn in_quotes(b: u8) -> Option<Spot>
     ensures { NextSpot Spot.Inside b result }
 {
-    if b == 0x22 {
-        return Onward::To(Spot::Closed);
+    match b {
+        b'"' => Some(Spot::Closed),
+        b',' | b'\r' | b'\n' => Some(Spot::Inside),
+        _ if quoted::is_text(b) => Some(Spot::Inside),
+        _ => None,
     }
-    if (b == 0x2C) | (b == 0x0D) | (b == 0x0A) | quoted::is_text(b) {
-        return Onward::To(Spot::Inside);
-    }
-    Onward::Nowhere
 }
 
 // Behind a byte, by what stands right before it.
-fn next_spot(spot: Spot, b: u8) -> Onward
+fn next_spot(spot: Spot, b: u8) -> Option<Spot>
     ensures { NextSpot spot b result }
 {
-    let text = quoted::is_text(b);
     match spot {
-        Spot::Start => {
-            if b == 0x22 {
-                return Onward::To(Spot::Inside);
-            }
-            if text {
-                return Onward::To(Spot::Plain);
-            }
-            ended(b)
-        }
-        Spot::Plain => {
-            if text {
-                return Onward::To(Spot::Plain);
-            }
-            ended(b)
-        }
+        Spot::Start if b == b'"' => Some(Spot::Inside),
+        Spot::Start if quoted::is_text(b) => Some(Spot::Plain),
+        Spot::Start => ended(b),
+        Spot::Plain if quoted::is_text(b) => Some(Spot::Plain),
+        Spot::Plain => ended(b),
         Spot::Inside => in_quotes(b),
-        Spot::Closed => {
-            if b == 0x22 {
-                return Onward::To(Spot::Inside);
-            }
-            ended(b)
-        }
-        Spot::Return => {
-            if b == 0x0A {
-                return Onward::To(Spot::Start);
-            }
-            Onward::Nowhere
-        }
+        Spot::Closed if b == b'"' => Some(Spot::Inside),
+        Spot::Closed => ended(b),
+        Spot::Return if b == b'\n' => Some(Spot::Start),
+        Spot::Return => None,
     }
 }
 
@@ -106,36 +76,26 @@ fn field_of(spot: Spot, from: usize, i: usize) -> usize
 {
     match spot {
         Spot::Start => i,
-        Spot::Plain => from,
-        Spot::Inside => from,
-        Spot::Closed => from,
-        Spot::Return => from,
+        Spot::Plain | Spot::Inside | Spot::Closed | Spot::Return => from,
     }
 }
 
 // Where the text stops being RFC 4180.
-pub fn text_fault(s: &[u8]) -> TextFault
+pub fn text_fault(s: &[u8]) -> Option<TextFault>
     ensures { TextSays s.now result }
 {
     let mut spot = Spot::Start;
     let mut field: usize = 0;
-    let mut i: usize = 0;
-    while i < s.len() {
+    for (i, b) in s.iter().enumerate() {
         field = field_of(spot, field, i);
-        let next = next_spot(spot, s[i]);
-        match next {
-            Onward::To(behind) => {
-                spot = behind;
-            }
-            Onward::Nowhere => return TextFault::Stray(i, spot),
-        }
-        i += 1;
+        let Some(behind) = next_spot(spot, *b) else {
+            return Some(TextFault::Stray(i, spot));
+        };
+        spot = behind;
     }
     match spot {
-        Spot::Start => TextFault::Sound,
-        Spot::Plain => TextFault::Sound,
-        Spot::Inside => TextFault::Unclosed(field),
-        Spot::Closed => TextFault::Sound,
-        Spot::Return => TextFault::Return(i - 1),
+        Spot::Start | Spot::Plain | Spot::Closed => None,
+        Spot::Inside => Some(TextFault::Unclosed(field)),
+        Spot::Return => Some(TextFault::Return(s.len() - 1)),
     }
 }

@@ -9,27 +9,25 @@ use lib.Seq.{ext_get_or}
 use Rattle.arithmetic.proofs.Cases.{by_cases}
 use Rattle.csv_text.specs.rfc4180.Rfc4180.{Cell, File, Readable}
 use Rattle.csv_text.proofs.rfc4180.First.{first, some_row}
-use Rattle.csv_text.specs.cells.Cells.{RowIs, RowAt, Stands, CellAt}
+use Rattle.csv_text.specs.cells.Cells.{no_place, place, RowIs, RowAt, Stands, CellAt}
 use Rattle.csv_text.specs.declared.cells.Cells.{Cells}
 
 module _ {s : List ℕ} {start : ℕ} {fs : List Cell} {rs : List (List Cell)} {r q : Cells} (h : RowIs s start fs rs r) (k : RowIs s start fs rs q) where
-  places : (i : ℕ) → i < 10 → Dec (i < length fs) → (get_or r.from i 0 ≡ get_or q.from i 0) × (get_or r.to i 0 ≡ get_or q.to i 0)
+  places : (i : ℕ) → i < 10 → Dec (i < length fs) → place r i ≡ place q i
   places i l (yes y) =
       let a = h.stretches i l y in
       let b = k.stretches i l y in
-      (a.starts ∙ sym b.starts, a.ends ∙ sym b.ends)
-  places i l (no y) =
-      let a = h.unused i (omega arith) in
-      let b = k.unused i (omega arith) in
-      (a.0 ∙ sym b.0, a.1 ∙ sym b.1)
+      let f : (place r i).from ≡ (place q i).from = a.starts ∙ sym b.starts in
+      let t : (place r i).to ≡ (place q i).to = a.ends ∙ sym b.ends in
+      λ j. record { from = f j; to = t j }
+  places i l (no y) = h.unused i (omega arith) ∙ sym (k.unused i (omega arith))
 
   row_is_one : r ≡ q
   row_is_one =
-      let a : r.from ≡ q.from = ext_get_or 0 _ _ (h.tens.0 ∙ sym k.tens.0) (λ i l. (places i (let t = h.tens.0 in omega arith) (dec_lt i (length fs))).0) in
-      let b : r.to ≡ q.to = ext_get_or 0 _ _ (h.tens.1 ∙ sym k.tens.1) (λ i l. (places i (let t = h.tens.1 in omega arith) (dec_lt i (length fs))).1) in
+      let a : r.places ≡ q.places = ext_get_or no_place _ _ (h.ten ∙ sym k.ten) (λ i l. places i (let t = h.ten in omega arith) (dec_lt i (length fs))) in
       let c : r.count ≡ q.count = h.count ∙ sym k.count in
       let d : r.next ≡ q.next = h.behind ∙ sym k.behind in
-      λ i. record { count = c i; from = a i; to = b i; next = d i }
+      λ i. record { count = c i; places = a i; next = d i }
 
 pub cells_one : {s : List ℕ} {start : ℕ} {r q : Cells} → Readable (drop start s) → RowAt s start r → RowAt s start q → r ≡ q
 cells_one {s} {start} w h k =
@@ -39,9 +37,9 @@ cells_one {s} {start} w h k =
 
 -- a stretch that is there, or is not
 stands : (s : List ℕ) (c : Cells) (k : ℕ) → Dec (Stands s c k)
-stands s c k = go (dec_lt k 10) (dec_le (get_or c.from k 0) (get_or c.to k 0)) (dec_le (get_or c.to k 0) (length s))
+stands s c k = go (dec_lt k 10) (dec_le (place c k).from (place c k).to) (dec_le (place c k).to (length s))
   where
-    go : Dec (k < 10) → Dec (get_or c.from k 0 ≤ get_or c.to k 0) → Dec (get_or c.to k 0 ≤ length s) → Dec (Stands s c k)
+    go : Dec (k < 10) → Dec ((place c k).from ≤ (place c k).to) → Dec ((place c k).to ≤ length s) → Dec (Stands s c k)
     go (yes a) (yes b) (yes d) = yes (record { few = a; order = b; within = d })
     go (no a) b d = no (λ w. a w.few)
     go (yes a) (no b) d = no (λ w. b w.order)

@@ -13,6 +13,7 @@ use Rattle.csv_text.specs.cells.Cells.{offset, RowIs, RowAt, CellAt}
 use Rattle.csv_text.specs.cells.Content.{no_cell}
 use Rattle.csv_text.specs.cells.Standing.{raw, Standing, row_text}
 use Rattle.csv_text.specs.cells.Content.{content}
+use Rattle.csv_text.specs.declared.cells.Place.{Place}
 use Rattle.csv_text.specs.declared.cells.Cells.{Cells}
 use Rattle.csv_text.proofs.cells.Fields.{row_fields}
 
@@ -91,8 +92,6 @@ cell_raw {s} {cs = cs} is k few a =
     a.there (record { few = few; order = omega arith; within = w.within }) ∙ w.is)
     (λ l.
     let u = is.unused k (omega arith) in
-    let p = u.0 in
-    let q = u.1 in
-    a.there (record { few = few; order = omega arith; within = omega arith })
-    ∙ (λ i. part (p i) (q i) s)
+    a.there (record { few = few; order = rw u (omega arith); within = rw u (omega arith) })
+    ∙ ap (λ (p : Place). part p.from p.to s) u
     ∙ sym (ap (λ (x : Cell). x.raw) (get_or-eq_default cs no_cell (omega arith))))

@@ -7,24 +7,14 @@ use lib.ListN.{get_or, drop}
 use Rattle.csv_text.specs.rfc4180.Rfc4180.{DQUOTE, Escaped, Field, plain, quoted}
 use Rattle.csv_text.specs.Part.{part}
 use Rattle.csv_text.specs.steps.Closing.{FirstByte, EscapedTo}
-use Rattle.csv_text.specs.steps.FieldAt.{PlainTo, FieldTo, FieldAt, Stop}
-use Rattle.csv_text.specs.declared.field.Ended.TheVariants.{Bad}
+use Rattle.csv_text.specs.steps.FieldAt.{PlainTo, FieldTo, Stop, Follows, EndsAt, NoField}
 use Rattle.csv_text.proofs.Lists.{tails}
 use Rattle.csv_text.proofs.rfc4180.Unique.{plain_unique, escaped_unique, closing_halts, plain_quote, stop_quote, stop_plain}
 use Rattle.csv_text.proofs.rfc4180.Parts.{part_more, part_rest, first_byte_is, first_byte_behind}
 use Rattle.csv_text.proofs.field.Scan.{byte_first}
 
--- every field at this place with an end behind it has that end where ours has it
-abbrev pub Follows : List ℕ → ℕ → ℕ → Type 0
-Follows s at e = (q d u : List ℕ) → Field q d → Stop u → drop at s ≡ q ++ u → drop e s ≡ u
-
--- the field at a place ends at e, and no field there ends elsewhere
-pub record EndsAt (s : List ℕ) (at e : ℕ) : Type 0 where
-  pub field : FieldTo s at e
-  pub follows : Follows s at e
-
 module _ (s : List ℕ) (at : ℕ) where
-  pub not_followed : (e : ℕ) → EndsAt s at e → (Stop (drop e s) → ⊥) → FieldAt s at Bad
+  pub not_followed : (e : ℕ) → EndsAt s at e → (Stop (drop e s) → ⊥) → NoField s at
   not_followed e f h = λ q d u g k m. h (subst Stop (sym (f.follows q d u g k m)) k)
 
   -- a plain field
@@ -75,7 +65,7 @@ module _ (s : List ℕ) (at : ℕ) where
   -- a quote that nothing closes
   pub unclosed : FirstByte DQUOTE (drop at s)
       → ((r c t : List ℕ) → Escaped r c → (FirstByte DQUOTE t → ⊥) → drop (at + 1) s ≡ r ++ DQUOTE ∷ t → ⊥)
-      → (r c t : List ℕ) → Field r c → Stop t → drop at s ≡ r ++ t → ⊥
+      → NoField s at
   unclosed bq h r c t (plain g) k m = plain_quote g (λ v f. stop_quote k f) (sym m ∙ bq.begins)
   unclosed bq h r c t (quoted {s = x} g) k m =
       h x c t g (λ b. stop_quote k b.begins) (first_byte_behind s at DQUOTE _ m ∙ append_assoc x (DQUOTE ∷ []) t)

@@ -10,8 +10,7 @@ use Rattle.csv_text.specs.Part.{part}
 use Rattle.csv_text.proofs.rfc4180.Unique.{EscapedHalts, closing_halts, escaped_unique}
 use Rattle.csv_text.proofs.rfc4180.Parts.{part_rest}
 use Rattle.csv_text.specs.steps.Closing.{EscapedTo, ClosedAt}
-use Rattle.csv_text.specs.declared.quoted.ClosingQuote.{ClosingQuote}
-use Rattle.csv_text.specs.declared.quoted.ClosingQuote.TheVariants.{At, Unclosed}
+use Rattle.std.specs.Prelude.{Option, Some, None}
 
 module _ (s : List ℕ) (at : ℕ) where
   pub part_length : (e : ℕ) → e ≤ length s → length (part at e s) ≡ e - at
@@ -34,11 +33,11 @@ module _ (s : List ℕ) (at : ℕ) where
       let n : e - at ≡ d - at = sym (part_length e (omega arith)) ∙ ap length u.0 ∙ part_length d (omega arith) in
       omega arith
 
-  not_unclosed : (e : ℕ) → EscapedTo s at e → ClosedAt s at Unclosed → ⊥
+  not_unclosed : (e : ℕ) → EscapedTo s at e → ClosedAt s at None → ⊥
   not_unclosed e p h = h (part at e s) p.content (drop (e + 1) s) p.escaped p.alone (closed e p)
 
-  pub closing_one : (a b : ClosingQuote) → ClosedAt s at a → ClosedAt s at b → a ≡ b
-  closing_one (At e) (At d) p q = ap At (one_quote e d p q)
-  closing_one (At e) Unclosed p q = absurd (not_unclosed e p q)
-  closing_one Unclosed (At d) p q = absurd (not_unclosed d q p)
-  closing_one Unclosed Unclosed p q = refl
+  pub closing_one : (a b : Option ℕ) → ClosedAt s at a → ClosedAt s at b → a ≡ b
+  closing_one (Some e) (Some d) p q = ap Some (one_quote e d p q)
+  closing_one (Some e) None p q = absurd (not_unclosed e p q)
+  closing_one None (Some d) p q = absurd (not_unclosed d q p)
+  closing_one None None p q = refl

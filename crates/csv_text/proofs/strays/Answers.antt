@@ -11,6 +11,7 @@ use Rattle.csv_text.specs.strays.Strays.{Begun, FieldStarts, Before, field_next,
 use Rattle.csv_text.specs.declared.strays.Spot.{Spot}
 use Rattle.csv_text.specs.declared.strays.TextFault.{TextFault}
 use Rattle.csv_text.specs.declared.strays.TextFault.TheVariants as faults
+use Rattle.std.specs.Prelude.{Option, Some, None}
 use Rattle.csv_text.proofs.Lists.{nil_cons, heads, tails, conses, lasts}
 use Rattle.csv_text.proofs.strays.Spots.{at_end_decides, readable_begun, before_begun}
 use Rattle.csv_text.proofs.strays.Apart.{spot_one}
@@ -41,11 +42,11 @@ begun_past p b r e n w = n (begun_short (p ++ b ∷ []) r (subst Begun (e ∙ sy
 
 -- the first of two stray bytes is none, if the bytes before the second begin a text: so they stand at one place
 module _ {a b : List ℕ} {at to : ℕ} {spot other : Spot} (x : ℕ) (c : List ℕ) (y : ℕ) (d : List ℕ) where
-  stray_at : Cut a x c b y d → (length a ≡ length b → at ≡ to) → Begun a → (Begun (a ++ x ∷ []) → ⊥) → Begun b → (Begun (b ++ y ∷ []) → ⊥) → Before a spot → Before b other → faults.Stray at spot ≡ faults.Stray to other
+  stray_at : Cut a x c b y d → (length a ≡ length b → at ≡ to) → Begun a → (Begun (a ++ x ∷ []) → ⊥) → Begun b → (Begun (b ++ y ∷ []) → ⊥) → Before a spot → Before b other → Some (faults.Stray at spot) ≡ Some (faults.Stray to other)
   stray_at (same e) h w n v m p q =
       let places : at ≡ to = h (ap length e) in
       let spots_same : spot ≡ other = spot_one (subst (λ (l : List ℕ). Before l spot) e p) q in
-      λ i. faults.Stray (places i) (spots_same i)
+      λ i. Some (faults.Stray (places i) (spots_same i))
   stray_at (earlier r e f) h w n v m p q = absurd (begun_past a x r e n v)
   stray_at (later r e f) h w n v m p q = absurd (begun_past b y r e m w)
 
@@ -83,16 +84,16 @@ module _ {a b c d x y : List ℕ} {at to : ℕ} where
   quote_at (later m e r) h f g p q = absurd (no_field_inside g e (halved q m _ r) f)
 
 -- what is no RFC 4180 text
-pub fault_unreadable : {s : List ℕ} {fault : TextFault} → TextSays s fault → (fault ≡ faults.Sound → ⊥) → Readable s → ⊥
+pub fault_unreadable : {s : List ℕ} {fault : Option TextFault} → TextSays s fault → (fault ≡ None → ⊥) → Readable s → ⊥
 fault_unreadable (sound w) n k = n refl
 fault_unreadable (stray {before} b behind e h w m p) n k = begun_past before b behind e m (readable_begun k)
 fault_unreadable (unclosed e h f p) n k = at_end_decides (in_quotes f p e) k
 fault_unreadable (ends_in_return e h w) n k = at_end_decides (behind_return w e) k
 
-pub sound_readable : {s : List ℕ} → TextSays s faults.Sound → Readable s
+pub sound_readable : {s : List ℕ} → TextSays s None → Readable s
 sound_readable (sound w) = w
 
-pub text_one : {s : List ℕ} {a b : TextFault} → TextSays s a → TextSays s b → a ≡ b
+pub text_one : {s : List ℕ} {a b : Option TextFault} → TextSays s a → TextSays s b → a ≡ b
 text_one (sound w) (sound v) = refl
 text_one (sound w) (stray b r e h v n p) = absurd (fault_unreadable (stray b r e h v n p) (λ z. impossible cc) w)
 text_one (sound w) (unclosed e h f p) = absurd (fault_unreadable (unclosed e h f p) (λ z. impossible cc) w)
@@ -104,11 +105,11 @@ text_one (stray {before = u} x c e h w n p) (ends_in_return g k v) = absurd (beg
 text_one (unclosed e h f p) (sound w) = absurd (fault_unreadable (unclosed e h f p) (λ z. impossible cc) w)
 text_one (unclosed g k f q) (stray {before = u} x c e h w n p) = absurd (begun_past u x c e n (before_begun (in_quotes f q g)))
 text_one (unclosed {before = u} {inside = c} e h f p) (unclosed {before = v} {inside = d} g k m q) =
-    ap faults.Unclosed (quote_at (cut u v c d DQUOTE DQUOTE (sym e ∙ g)) (λ l. omega arith) f m p q)
+    ap (λ (k : ℕ). Some (faults.Unclosed k)) (quote_at (cut u v c d DQUOTE DQUOTE (sym e ∙ g)) (λ l. omega arith) f m p q)
 text_one (unclosed e h f p) (ends_in_return g k v) = let z = spot_one (in_quotes f p e) (behind_return v g) in impossible cc
 text_one (ends_in_return e h v) (sound w) = absurd (fault_unreadable (ends_in_return e h v) (λ z. impossible cc) w)
 text_one (ends_in_return g k v) (stray {before = u} x c e h w n p) = absurd (begun_past u x c e n (before_begun (behind_return v g)))
 text_one (ends_in_return g k v) (unclosed e h f p) = let z = spot_one (in_quotes f p e) (behind_return v g) in impossible cc
 text_one (ends_in_return {before = u} e h w) (ends_in_return {before = v} g k z) =
     let l = ap length (lasts u v CR CR (sym e ∙ g)).0 in
-    ap faults.Return (omega arith)
+    ap (λ (k : ℕ). Some (faults.Return k)) (omega arith)

@@ -3,6 +3,7 @@ use Rattle.std.specs.Prelude.{ℕ, ◌+◌, ◌<◌, ◌≡◌, List, [], ◌∷
 use Rattle.csv_text.specs.rfc4180.Rfc4180.{COMMA, Cell, Field}
 use Rattle.csv_text.specs.cells.Content.{no_cell, content}
 use Rattle.csv_text.specs.cells.Cells.{Stretch}
+use Rattle.csv_text.specs.cells.Cells as cells
 use Rattle.csv_text.specs.declared.cells.Cells.{Cells}
 
 -- a cell of a row by its place, the first being 0, as it lies in the text
@@ -12,7 +13,7 @@ raw cs k = (get_or cs k no_cell).raw
 pub record Standing (many : ℕ) (s : List ℕ) (c : Cells) (cs : List Cell) : Type 0 where
   pub so_many : length cs ≡ many
   pub place : ℕ → ℕ
-  pub stands : (k : ℕ) → k < many → Stretch s (place k) (get_or c.from k 0) (get_or c.to k 0) (get_or cs k no_cell)
+  pub stands : (k : ℕ) → k < many → Stretch s (place k) (cells.place c k).from (cells.place c k).to (get_or cs k no_cell)
   pub field : (k : ℕ) → k < many → Field (raw cs k) (content cs k)
 
 -- a row as it lies in the text, its CRLF left out

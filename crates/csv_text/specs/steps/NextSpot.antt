@@ -1,10 +1,8 @@
 -- What `ended`, `in_quotes`, `next_spot` and `field_of` answer: what stands behind a byte, by what stands right before it, and where the field that it belongs to starts.
-use Rattle.std.specs.Prelude.{ℕ, ◌≡◌}
+use Rattle.std.specs.Prelude.{ℕ, Option, Some, None, ◌≡◌}
 use Rattle.csv_text.specs.rfc4180.Rfc4180.{COMMA, CR, DQUOTE, LF, Textdata, Inside}
 use Rattle.csv_text.specs.declared.strays.Spot.{Spot}
 use Rattle.csv_text.specs.declared.strays.Spot.TheVariants as spots
-use Rattle.csv_text.specs.declared.strays.Onward.{Onward}
-use Rattle.csv_text.specs.declared.strays.Onward.TheVariants.{To, Nowhere}
 
 -- behind a field: its comma, or the CR of its row's end
 pub data Ends (b : ℕ) : Spot → Type 0 where
@@ -24,13 +22,13 @@ pub data Takes (b : ℕ) : Spot → Spot → Type 0 where
   ends_quoted : {spot : Spot} → Ends b spot → Takes b spots.Closed spot
   ends_row : b ≡ LF → Takes b spots.Return spots.Start
 
-abbrev pub EndedBy : ℕ → Onward → Type 0
-EndedBy b (To spot) = Ends b spot
-EndedBy b Nowhere = (spot : Spot) → Ends b spot → ⊥
+abbrev pub EndedBy : ℕ → Option Spot → Type 0
+EndedBy b (Some spot) = Ends b spot
+EndedBy b None = (spot : Spot) → Ends b spot → ⊥
 
-abbrev pub NextSpot : Spot → ℕ → Onward → Type 0
-NextSpot spot b (To next) = Takes b spot next
-NextSpot spot b Nowhere = (next : Spot) → Takes b spot next → ⊥
+abbrev pub NextSpot : Spot → ℕ → Option Spot → Type 0
+NextSpot spot b (Some next) = Takes b spot next
+NextSpot spot b None = (next : Spot) → Takes b spot next → ⊥
 
 -- a field starts at i, or started at `from`
 abbrev pub field_start : Spot → ℕ → ℕ → ℕ

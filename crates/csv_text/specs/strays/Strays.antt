@@ -1,6 +1,6 @@
 -- Where a refusal lies, 2: "the first byte with which the text begins no RFC 4180 text, though the bytes before it begin one; or, where there is none
 -- such, the text ends inside quotes (the place of the quote that opened them), or with a CR outside quotes". Stated over the grammar of `Rfc4180`.
-use Rattle.std.specs.Prelude.{ℕ, ◌≡◌, List, [], ◌∷◌, ◌++◌, length}
+use Rattle.std.specs.Prelude.{ℕ, Option, Some, None, ◌≡◌, List, [], ◌∷◌, ◌++◌, length}
 use Rattle.csv_text.specs.rfc4180.Rfc4180.{COMMA, CR, DQUOTE, LF, Plain, Escaped, Readable}
 use Rattle.csv_text.specs.declared.strays.Spot.{Spot}
 use Rattle.csv_text.specs.declared.strays.Spot.TheVariants as spots
@@ -29,14 +29,14 @@ pub data Before (p : List ℕ) : Spot → Type 0 where
 
 -- where a text stops being RFC 4180: nowhere; at its first stray byte, with what stands right before it; at the quote of which it ends inside; at the CR
 -- with which it ends
-pub data TextSays (s : List ℕ) : TextFault → Type 0 where
-  sound : Readable s → TextSays s faults.Sound
+pub data TextSays (s : List ℕ) : Option TextFault → Type 0 where
+  sound : Readable s → TextSays s None
   stray : {before : List ℕ} (b : ℕ) (behind : List ℕ) {at : ℕ} {spot : Spot}
       → s ≡ before ++ b ∷ behind
       → at ≡ length before
       → Begun before
       → (Begun (before ++ b ∷ []) → ⊥)
       → Before before spot
-      → TextSays s (faults.Stray at spot)
-  unclosed : {before inside content : List ℕ} {at : ℕ} → s ≡ before ++ DQUOTE ∷ inside → at ≡ length before → FieldStarts before → Escaped inside content → TextSays s (faults.Unclosed at)
-  ends_in_return : {before : List ℕ} {at : ℕ} → s ≡ before ++ CR ∷ [] → at ≡ length before → Readable before → TextSays s (faults.Return at)
+      → TextSays s (Some (faults.Stray at spot))
+  unclosed : {before inside content : List ℕ} {at : ℕ} → s ≡ before ++ DQUOTE ∷ inside → at ≡ length before → FieldStarts before → Escaped inside content → TextSays s (Some (faults.Unclosed at))
+  ends_in_return : {before : List ℕ} {at : ℕ} → s ≡ before ++ CR ∷ [] → at ≡ length before → Readable before → TextSays s (Some (faults.Return at))
