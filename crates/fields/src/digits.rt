@@ -3,31 +3,21 @@
 // The worth of nine digits fits a word, and the answer is exact whatever the bytes.
 ghost use Rattle.fields.specs.steps.Digits.{DigitsAre};
 
-// What digits are worth, or that a content is not digits.
-#[derive(Clone, Copy)]
-pub enum Digits {
-    Worth(u32),
-    NoDigits,
-}
-
-// What a content is worth as digits.
-pub(crate) fn digits_of(content: &[u8]) -> Digits
+// What a content is worth as digits; nothing, where it is not digits.
+pub(crate) fn digits_of(content: &[u8]) -> Option<u32>
     ensures { DigitsAre content.now result }
 {
     let n = content.len();
     if (n == 0) | (9 < n) {
-        return Digits::NoDigits;
+        return None;
     }
     let mut worth: u32 = 0;
-    let mut i: usize = 0;
-    while i < n {
-        let b = content[i] as u32;
+    for (i, b) in content.iter().enumerate() {
         // not a digit, or behind a leading zero
-        if (b < 0x30) | (0x39 < b) | ((0 < i) & (worth == 0)) {
-            return Digits::NoDigits;
+        if (*b < b'0') | (b'9' < *b) | ((0 < i) & (worth == 0)) {
+            return None;
         }
-        worth = worth * 10 + b - 0x30;
-        i += 1;
+        worth = worth * 10 + u32::from(*b - b'0');
     }
-    Digits::Worth(worth)
+    Some(worth)
 }

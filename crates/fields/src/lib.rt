@@ -12,8 +12,6 @@ ghost use Rattle.std.specs.Prelude.{◌≡◌};
 ghost use Rattle.fields.specs.Numbers.{IsNumber, IsEmpty, absent};
 ghost use Rattle.fields.specs.Entries.{EntryAt};
 
-use digits::Digits;
-
 // What a number field holds: nothing, or a number by its sign and size. No field gives a minus zero.
 #[derive(Clone, Copy)]
 pub struct Entry {
@@ -22,30 +20,26 @@ pub struct Entry {
     pub size: u32,
 }
 
-// What a content is, as a number field or an empty one holds it; or that its form is wrong (refusal 3).
-#[derive(Clone, Copy)]
-pub enum Entered {
-    Is(Entry),
-    Wrong,
-}
-
-// The number that a field is: digits, with a minus before them or not, and never -0.
-pub fn number_at(raw: &[u8]) -> Entered
+// The number that a field is: digits, with a minus before them or not, and never -0; nothing, where its form is wrong (refusal 3).
+pub fn number_at(raw: &[u8]) -> Option<Entry>
     ensures { EntryAt IsNumber raw.now result }
 {
     let content = content::bare(raw);
-    let minus = 0 < content.len() && content[0] == 0x2D;
-    // a minus stands before the digits
-    let from = minus as usize;
-    let Digits::Worth(size) = digits::digits_of(&content[from..]) else {
-        return Entered::Wrong;
-    };
-    if minus & (size == 0) {
-        return Entered::Wrong;
+    if let [b'-', behind @ ..] = content {
+        let size = digits::digits_of(behind)?;
+        if size == 0 {
+            return None;
+        }
+        return Some(Entry {
+            filled: true,
+            minus: true,
+            size,
+        });
     }
-    Entered::Is(Entry {
+    let size = digits::digits_of(content)?;
+    Some(Entry {
         filled: true,
-        minus,
+        minus: false,
         size,
     })
 }
@@ -61,13 +55,13 @@ pub fn blank_entry() -> Entry
     }
 }
 
-// Whether a field is left empty.
-pub fn empty_at(raw: &[u8]) -> Entered
+// What a field left empty holds; nothing, where it is not left empty (refusal 3).
+pub fn empty_at(raw: &[u8]) -> Option<Entry>
     ensures { EntryAt IsEmpty raw.now result }
 {
     let content = content::bare(raw);
     if content.len() == 0 {
-        return Entered::Is(blank_entry());
+        return Some(blank_entry());
     }
-    Entered::Wrong
+    None
 }

@@ -3,7 +3,8 @@
 // The answer for a content is exact for any bytes, and that for a stretch whether or not it is a field of RFC 4180. A name is a value of its own: its bytes with zeros behind
 // them, so that one content gives one name, and two contents two.
 ghost use Rattle.std.specs.Prelude.{◌≡◌};
-ghost use Rattle.fields.specs.names.Names.{no_name};
+ghost use Rattle.arithmetic.specs.decides.Decides.{Decides};
+ghost use Rattle.fields.specs.names.Names.{no_name, Letter};
 ghost use Rattle.fields.specs.names.NameAt.{ContentNamed, NameAt};
 
 // A member or a job: its bytes, with zeros behind them.
@@ -11,13 +12,6 @@ ghost use Rattle.fields.specs.names.NameAt.{ContentNamed, NameAt};
 pub struct Name {
     pub len: usize,
     pub bytes: [u8; 12],
-}
-
-// A name; or none, where a stretch has none. (A name holds an array, so no enum can hold it.)
-#[derive(Clone, Copy)]
-pub struct NameRead {
-    pub good: bool,
-    pub name: Name,
 }
 
 // No name: what stands where there is none.
@@ -30,31 +24,34 @@ pub fn blank_name() -> Name
     }
 }
 
-// The name that a content is.
-pub fn name_of(content: &[u8]) -> NameRead
-    ensures { ContentNamed result.good content.now result.name }
+// Whether a byte may stand in a name: a hyphen, 0-9, A-Z.
+fn is_letter(b: u8) -> bool
+    ensures { Decides result (Letter b) }
 {
-    let n = content.len();
-    let mut good = (1 <= n) & (n <= 12);
-    let mut bytes = [0u8; 12];
-    let mut i: usize = 0;
-    while good & (i < n) {
-        let b = content[i];
-        bytes[i] = b;
-        // hyphen, 0-9, A-Z
-        good = (b == 0x2D) | ((0x30 <= b) & (b <= 0x39)) | ((0x41 <= b) & (b <= 0x5A));
-        i += 1;
-    }
-    let name = if good {
-        Name { len: n, bytes }
-    } else {
-        blank_name()
-    };
-    NameRead { good, name }
+    matches!(b, b'-' | b'0'..=b'9' | b'A'..=b'Z')
 }
 
-// The name that a field is.
-pub fn name_at(raw: &[u8]) -> NameRead
+// The name that a content is; nothing, where it is none.
+pub fn name_of(content: &[u8]) -> Option<Name>
+    ensures { ContentNamed content.now result }
+{
+    let n = content.len();
+    let fits = (1 <= n) & (n <= 12);
+    if !fits {
+        return None;
+    }
+    let mut bytes = [0u8; 12];
+    for (i, b) in content.iter().enumerate() {
+        if !is_letter(*b) {
+            return None;
+        }
+        bytes[i] = *b;
+    }
+    Some(Name { len: n, bytes })
+}
+
+// The name that a field is; nothing, where it is none (refusal 3).
+pub fn name_at(raw: &[u8]) -> Option<Name>
     ensures { NameAt raw.now result }
 {
     name_of(crate::content::bare(raw))

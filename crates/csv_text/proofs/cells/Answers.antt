@@ -4,7 +4,7 @@ use native.Mathlib.Decide.{dec_lt, dec_le}
 use native.Mathlib.Omega.{arith}
 use mathlib.Core.Path.{◌≡◌, sym, subst, ◌∙◌}
 use mathlib.Core.List.{List, ◌∷◌}
-use lib.ListN.{length, get_or, drop}
+use lib.ListN.{length, drop}
 use lib.Seq.{ext_get_or}
 use Rattle.arithmetic.proofs.Cases.{by_cases}
 use Rattle.csv_text.specs.rfc4180.Rfc4180.{Cell, File, Readable}

@@ -4,7 +4,7 @@ use native.Mathlib.Omega.{arith}
 use mathlib.Core.Path.{◌≡◌, sym, ap, subst, ◌∙◌}
 use mathlib.Core.List.{List, [], ◌∷◌, ◌++◌, append_assoc}
 use lib.ListN.{get_or, drop}
-use Rattle.csv_text.specs.rfc4180.Rfc4180.{DQUOTE, Escaped, Field, plain, quoted}
+use Rattle.csv_text.specs.rfc4180.Rfc4180.{DQUOTE, Escaped, plain, quoted}
 use Rattle.csv_text.specs.Part.{part}
 use Rattle.csv_text.specs.steps.Closing.{FirstByte, EscapedTo}
 use Rattle.csv_text.specs.steps.FieldAt.{PlainTo, FieldTo, Stop, Follows, EndsAt, NoField}

@@ -146,10 +146,10 @@ module _ (s : List ℕ) (i v : ℕ) where
           let h = digit in
           more {n = v} {d = d} (omega arith) p (omega arith)
 
-      pub digits_more : DigitsRead s i v → DigitsRead s (i + 1) (v * 10 + b - 0x30)
+      pub digits_more : DigitsRead s i v → DigitsRead s (i + 1) (v * 10 + d)
       digits_more p =
           let h = digit in
           let x : 0x30 + d ≡ b = omega arith in
           let t : take (i + 1) s ≡ take i s ++ (0x30 + d) ∷ [] = rw (add-one, take-suc s i 0 l, x) in
-          let w : v * 10 + b - 0x30 ≡ 10 * v + d = omega arith in
+          let w : v * 10 + d ≡ 10 * v + d = omega arith in
           digits (omega arith) (rw (t, w) (grown p))

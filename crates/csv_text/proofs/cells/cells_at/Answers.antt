@@ -1,6 +1,6 @@
 -- Each field takes a byte at least, with its comma, so their number fits and the loop ends. The text is readable, so a bad field cannot come.
 use Rattle.std.proofs.Common.{arith, refl}
-use Rattle.csv_text.proofs.Steps.{step_comma, step_bad}
+use Rattle.csv_text.proofs.Steps.{step_bad}
 use Rattle.csv_text.proofs.cells.Noted.{seen_none, inv_comma, inv_row, inv_end}
 use Rattle.csv_text.proofs.cells.cells_at.Goals as goal
 

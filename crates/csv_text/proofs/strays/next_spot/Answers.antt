@@ -1,8 +1,8 @@
 -- Each spot takes the bytes that its tests name, and those that follow a field where one may end.
-use Rattle.std.proofs.Common.{subst, sym, ◌≡◌}
+use Rattle.std.proofs.Common.{subst, sym}
 use Rattle.csv_text.specs.steps.NextSpot.{opens, begins_plain, more_plain, doubles, ends_row, NextSpot}
 use Rattle.csv_text.specs.declared.strays.Spot.{Spot}
-use Rattle.csv_text.proofs.strays.Taking.{start_next, plain_next, closed_next, return_none}
+use Rattle.csv_text.proofs.strays.Taking.{start_next, plain_next, closed_next}
 use Rattle.csv_text.proofs.strays.next_spot.Goals as goal
 
 pub returns-in-Start : goal.returns-in-Start
