@@ -8,7 +8,7 @@ ghost use Rattle.fields.specs.names.Names.{no_name, Letter};
 ghost use Rattle.fields.specs.names.NameAt.{ContentNamed, NameAt};
 
 // A member or a job: its bytes, with zeros behind them.
-#[derive(Clone, Copy)]
+#[derive(Clone, Copy, PartialEq, Eq)]
 pub struct Name {
     pub len: usize,
     pub bytes: [u8; 12],

@@ -1,7 +1,7 @@
 -- The cells of a form by their places: so the cells of a row mean one row, and where a text has a reading a place in it has one answer.
 use Prim.Native.Nat.{ℕ, zero, suc, ◌+◌, ◌≤◌}
 use native.Mathlib.Omega.{arith}
-use mathlib.Core.Bool.{Bool, true, false}
+use Rattle.std.specs.Prelude.{Option, Some, None}
 use mathlib.Core.Path.{◌≡◌, refl, sym, ap, subst, ◌∙◌}
 use mathlib.Core.List.{List, [], ◌∷◌}
 use lib.ListN.{length, get_or, drop, drop_of_length-le}
@@ -80,11 +80,11 @@ form_one {cs} {a} {b} f g =
     let t = note_is f ∙ sym (note_is g) in
     λ i. record { keyed = record { key = record { member = m i; job = j i }; row = record { kind = k i; numbers = n i } }; note = t i }
 
-row_given_one : (cs : List Cell) (a b : Bool) (j k : Keyed) → RowGiven a cs j → RowGiven b cs k → (a ≡ b) × (j ≡ k)
-row_given_one cs true true j k p q = (refl, ap (λ (r : BookRow). r.keyed) (form_one p q))
-row_given_one cs true false j k p q = absurd (q.0 _ p)
-row_given_one cs false true j k p q = absurd (p.0 _ q)
-row_given_one cs false false j k p q = (refl, p.1 ∙ sym q.1)
+row_given_one : (cs : List Cell) (a b : Option Keyed) → RowGiven cs a → RowGiven cs b → a ≡ b
+row_given_one cs (Some j) (Some k) p q = ap (λ (r : BookRow). Some r.keyed) (form_one p q)
+row_given_one cs (Some j) None p q = absurd (q _ p)
+row_given_one cs None (Some k) p q = absurd (p _ q)
+row_given_one cs None None p q = refl
 
 pub row_read_one : {s : List ℕ} {start : ℕ} (a b : RowRead) → Readable (drop start s) → SeenAt s start a → SeenAt s start b → a ≡ b
 row_read_one {s} {start} a b w p q =
@@ -92,6 +92,6 @@ row_read_one {s} {start} a b w p q =
     let f : File (drop start s) (m.0 ∷ m.1) = subst (File (drop start s)) m.2 w.reading in
     let x = p m.0 m.1 f in
     let y = q m.0 m.1 f in
-    let e = row_given_one m.0 a.good b.good a.row b.row x.means y.means in
+    let e = row_given_one m.0 a.row b.row x.means y.means in
     let n = x.behind ∙ sym y.behind in
-    λ i. record { good = e.0 i; row = e.1 i; next = n i }
+    λ i. record { row = e i; next = n i }

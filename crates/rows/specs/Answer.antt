@@ -1,11 +1,10 @@
 -- What `read_row` answers for the row that starts at a place.
-use Rattle.std.specs.Prelude.{ℕ, ◌+◌, ◌<◌, min, ◌≡◌, Bool, true, false, List, ◌∷◌, length, get_or, drop}
+use Rattle.std.specs.Prelude.{ℕ, ◌+◌, ◌<◌, min, ◌≡◌, Option, Some, None, List, ◌∷◌, length, get_or, drop}
 use Rattle.csv_text.specs.rfc4180.Rfc4180.{Cell, File}
 use Rattle.csv_text.specs.cells.Cells.{offset, Rest}
 use Rattle.csv_text.specs.cells.Content.{no_cell}
 use Rattle.csv_text.specs.cells.Standing.{raw}
 use Rattle.rows.specs.Form.{BookRow, Ten, Form}
-use Rattle.rows.specs.keys.Keyed.{no_row}
 use Rattle.rows.specs.declared.keys.Keyed.{Keyed}
 use Rattle.rows.specs.declared.RowRead.{RowRead}
 
@@ -24,14 +23,14 @@ first_ten cs = record {
   note = get_or cs 9 no_cell;
 }
 
--- the row that the cells mean; or that they mean none, and no row
-abbrev pub RowGiven : Bool → List Cell → Keyed → Type 0
-RowGiven true cs k = Form cs (record { keyed = k; note = raw cs 9 })
-RowGiven false cs k = ((r : BookRow) → Form cs r → ⊥) × (k ≡ no_row)
+-- the row that the cells mean; or that they mean none
+abbrev pub RowGiven : List Cell → Option Keyed → Type 0
+RowGiven cs (Some k) = Form cs (record { keyed = k; note = raw cs 9 })
+RowGiven cs None = (r : BookRow) → Form cs r → ⊥
 
 -- of the row that starts at a place: what it means, and where the next one starts
 pub record RowSeen (s : List ℕ) (start : ℕ) (cs : List Cell) (css : List (List Cell)) (r : RowRead) : Type 0 where
-  pub means : RowGiven r.good cs r.row
+  pub means : RowGiven cs r.row
   pub behind : r.next ≡ min (length s) (start + offset cs (length cs) + 1)
   pub on : r.next < length s → start < r.next
   pub rest : Rest (drop r.next s) css

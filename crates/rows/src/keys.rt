@@ -3,7 +3,7 @@
 //
 // Keys are compared by their bytes, and the promise is about the keys themselves. Names of one length are one exactly if all their twelve
 // bytes agree, so that the bytes behind a name stand in the promise too.
-ghost use Rattle.std.specs.Prelude.{◌≡◌};
+ghost use Rattle.std.specs.Prelude.{◌≡◌, length};
 ghost use Rattle.arithmetic.specs.decides.Decides.{Decides};
 ghost use Rattle.rows.specs.keys.Keyed.{no_row};
 ghost use Rattle.rows.specs.keys.Beginning.{BeginningIs};
@@ -13,7 +13,7 @@ use fields::names::Name;
 use kinds::{Kind, Numbers, Row};
 
 // Member and job, together the key.
-#[derive(Clone, Copy)]
+#[derive(Clone, Copy, PartialEq, Eq)]
 pub struct Key {
     pub member: Name,
     pub job: Name,
@@ -24,13 +24,6 @@ pub struct Key {
 pub struct Keyed {
     pub key: Key,
     pub row: Row,
-}
-
-// Whether a job begins; or the refusal of its B row.
-#[derive(Clone, Copy)]
-pub enum Beginning {
-    Allowed,
-    Barred(Refusal),
 }
 
 // No row: what stands where there is none.
@@ -62,35 +55,21 @@ pub fn blank_row() -> Keyed
 pub fn same_key(a: Key, b: Key) -> bool
     ensures { Decides result (a ≡ b) }
 {
-    let member = a.member.bytes;
-    let other_member = b.member.bytes;
-    let job = a.job.bytes;
-    let other_job = b.job.bytes;
-    let mut i: usize = 0;
-    while i < 12 {
-        if (member[i] == other_member[i]) & (job[i] == other_job[i]) {
-            i += 1;
-        } else {
-            return false;
-        }
-    }
-    (a.member.len == b.member.len) & (a.job.len == b.job.len)
+    a == b
 }
 
-// Whether a job with this key begins behind n jobs with theirs: a book has at most 64, and none with a key used before.
-pub fn may_begin(keys: [Key; 64], n: usize, key: Key) -> Beginning
-    ensures { BeginningIs keys n key result }
+// Whether a job with this key begins behind jobs with theirs, or the refusal of its B row: a book has at most 64 jobs, and none with a key
+// used before.
+pub fn may_begin(keys: &[Key], key: Key) -> Result<(), Refusal>
+    ensures { BeginningIs keys.now (length keys.now) key result }
 {
-    if 64 <= n {
-        return Beginning::Barred(Refusal::TooManyJobs);
+    if 64 <= keys.len() {
+        return Err(Refusal::TooManyJobs);
     }
-    let mut i: usize = 0;
-    while i < n {
-        let used = keys[i];
-        if same_key(used, key) {
-            return Beginning::Barred(Refusal::UsedKey);
+    for used in keys {
+        if same_key(*used, key) {
+            return Err(Refusal::UsedKey);
         }
-        i += 1;
     }
-    Beginning::Allowed
+    Ok(())
 }

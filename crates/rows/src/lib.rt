@@ -8,104 +8,72 @@ pub mod faults;
 pub mod keys;
 pub mod refusals;
 
-ghost use Rattle.std.specs.Prelude.{◌≡◌, false, ◌≤◌, length, drop};
+ghost use Rattle.std.specs.Prelude.{◌≤◌, length, drop};
 ghost use Rattle.csv_text.specs.rfc4180.Rfc4180.{Readable};
 ghost use Rattle.fields.specs.Entries.{EntryAt};
 ghost use Rattle.kinds.specs.Form.{Means};
-ghost use Rattle.rows.specs.keys.Keyed.{no_row};
 ghost use Rattle.rows.specs.Answer.{SeenAt};
-ghost use Rattle.rows.specs.steps.Numbers.{entered, NumbersAre};
+ghost use Rattle.rows.specs.steps.Numbers.{NumbersAre, RowOf};
 
 use csv_text::cells::Cells;
-use fields::{Entered, Entry};
+use fields::Entry;
 use keys::{Key, Keyed};
-use kinds::letters::KindRead;
 use kinds::{Column, Kind, Numbers, Row};
 
-// A number or an empty field; or neither, where a field holds neither by its column.
-#[derive(Clone, Copy)]
-struct EntryRead {
-    good: bool,
-    entry: Entry,
-}
-
-// The numbers of a row; or none, where one of its fields holds none.
-#[derive(Clone, Copy)]
-struct NumbersRead {
-    good: bool,
-    numbers: Numbers,
-}
-
-// A row or none, and where the next row starts, or the text's end.
+// A row, or nothing where it has no form, and where the next row starts, or the text's end.
 #[derive(Clone, Copy)]
 pub struct RowRead {
-    pub good: bool,
-    pub row: Keyed,
+    pub row: Option<Keyed>,
     pub next: usize,
 }
 
-// What a field holds in a column.
-fn entry_at(column: Column, raw: &[u8]) -> EntryRead
-    ensures { EntryAt (Means column) raw.now (entered result.good result.entry) }
+// What a field holds in a column; nothing, where it has not the column's form.
+fn entry_at(column: Column, raw: &[u8]) -> Option<Entry>
+    ensures { EntryAt (Means column) raw.now result }
 {
-    let read = match column {
+    match column {
         Column::Empty => fields::empty_at(raw),
-        _ => fields::number_at(raw),
-    };
-    match read {
-        Entered::Is(entry) => EntryRead { good: true, entry },
-        Entered::Wrong => {
-            let entry = fields::blank_entry();
-            EntryRead { good: false, entry }
-        }
+        Column::Filled(_, _) => fields::number_at(raw),
+        Column::Signed(_, _) => fields::number_at(raw),
     }
 }
 
-// The six numbers of a row of a kind.
-fn numbers_of(s: &[u8], cells: Cells, kind: Kind) -> NumbersRead
+// The six numbers of a row of a kind; nothing, where a field has not its form.
+fn numbers_of(s: &[u8], cells: Cells, kind: Kind) -> Option<Numbers>
     ensures { NumbersAre s.now cells kind result }
 {
     let columns = kinds::columns_of(kind);
-    let c1 = columns.n1;
-    let e1 = entry_at(c1, csv_text::cells::cell(s, cells, 3));
-    let n1 = e1.entry;
-    let c2 = columns.n2;
-    let e2 = entry_at(c2, csv_text::cells::cell(s, cells, 4));
-    let n2 = e2.entry;
-    let c3 = columns.n3;
-    let e3 = entry_at(c3, csv_text::cells::cell(s, cells, 5));
-    let n3 = e3.entry;
-    let c4 = columns.n4;
-    let e4 = entry_at(c4, csv_text::cells::cell(s, cells, 6));
-    let n4 = e4.entry;
-    let c5 = columns.n5;
-    let e5 = entry_at(c5, csv_text::cells::cell(s, cells, 7));
-    let n5 = e5.entry;
-    let c6 = columns.n6;
-    let e6 = entry_at(c6, csv_text::cells::cell(s, cells, 8));
-    let n6 = e6.entry;
-    let numbers = Numbers {
+    let n1 = entry_at(columns.n1, cells.cell(s, 3))?;
+    let n2 = entry_at(columns.n2, cells.cell(s, 4))?;
+    let n3 = entry_at(columns.n3, cells.cell(s, 5))?;
+    let n4 = entry_at(columns.n4, cells.cell(s, 6))?;
+    let n5 = entry_at(columns.n5, cells.cell(s, 7))?;
+    let n6 = entry_at(columns.n6, cells.cell(s, 8))?;
+    Some(Numbers {
         n1,
         n2,
         n3,
         n4,
         n5,
         n6,
-    };
-    let good = e1.good & e2.good & e3.good & e4.good & e5.good & e6.good;
-    NumbersRead { good, numbers }
+    })
 }
 
-// No row, and where the next one starts.
-fn unread(next: usize) -> RowRead
-    ensures { (result.good ≡ false) × (result.row ≡ no_row) × (result.next ≡ next) }
+// The row that cells mean; nothing, where they have no form.
+fn row_of(s: &[u8], cells: Cells) -> Option<Keyed>
+    ensures { RowOf s.now cells result }
 {
-    let row = keys::blank_row();
-    RowRead {
-        good: false,
-        row,
-        next,
+    if cells.count != 10 {
+        return None;
     }
+    let kind = kinds::letters::kind_at(cells.cell(s, 2))?;
+    let numbers = numbers_of(s, cells, kind)?;
+    let member = fields::names::name_at(cells.cell(s, 0))?;
+    let job = fields::names::name_at(cells.cell(s, 1))?;
+    Some(Keyed {
+        key: Key { member, job },
+        row: Row { kind, numbers },
+    })
 }
 
 // The row that starts at a place.
@@ -115,27 +83,8 @@ pub fn read_row(s: &[u8], start: usize) -> RowRead
     ensures { SeenAt s.now start result }
 {
     let cells = csv_text::cells::cells_at(s, start);
-    if cells.count != 10 {
-        return unread(cells.next);
+    RowRead {
+        row: row_of(s, cells),
+        next: cells.next,
     }
-    let KindRead::Known(kind) = kinds::letters::kind_at(csv_text::cells::cell(s, cells, 2)) else {
-        return unread(cells.next);
-    };
-    let numbers_read = numbers_of(s, cells, kind);
-    let member_read = fields::names::name_at(csv_text::cells::cell(s, cells, 0));
-    let job_read = fields::names::name_at(csv_text::cells::cell(s, cells, 1));
-    if member_read.good & job_read.good & numbers_read.good {
-        let member = member_read.name;
-        let job = job_read.name;
-        let key = Key { member, job };
-        let numbers = numbers_read.numbers;
-        let row = Row { kind, numbers };
-        let keyed = Keyed { key, row };
-        return RowRead {
-            good: true,
-            row: keyed,
-            next: cells.next,
-        };
-    }
-    unread(cells.next)
 }

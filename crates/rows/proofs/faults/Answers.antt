@@ -17,6 +17,7 @@ use Rattle.rows.specs.faults.Faults.{WrongColumn, member, job, kind, number, Row
 use Rattle.rows.specs.faults.Place.{FaultAt}
 use Rattle.rows.specs.declared.faults.RowFault.{RowFault}
 use Rattle.rows.specs.declared.faults.RowFault.TheVariants as fault
+use Rattle.std.specs.Prelude.{Option, Some, None}
 use Rattle.rows.proofs.Forms.{form_length, member_is, job_is, kind_is, numbers_are}
 use Rattle.rows.proofs.faults.Columns.{number_held}
 
@@ -32,7 +33,7 @@ form_right {cs} {r} w (number of {i} {column = c} e l at f) =
     f h.entry h.means
 
 -- one answer for each row
-pub row_one : {cs : List Cell} {a b : RowFault} → RowSays cs a → RowSays cs b → a ≡ b
+pub row_one : {cs : List Cell} {a b : Option RowFault} → RowSays cs a → RowSays cs b → a ≡ b
 row_one (sound p f) (sound q g) = p ∙ sym q
 row_one (sound p f) (count q n) = absurd (n (form_length f))
 row_one (sound p f) (column q n l) = absurd (form_right f l.holds)
@@ -41,23 +42,23 @@ row_one (count p m) (count q n) = p ∙ sym q
 row_one (count p m) (column q n l) = absurd (m n)
 row_one (column p m k) (sound q g) = absurd (form_right g k.holds)
 row_one (column p m k) (count q n) = absurd (n m)
-row_one (column p m k) (column q n l) = p ∙ ap fault.Column (least_one k l) ∙ sym q
+row_one (column p m k) (column q n l) = p ∙ ap (λ (i : ℕ). Some (fault.Column i)) (least_one k l) ∙ sym q
 
 -- a sound row has a form
-pub sound_form : {cs : List Cell} → RowSays cs fault.Sound → (r : BookRow) × Form cs r
+pub sound_form : {cs : List Cell} → RowSays cs None → (r : BookRow) × Form cs r
 sound_form (sound {r} p f) = (r, f)
 sound_form (count p n) = impossible cc
 sound_form (column p n l) = impossible cc
 
 -- and a row with a form is sound
-pub form_sound : {cs : List Cell} {r : BookRow} {t : RowFault} → Form cs r → RowSays cs t → t ≡ fault.Sound
+pub form_sound : {cs : List Cell} {r : BookRow} {t : Option RowFault} → Form cs r → RowSays cs t → t ≡ None
 form_sound f p = row_one p (sound refl f)
 
-pub fault_formless : {cs : List Cell} {t : RowFault} → RowSays cs t → (t ≡ fault.Sound → ⊥) → (r : BookRow) → Form cs r → ⊥
+pub fault_formless : {cs : List Cell} {t : Option RowFault} → RowSays cs t → (t ≡ None → ⊥) → (r : BookRow) → Form cs r → ⊥
 fault_formless p n r f = n (form_sound f p)
 
 -- where a text has a reading, a place in it has one answer
-pub fault_at_one : (s : List ℕ) (start : ℕ) {a b : RowFault} → Readable (drop start s) → FaultAt s start a → FaultAt s start b → a ≡ b
+pub fault_at_one : (s : List ℕ) (start : ℕ) {a b : Option RowFault} → Readable (drop start s) → FaultAt s start a → FaultAt s start b → a ≡ b
 fault_at_one s start w p q =
     let m = some_row (first w.reading) in
     let f : File (drop start s) (m.0 ∷ m.1) = subst (File (drop start s)) m.2 w.reading in

@@ -1,15 +1,16 @@
 -- The columns of a row from the left: a column that has its form is not wrong, since a name, a kind and a number's column are one each; and a
 -- wrong one with none before it is the first.
-use Prim.Native.Nat.{ℕ, ◌+◌, ◌<◌}
+use Prim.Native.Nat.{ℕ, suc, ◌+◌, ◌<◌}
 use native.Mathlib.Omega.{arith}
 use native.Mathlib.Decide.{dec_le}
 use native.Mathlib.Nat.{lt_of_not-le}
-use mathlib.Core.Path.{◌≡◌, refl, sym, ap, subst, ◌∙◌}
+use mathlib.Core.Path.{◌≡◌, sym, ap, subst, ◌∙◌}
 use mathlib.Core.List.{List, [], ◌∷◌, ◌++◌}
-use lib.ListN.{length, length-append}
+use lib.ListN.{length, length-append, get_or, take, drop}
+use lib.Seq.{split_at, length-take-le}
+use lib.Dec.{lit<}
 use borrow.Author.Count.{below_more}
 use Rattle.arithmetic.proofs.Cases.{by_cases}
-use Rattle.arithmetic.proofs.Deciding.{decides_same, decides_flag}
 use Rattle.arithmetic.specs.decides.Decides.{Decides}
 use Rattle.arithmetic.specs.rounding.Least.{Least}
 use Rattle.csv_text.specs.Nth.{Nth}
@@ -25,15 +26,16 @@ use Rattle.fields.specs.declared.names.Name.{Name}
 use Rattle.kinds.specs.Table.{columns, letters, six_of}
 use Rattle.kinds.specs.Form.{Means}
 use Rattle.kinds.specs.declared.Column.{Column}
+use Rattle.kinds.specs.declared.Column.TheVariants.{Empty}
 use Rattle.kinds.specs.declared.Columns.{Columns}
 use Rattle.kinds.specs.declared.Kind.{Kind}
 use Rattle.kinds.specs.declared.Numbers.{Numbers}
 use Rattle.kinds.proofs.letters.Letters.{letters_one}
 use Rattle.rows.specs.Form.{Six}
 use Rattle.rows.specs.Answer.{first_ten}
-use Rattle.rows.specs.steps.Numbers.{entered}
-use Rattle.rows.specs.declared.EntryRead.{EntryRead}
-use Rattle.rows.proofs.Reading.{cell_entry, cell_filled}
+use Rattle.std.specs.Prelude.{Option, Some, None, is_some}
+use Rattle.fields.specs.declared.Entry.{Entry}
+use Rattle.rows.proofs.Reading.{cell_entry, cell_no_entry}
 use Rattle.rows.specs.faults.Faults.{WrongColumn, member, job, kind, number}
 use Rattle.rows.specs.faults.steps.Columns.{Held, Clear}
 
@@ -97,40 +99,49 @@ number_held c cs n s i column at =
     subst (λ (k : ℕ). Held column (content cs k)) e (six_held c cs n s at.before at.behind column at.are)
 
 -- a cell has the form of a column exactly if it was read to hold a number by it
-pub cell_held : {s : List ℕ} {c : Cells} {cs : List Cell} → Standing 10 s c cs → (k : ℕ) (r : List ℕ) → k < 10 → CellAt s c k r → (column : Column) (x : EntryRead) → EntryAt (Means column) r (entered x.good x.entry) → Decides x.good (Held column (content cs k))
-cell_held t k r h a column x p =
-    decides_same x.good
-    (λ g. record { entry = x.entry; means = cell_entry t k r h a column x p g })
-    (λ w. cell_filled t k r h a column x p w.entry w.means)
-    (decides_flag x.good)
+pub cell_held : {s : List ℕ} {c : Cells} {cs : List Cell} → Standing 10 s c cs → (k : ℕ) (r : List ℕ) → k < 10 → CellAt s c k r → (column : Column) (x : Option Entry) → EntryAt (Means column) r x → Decides (is_some x) (Held column (content cs k))
+cell_held t k r h a column (Some x) p = record { entry = x; means = cell_entry t k r h a column x p }
+cell_held t k r h a column None p = λ w. cell_no_entry t k r h a column p w.entry w.means
 
--- the six columns by their places
-module _ (c : Columns) where
-  pub n1_is : Nth (six_of c) 1 c.n1
-  n1_is = record { before = []; behind = _; are = refl; number = refl }
+-- the columns asked up to the i-th from 0 have their forms
+abbrev pub HeldTo : List Column → ℕ → List Cell → Type 0
+HeldTo columns i cs = (j : ℕ) → j < i → Held (get_or columns j Empty) (content cs (3 + j))
 
-  pub n2_is : Nth (six_of c) 2 c.n2
-  n2_is = record { before = c.n1 ∷ []; behind = _; are = refl; number = refl }
-
-  pub n3_is : Nth (six_of c) 3 c.n3
-  n3_is = record { before = c.n1 ∷ c.n2 ∷ []; behind = _; are = refl; number = refl }
-
-  pub n4_is : Nth (six_of c) 4 c.n4
-  n4_is = record { before = c.n1 ∷ c.n2 ∷ c.n3 ∷ []; behind = _; are = refl; number = refl }
-
-  pub n5_is : Nth (six_of c) 5 c.n5
-  n5_is = record { before = c.n1 ∷ c.n2 ∷ c.n3 ∷ c.n4 ∷ []; behind = _; are = refl; number = refl }
-
-  pub n6_is : Nth (six_of c) 6 c.n6
-  n6_is = record { before = c.n1 ∷ c.n2 ∷ c.n3 ∷ c.n4 ∷ c.n5 ∷ []; behind = _; are = refl; number = refl }
+-- if all six have, the row has its numbers
+pub six_numbers : (c : Columns) (cs : List Cell) (xs : List Column) → xs ≡ six_of c → HeldTo xs 6 cs → (n : Numbers) × Six c (first_ten cs) n
+six_numbers c cs xs e g =
+    let h : HeldTo (six_of c) 6 cs = subst (λ (x : List Column). HeldTo x 6 cs) e g in
+    let a1 = h 0 (lit< tt) in
+    let a2 = h 1 (lit< tt) in
+    let a3 = h 2 (lit< tt) in
+    let a4 = h 3 (lit< tt) in
+    let a5 = h 4 (lit< tt) in
+    let a6 = h 5 (lit< tt) in (
+      record { n1 = a1.entry; n2 = a2.entry; n3 = a3.entry; n4 = a4.entry; n5 = a5.entry; n6 = a6.entry },
+      record { n1 = a1.means; n2 = a2.means; n3 = a3.means; n4 = a4.means; n5 = a5.means; n6 = a6.means },
+    )
 
 -- a number asked by its column, with no wrong column before it: the next is asked, or this is the first that is wrong
-module _ {cs : List Cell} (of : Kind) (written : content cs 2 ≡ letters of) (c : Columns) (are : c ≡ columns of) {i : ℕ} {column : Column} (at : Nth (six_of c) i column) (passed : Clear cs (3 + i)) where
-  there : Nth (six_of (columns of)) i column
-  there = subst (λ (k : Columns). Nth (six_of k) i column) are at
+module _ {cs : List Cell} (of : Kind) (written : content cs 2 ≡ letters of) (xs : List Column) (are : xs ≡ six_of (columns of)) (i : ℕ) (few : i < 6) (passed : Clear cs (4 + i)) where
+  abbrev column : Column
+  column = get_or xs i Empty
 
-  pub number_right : Held column (content cs (2 + i)) → Clear cs (3 + i + 1)
-  number_right h = clear_next (3 + i) passed (right_number of written there h)
+  there : Nth (six_of (columns of)) (i + 1) column
+  there =
+      let l : length xs ≡ 6 = ap length are in
+      let n = length-take-le i xs (omega arith) in
+      subst (λ (x : List Column). Nth x (i + 1) column) are (record { before = take i xs; behind = drop (suc i) xs; are = split_at xs i Empty (omega arith); number = omega arith })
 
-  pub number_wrong : (Held column (content cs (2 + i)) → ⊥) → Least (WrongColumn cs) (3 + i)
-  number_wrong n = first_wrong passed (number of refl written there (λ e m. n (record { entry = e; means = m })))
+  place : 4 + i ≡ 3 + (i + 1)
+  place = omega arith
+
+  content_place : 3 + i ≡ 2 + (i + 1)
+  content_place = omega arith
+
+  pub number_right : Held column (content cs (3 + i)) → Clear cs (4 + (i + 1))
+  number_right h =
+      let next : 4 + (i + 1) ≡ 4 + i + 1 = omega arith in
+      rw next (clear_next (4 + i) passed (λ w. right_number of written there (subst (λ (k : ℕ). Held column (content cs k)) content_place h) (subst (WrongColumn cs) place w)))
+
+  pub number_wrong : (Held column (content cs (3 + i)) → ⊥) → Least (WrongColumn cs) (4 + i)
+  number_wrong n = first_wrong passed (number of place written there (λ e m. n (record { entry = e; means = subst (λ (k : ℕ). Means column (content cs k) e) (sym content_place) m })))

@@ -6,8 +6,8 @@ use mathlib.Core.List.{List}
 use Rattle.arithmetic.proofs.Cases.{impossible}
 use Rattle.rows.specs.refusals.Numbers.{refusal_number}
 use Rattle.rows.specs.declared.keys.Key.{Key}
-use Rattle.rows.specs.declared.keys.Beginning.{Beginning}
-use Rattle.rows.specs.declared.keys.Beginning.TheVariants.{Allowed, Barred}
+use Rattle.std.specs.Prelude.{Result, Ok, Err}
+use Rattle.rows.specs.declared.refusals.Refusal.{Refusal}
 use Rattle.rows.specs.keys.Beginning.{BeginningTold, beginning_told, BeginningSays, surplus, reused, unused, BeginningIs}
 use Rattle.rows.proofs.refusals.Numbers.{number_one}
 
@@ -23,13 +23,13 @@ beginning_says_one (unused l u p) (reused m v q) = absurd (u v)
 beginning_says_one (unused l u p) (unused m v q) = p ∙ sym q
 
 -- each of the enum's cases is told in its own way
-beginning_told_one : (a b : Beginning) → beginning_told a ≡ beginning_told b → a ≡ b
-beginning_told_one Allowed Allowed e = refl
-beginning_told_one Allowed (Barred why) e = impossible cc
-beginning_told_one (Barred why) Allowed e = impossible cc
-beginning_told_one (Barred why) (Barred na) e =
+beginning_told_one : (a b : Result (Unit {0}) Refusal) → beginning_told a ≡ beginning_told b → a ≡ b
+beginning_told_one (Ok a) (Ok b) e = refl
+beginning_told_one (Ok _) (Err why) e = impossible cc
+beginning_told_one (Err why) (Ok _) e = impossible cc
+beginning_told_one (Err why) (Err na) e =
     let p : refusal_number why ≡ refusal_number na = cc in
-    ap Barred (number_one why na p)
+    ap Err (number_one why na p)
 
-pub beginning_one : (ks : List Key) (n : ℕ) (k : Key) (a b : Beginning) → BeginningIs ks n k a → BeginningIs ks n k b → a ≡ b
+pub beginning_one : (ks : List Key) (n : ℕ) (k : Key) (a b : Result (Unit {0}) Refusal) → BeginningIs ks n k a → BeginningIs ks n k b → a ≡ b
 beginning_one ks n k a b p q = beginning_told_one a b (beginning_says_one p q)

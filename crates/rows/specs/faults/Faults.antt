@@ -1,6 +1,6 @@
 -- Where a refusal lies, 3: "the number of fields where it is not ten; else the first column from the left that has not its form: member,
 -- job, kind, then n1 to n6 by that kind."
-use Rattle.std.specs.Prelude.{ℕ, ◌+◌, ◌≡◌, List, length}
+use Rattle.std.specs.Prelude.{ℕ, ◌+◌, ◌≡◌, Option, Some, None, List, length}
 use Rattle.arithmetic.specs.rounding.Least.{Least}
 use Rattle.csv_text.specs.Nth.{Nth}
 use Rattle.csv_text.specs.rfc4180.Rfc4180.{Cell}
@@ -25,7 +25,7 @@ pub data WrongColumn (cs : List Cell) (k : ℕ) : Type 0 where
   number : (of : Kind) {i : ℕ} {column : Column} → k ≡ 3 + i → content cs 2 ≡ letters of → Nth (six_of (columns of)) i column → ((e : Entry) → Means column (content cs (2 + i)) e → ⊥) → WrongColumn cs k
 
 -- why a row has no form, or that it has one
-pub data RowSays (cs : List Cell) (t : RowFault) : Type 0 where
-  sound : {r : BookRow} → t ≡ fault.Sound → Form cs r → RowSays cs t
-  count : t ≡ fault.Count (length cs) → (length cs ≡ 10 → ⊥) → RowSays cs t
-  column : {k : ℕ} → t ≡ fault.Column k → length cs ≡ 10 → Least (WrongColumn cs) k → RowSays cs t
+pub data RowSays (cs : List Cell) (t : Option RowFault) : Type 0 where
+  sound : {r : BookRow} → t ≡ None → Form cs r → RowSays cs t
+  count : t ≡ Some (fault.Count (length cs)) → (length cs ≡ 10 → ⊥) → RowSays cs t
+  column : {k : ℕ} → t ≡ Some (fault.Column k) → length cs ≡ 10 → Least (WrongColumn cs) k → RowSays cs t

@@ -1,5 +1,5 @@
 -- What `has_form` and `numbers_fault` answer, for ten cells that stand where the places say.
-use Rattle.std.specs.Prelude.{ℕ, ◌<◌, ◌≡◌, Bool, List}
+use Rattle.std.specs.Prelude.{ℕ, ◌<◌, ◌≡◌, Bool, Option, Some, None, List}
 use Rattle.arithmetic.specs.decides.Decides.{Decides}
 use Rattle.arithmetic.specs.rounding.Least.{Least}
 use Rattle.csv_text.specs.rfc4180.Rfc4180.{Cell}
@@ -31,9 +31,9 @@ abbrev pub Clear : List Cell → ℕ → Type 0
 Clear cs k = (m : ℕ) → m < k → WrongColumn cs m → ⊥
 
 -- the six numbers by their kind; or the first wrong column
-pub data NumbersSay (cs : List Cell) (of : Kind) (t : RowFault) : Type 0 where
-  held : {n : Numbers} → t ≡ fault.Sound → Six (columns of) (first_ten cs) n → NumbersSay cs of t
-  wrong : {k : ℕ} → t ≡ fault.Column k → Least (WrongColumn cs) k → NumbersSay cs of t
+pub data NumbersSay (cs : List Cell) (of : Kind) (t : Option RowFault) : Type 0 where
+  held : {n : Numbers} → t ≡ None → Six (columns of) (first_ten cs) n → NumbersSay cs of t
+  wrong : {k : ℕ} → t ≡ Some (fault.Column k) → Least (WrongColumn cs) k → NumbersSay cs of t
 
-abbrev pub NumbersFault : List ℕ → Cells → Kind → RowFault → Type 0
+abbrev pub NumbersFault : List ℕ → Cells → Kind → Option RowFault → Type 0
 NumbersFault s c of t = (cs : List Cell) → Standing 10 s c cs → content cs 2 ≡ letters of → Clear cs 4 → NumbersSay cs of t
