@@ -32,18 +32,17 @@ pub struct Job {
     pub loads: [Row; 16],
 }
 
-// What became of a row: it is refused, or it joined the job before it, or it started the next.
+// What became of a row that was taken: it joined the job before it, or it started the next.
 #[derive(Clone, Copy)]
 pub enum Took {
-    Refused(Refusal),
     Joined,
     Started,
 }
 
-// What became of a row, and the job behind it.
+// What became of a row, or why it is refused; and the job behind it.
 #[derive(Clone, Copy)]
 pub struct Taken {
-    pub answer: Took,
+    pub answer: Result<Took, Refusal>,
     pub job: Job,
 }
 
@@ -51,17 +50,13 @@ pub struct Taken {
 fn fresh(stage: Stage, row: Keyed) -> Job
     ensures { result ≡ based stage row }
 {
-    let key = row.key;
-    let base = row.row.numbers;
-    let none = rows::keys::blank_row();
-    let blank = none.row;
-    let numbers = blank.numbers;
+    let blank = rows::keys::blank_row().row;
     Job {
         stage,
-        key,
-        base,
-        scour: numbers,
-        clearance: numbers,
+        key: row.key,
+        base: row.row.numbers,
+        scour: blank.numbers,
+        clearance: blank.numbers,
         count: 0,
         loads: [blank; 16],
     }
@@ -71,46 +66,29 @@ fn fresh(stage: Stage, row: Keyed) -> Job
 pub fn blank_job() -> Job
     ensures { result ≡ no_job }
 {
-    let none = rows::keys::blank_row();
-    fresh(Stage::Unbegun, none)
+    fresh(Stage::Unbegun, rows::keys::blank_row())
 }
 
 // The job with exactly this row more, which is no B row.
-fn joined(role: Role, job: Job, row: Keyed) -> Job
+fn joined(role: Role, mut job: Job, row: Keyed) -> Job
     requires { (role ≡ Base → ⊥) × (role ≡ Load → job.count < 16) }
     ensures { result ≡ with_row role job row }
 {
-    let mut stage = job.stage;
-    let mut scour = job.scour;
-    let mut clearance = job.clearance;
-    let mut count = job.count;
-    let mut loads = job.loads;
     match role {
         Role::Scour => {
-            stage = Stage::Scoured;
-            scour = row.row.numbers;
+            job.stage = Stage::Scoured;
+            job.scour = row.row.numbers;
         }
         Role::Clearance => {
-            stage = Stage::Crossed;
-            clearance = row.row.numbers;
+            job.stage = Stage::Crossed;
+            job.clearance = row.row.numbers;
         }
         Role::Base | Role::Load => {
-            let load = row.row;
-            loads[count] = load;
-            count += 1;
+            job.loads[job.count] = row.row;
+            job.count += 1;
         }
     }
-    let key = job.key;
-    let base = job.base;
-    Job {
-        stage,
-        key,
-        base,
-        scour,
-        clearance,
-        count,
-        loads,
-    }
+    job
 }
 
 impl Job {
@@ -118,30 +96,23 @@ impl Job {
     pub fn take(self, row: Keyed) -> Taken
         ensures { TakenIs self row result }
     {
-        let given = row.row;
-        let kind = given.kind;
-        let role = kinds::role_of(kind);
-        let stage = self.stage;
-        let key = self.key;
-        let other = row.key;
-        let same = rows::keys::same_key(key, other);
-        let good = stages::fits(role, stage, self.count, same);
-        if good {
-            match role {
-                Role::Base => Taken {
-                    answer: Took::Started,
-                    job: fresh(Stage::Dry, row),
-                },
-                Role::Scour | Role::Clearance | Role::Load => Taken {
-                    answer: Took::Joined,
-                    job: joined(role, self, row),
-                },
-            }
-        } else {
-            Taken {
-                answer: Took::Refused(Refusal::Misplaced),
+        let role = kinds::role_of(row.row.kind);
+        let same = rows::keys::same_key(self.key, row.key);
+        if !stages::fits(role, self.stage, self.count, same) {
+            return Taken {
+                answer: Err(Refusal::Misplaced),
                 job: self,
-            }
+            };
+        }
+        match role {
+            Role::Base => Taken {
+                answer: Ok(Took::Started),
+                job: fresh(Stage::Dry, row),
+            },
+            Role::Scour | Role::Clearance | Role::Load => Taken {
+                answer: Ok(Took::Joined),
+                job: joined(role, self, row),
+            },
         }
     }
 }

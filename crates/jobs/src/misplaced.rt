@@ -28,85 +28,73 @@ pub enum Misplaced {
     SurplusLoad,
 }
 
-// A row in its place; or the first rule by which it is out of place.
-#[derive(Clone, Copy)]
-pub enum Placing {
-    InPlace,
-    Out(Misplaced),
-}
-
-// Rules 4 to 9, of a row with the key of a job that has begun.
-fn later_rule(role: Role, stage: Stage, count: usize) -> Placing
+// The first of rules 4 to 9 that holds of a row with the key of a job that has begun; nothing, where the row is in its place.
+fn later_rule(role: Role, stage: Stage, count: usize) -> Option<Misplaced>
     requires { (role ≡ Base → ⊥) × (stage ≡ Unbegun → ⊥) }
     ensures { PlacingSays (Holds role stage count (Unit {0})) result }
 {
     match role {
         Role::Scour => {
             if stages::has_scour(stage) {
-                return Placing::Out(Misplaced::SecondScour);
+                return Some(Misplaced::SecondScour);
             }
             if 0 < count {
-                return Placing::Out(Misplaced::LateScour);
+                return Some(Misplaced::LateScour);
             }
-            Placing::InPlace
+            None
         }
         Role::Clearance => {
             if !stages::has_scour(stage) {
-                return Placing::Out(Misplaced::NoScour);
+                return Some(Misplaced::NoScour);
             }
             if stages::has_clearance(stage) {
-                return Placing::Out(Misplaced::SecondClearance);
+                return Some(Misplaced::SecondClearance);
             }
             if 0 < count {
-                return Placing::Out(Misplaced::LateClearance);
+                return Some(Misplaced::LateClearance);
             }
-            Placing::InPlace
+            None
         }
         Role::Base | Role::Load => {
             if 16 <= count {
-                return Placing::Out(Misplaced::SurplusLoad);
+                return Some(Misplaced::SurplusLoad);
             }
-            Placing::InPlace
+            None
         }
     }
 }
 
 // The first rule that holds of a row of this role; `same` says that it has the job's key.
-fn first_rule(role: Role, stage: Stage, count: usize, same: bool) -> Placing
+fn first_rule(role: Role, stage: Stage, count: usize, same: bool) -> Option<Misplaced>
     ensures { PlacingSays (Holds role stage count (same ≡ true)) result }
 {
     match role {
         Role::Base => match stage {
-            Stage::Unbegun => Placing::InPlace,
+            Stage::Unbegun => None,
             Stage::Dry | Stage::Scoured | Stage::Crossed => {
                 if count == 0 {
-                    return Placing::Out(Misplaced::NoLoad);
+                    return Some(Misplaced::NoLoad);
                 }
-                Placing::InPlace
+                None
             }
         },
         Role::Scour | Role::Clearance | Role::Load => match stage {
-            Stage::Unbegun => Placing::Out(Misplaced::NoBase),
+            Stage::Unbegun => Some(Misplaced::NoBase),
             Stage::Dry | Stage::Scoured | Stage::Crossed => {
                 if same {
                     return later_rule(role, stage, count);
                 }
-                Placing::Out(Misplaced::OtherKey)
+                Some(Misplaced::OtherKey)
             }
         },
     }
 }
 
 // The first rule that holds of a row behind the rows of a job.
-pub fn rule_of(job: Job, row: Keyed) -> Placing
+pub fn rule_of(job: Job, row: Keyed) -> Option<Misplaced>
     ensures { PlacingIs job row result }
 {
-    let given = row.row;
-    let kind = given.kind;
-    let role = kinds::role_of(kind);
-    let stage = job.stage;
-    let key = job.key;
-    let other = row.key;
-    let same = rows::keys::same_key(key, other);
-    first_rule(role, stage, job.count, same)
+    let role = kinds::role_of(row.row.kind);
+    let same = rows::keys::same_key(job.key, row.key);
+    first_rule(role, job.stage, job.count, same)
 }

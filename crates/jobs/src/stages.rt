@@ -1,8 +1,7 @@
 // How far a job has come (document 01, the job book; refusal 4): which river rows it has, and whether a row is in its place, from its role
 // and from whether it has the job's key.
 //
-// The promises are exact for every stage and count, and not only for those that a book gives. The stages go by numbers in `fits`, so that
-// the test of each role is one line.
+// The promises are exact for every stage and count, and not only for those that a book gives.
 ghost use Rattle.std.specs.Prelude.{◌≡◌, true};
 ghost use Rattle.arithmetic.specs.decides.Decides.{Decides};
 ghost use Rattle.jobs.specs.stages.Fits.{Fits};
@@ -24,17 +23,11 @@ pub enum Stage {
 pub(crate) fn fits(role: Role, stage: Stage, count: usize, same: bool) -> bool
     ensures { Decides result (Fits role stage count (same ≡ true)) }
 {
-    let level: u8 = match stage {
-        Stage::Unbegun => 0,
-        Stage::Dry => 1,
-        Stage::Scoured => 2,
-        Stage::Crossed => 3,
-    };
     match role {
-        Role::Base => (level == 0) | (0 < count),
-        Role::Scour => (level == 1) & (count == 0) & same,
-        Role::Clearance => (level == 2) & (count == 0) & same,
-        Role::Load => (level != 0) & (count < 16) & same,
+        Role::Base => (stage == Stage::Unbegun) | (0 < count),
+        Role::Scour => (stage == Stage::Dry) & (count == 0) & same,
+        Role::Clearance => (stage == Stage::Scoured) & (count == 0) & same,
+        Role::Load => (stage != Stage::Unbegun) & (count < 16) & same,
     }
 }
 

@@ -15,8 +15,8 @@ use Rattle.jobs.specs.declared.Job.{Job}
 use Rattle.jobs.specs.declared.stages.Stage.{Stage}
 use Rattle.jobs.specs.declared.stages.Stage.TheVariants.{Unbegun, Dry, Scoured, Crossed}
 use Rattle.jobs.specs.declared.misplaced.Misplaced.TheVariants.{NoBase, NoLoad, OtherKey, SecondScour, LateScour, NoScour, SecondClearance, LateClearance, SurplusLoad}
-use Rattle.jobs.specs.declared.misplaced.Placing.{Placing}
-use Rattle.jobs.specs.declared.misplaced.Placing.TheVariants.{InPlace, Out}
+use Rattle.std.specs.Prelude.{Option, Some, None}
+use Rattle.jobs.specs.declared.misplaced.Misplaced.{Misplaced}
 use Rattle.jobs.specs.stages.Rows.{HasScour, HasClearance}
 use Rattle.jobs.specs.misplaced.Placing.{Holds, PlacingSays}
 use Rattle.jobs.proofs.misplaced.Ruling.{base_short, base_in_place, unbegun, other_key, second_scour, late_scour, scour_in_place, no_scour, second_clearance, late_clearance, clearance_in_place, surplus_load, load_in_place}
@@ -53,44 +53,44 @@ clearance_known Crossed = yes tt
 
 -- what is told of a row
 pub record Asked (role : Role) (stage : Stage) (count : ℕ) (same : Type 0) : Type 0 where
-  pub placing : Placing
+  pub placing : Option Misplaced
   pub says : PlacingSays (Holds role stage count same) placing
 
 module _ (stage : Stage) (count : ℕ) (same : Type 0) where
   base_asked : Asked Base stage count same
   base_asked =
-      by_cases (unbegun_known stage) (λ u. record { placing = InPlace; says = base_in_place Base stage count same refl (λ b z. b u) })
+      by_cases (unbegun_known stage) (λ u. record { placing = None; says = base_in_place Base stage count same refl (λ b z. b u) })
       (λ b.
-      by_cases (dec_lt 0 count) (λ l. record { placing = InPlace; says = base_in_place Base stage count same refl (λ b z. omega arith) })
-      (λ l. record { placing = Out NoLoad; says = base_short Base stage count same refl b (omega arith) }))
+      by_cases (dec_lt 0 count) (λ l. record { placing = None; says = base_in_place Base stage count same refl (λ b z. omega arith) })
+      (λ l. record { placing = Some NoLoad; says = base_short Base stage count same refl b (omega arith) }))
 
   module _ (begun : stage ≡ Unbegun → ⊥) (key : same) where
     scour_asked : Asked Scour stage count same
     scour_asked =
-        by_cases (scour_known stage) (λ s. record { placing = Out SecondScour; says = second_scour Scour stage count same (λ e. impossible cc) begun key refl s })
+        by_cases (scour_known stage) (λ s. record { placing = Some SecondScour; says = second_scour Scour stage count same (λ e. impossible cc) begun key refl s })
         (λ n.
-        by_cases (dec_lt 0 count) (λ l. record { placing = Out LateScour; says = late_scour Scour stage count same (λ e. impossible cc) begun key refl n l })
-        (λ l. record { placing = InPlace; says = scour_in_place Scour stage count same (λ e. impossible cc) begun key refl n (omega arith) }))
+        by_cases (dec_lt 0 count) (λ l. record { placing = Some LateScour; says = late_scour Scour stage count same (λ e. impossible cc) begun key refl n l })
+        (λ l. record { placing = None; says = scour_in_place Scour stage count same (λ e. impossible cc) begun key refl n (omega arith) }))
 
     clearance_asked : Asked Clearance stage count same
     clearance_asked =
         by_cases (scour_known stage)
         (λ s.
-        by_cases (clearance_known stage) (λ c. record { placing = Out SecondClearance; says = second_clearance Clearance stage count same (λ e. impossible cc) begun key refl s c })
+        by_cases (clearance_known stage) (λ c. record { placing = Some SecondClearance; says = second_clearance Clearance stage count same (λ e. impossible cc) begun key refl s c })
         (λ n.
-        by_cases (dec_lt 0 count) (λ l. record { placing = Out LateClearance; says = late_clearance Clearance stage count same (λ e. impossible cc) begun key refl s n l })
-        (λ l. record { placing = InPlace; says = clearance_in_place Clearance stage count same (λ e. impossible cc) begun key refl s n (omega arith) })))
-        (λ n. record { placing = Out NoScour; says = no_scour Clearance stage count same (λ e. impossible cc) begun key refl n })
+        by_cases (dec_lt 0 count) (λ l. record { placing = Some LateClearance; says = late_clearance Clearance stage count same (λ e. impossible cc) begun key refl s n l })
+        (λ l. record { placing = None; says = clearance_in_place Clearance stage count same (λ e. impossible cc) begun key refl s n (omega arith) })))
+        (λ n. record { placing = Some NoScour; says = no_scour Clearance stage count same (λ e. impossible cc) begun key refl n })
 
     load_asked : Asked Load stage count same
     load_asked =
-        by_cases (dec_lt count 16) (λ l. record { placing = InPlace; says = load_in_place Load stage count same (λ e. impossible cc) begun key refl l })
-        (λ l. record { placing = Out SurplusLoad; says = surplus_load Load stage count same (λ e. impossible cc) begun key refl (omega arith) })
+        by_cases (dec_lt count 16) (λ l. record { placing = None; says = load_in_place Load stage count same (λ e. impossible cc) begun key refl l })
+        (λ l. record { placing = Some SurplusLoad; says = surplus_load Load stage count same (λ e. impossible cc) begun key refl (omega arith) })
 
   asked_of : (role : Role) → (role ≡ Base → ⊥) → Dec same → ((stage ≡ Unbegun → ⊥) → same → Asked role stage count same) → Asked role stage count same
   asked_of role other d later =
-      by_cases (unbegun_known stage) (λ u. record { placing = Out NoBase; says = unbegun role stage count same other u })
-      (λ b. by_cases d (later b) (λ n. record { placing = Out OtherKey; says = other_key role stage count same other b n }))
+      by_cases (unbegun_known stage) (λ u. record { placing = Some NoBase; says = unbegun role stage count same other u })
+      (λ b. by_cases d (later b) (λ n. record { placing = Some OtherKey; says = other_key role stage count same other b n }))
 
   asked : (role : Role) → Dec same → Asked role stage count same
   asked Base d = base_asked

@@ -15,8 +15,7 @@ use Rattle.jobs.specs.declared.stages.Stage.{Stage}
 use Rattle.jobs.specs.declared.stages.Stage.TheVariants.{Unbegun, Dry, Scoured, Crossed}
 use Rattle.jobs.specs.declared.misplaced.Misplaced.{Misplaced}
 use Rattle.jobs.specs.declared.misplaced.Misplaced.TheVariants.{NoBase, NoLoad, OtherKey, SecondScour, LateScour, NoScour, SecondClearance, LateClearance, SurplusLoad}
-use Rattle.jobs.specs.declared.misplaced.Placing.{Placing}
-use Rattle.jobs.specs.declared.misplaced.Placing.TheVariants.{InPlace, Out}
+use Rattle.std.specs.Prelude.{Option, Some, None}
 use Rattle.jobs.specs.stages.Fits.{Fits}
 use Rattle.jobs.specs.stages.Rows.{HasScour, HasClearance}
 use Rattle.jobs.specs.misplaced.Rules.{rule_number, FirstRule}
@@ -60,22 +59,22 @@ first_rule_one {v = v} {w} p q =
     rule_one v w (omega arith)
 
 -- a row has one placing
-pub placing_one : (Rule : Misplaced → Type 0) (a b : Placing) → PlacingSays Rule a → PlacingSays Rule b → a ≡ b
-placing_one Rule InPlace InPlace p q = refl
-placing_one Rule InPlace (Out w) p q = absurd (p w q.holds)
-placing_one Rule (Out v) InPlace p q = absurd (q v p.holds)
-placing_one Rule (Out v) (Out w) p q = ap Out (first_rule_one p q)
+pub placing_one : (Rule : Misplaced → Type 0) (a b : Option Misplaced) → PlacingSays Rule a → PlacingSays Rule b → a ≡ b
+placing_one Rule None None p q = refl
+placing_one Rule None (Some w) p q = absurd (p w q.holds)
+placing_one Rule (Some v) None p q = absurd (q v p.holds)
+placing_one Rule (Some v) (Some w) p q = ap Some (first_rule_one p q)
 
-pub rule_of_one : (j : Job) (r : Keyed) (a b : Placing) → PlacingIs j r a → PlacingIs j r b → a ≡ b
+pub rule_of_one : (j : Job) (r : Keyed) (a b : Option Misplaced) → PlacingIs j r a → PlacingIs j r b → a ≡ b
 rule_of_one j r a b p q = placing_one _ a b p q
 
 -- rules that hold of the same rows have the same first
 pub first_map : {A B : Misplaced → Type 0} {w : Misplaced} → ((o : Misplaced) → A o → B o) → ((o : Misplaced) → B o → A o) → FirstRule A w → FirstRule B w
 first_map {w = w} f g p = record { holds = f w p.holds; first = λ o h. p.first o (g o h) }
 
-pub placing_map : (A B : Misplaced → Type 0) (p : Placing) → ((o : Misplaced) → A o → B o) → ((o : Misplaced) → B o → A o) → PlacingSays A p → PlacingSays B p
-placing_map A B InPlace f g n = λ o h. n o (g o h)
-placing_map A B (Out w) f g p = first_map f g p
+pub placing_map : (A B : Misplaced → Type 0) (p : Option Misplaced) → ((o : Misplaced) → A o → B o) → ((o : Misplaced) → B o → A o) → PlacingSays A p → PlacingSays B p
+placing_map A B None f g n = λ o h. n o (g o h)
+placing_map A B (Some w) f g p = first_map f g p
 
 -- the rules below a number are passed
 module _ (Rule : Misplaced → Type 0) where

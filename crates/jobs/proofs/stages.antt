@@ -1,3 +1,0 @@
--- Laws of a row's place in its job.
-pub mod Fitting
-pub mod Rows
