@@ -19,11 +19,11 @@ use Rattle.book.specs.Beginning.{Loaded, Placed, Begins}
 use Rattle.book.specs.counted.Places.{places}
 use Rattle.book.specs.Values.{values}
 use Rattle.book.specs.Says.{BookTold, given, refused, formless, misplaced, surplus, reused, Bad, FirstBad, Unfinished, BookSays, too_long, not_csv, bad_row, unfinished, book}
-use Rattle.book.specs.Reading.{book_told, jobs_told, BookIs, CountIs}
+use Rattle.book.specs.Reading.{count_told, book_told, HeldIn, BookIs, CountIs}
 use Rattle.rows.specs.refusals.Numbers.{refusal_number}
 use Rattle.rows.proofs.refusals.Numbers.{number_one}
-use Rattle.book.specs.declared.counted.Count.{Count}
-use Rattle.book.specs.declared.counted.Count.TheVariants.{Given, Refused}
+use Rattle.book.specs.declared.counted.Refused.{Refused}
+use Rattle.std.specs.Prelude.{Result, Ok, Err, take}
 use Rattle.book.specs.declared.counted.Book.{Book}
 use Rattle.book.proofs.Steps.{whole_shaped, shaped_whole, retract, placed_one, step_count, step_keys}
 
@@ -245,22 +245,33 @@ pub refused_none : {s : List ℕ} {n row : ℕ} → BookSays s (refused n row) �
 refused_none p js b = let e = book_says_one p (book b refl) in impossible cc
 
 -- what `count_jobs` and `read_book` promise is met by one answer only
-pub book_told_one : (a b : Count) (js ks : List Job) → book_told a js ≡ book_told b ks → a ≡ b
-book_told_one (Given n) (Given m) js ks e = cc
-book_told_one (Given n) (Refused why row) js ks e = impossible cc
-book_told_one (Refused why row) (Given n) js ks e = impossible cc
-book_told_one (Refused why row) (Refused na line) js ks e =
-    let p : refusal_number why ≡ refusal_number na = cc in
-    let q : row ≡ line = cc in
-    let r = number_one why na p in
-    cc
+refused_same : (r q : Refused) → refusal_number r.why ≡ refusal_number q.why → r.row ≡ q.row → r ≡ q
+refused_same r q e l = let w = number_one r.why q.why e in λ i. record { why = w i; row = l i }
 
-pub count_one : {s : List ℕ} {a b : Count} → CountIs s a → CountIs s b → a ≡ b
-count_one {a = a} {b} p q = book_told_one a b p.jobs q.jobs (book_says_one p.says q.says)
+pub count_told_one : (a b : Result ℕ Refused) (js ks : List Job) → count_told a js ≡ count_told b ks → a ≡ b
+count_told_one (Ok n) (Ok m) js ks e = cc
+count_told_one (Ok n) (Err r) js ks e = impossible cc
+count_told_one (Err r) (Ok n) js ks e = impossible cc
+count_told_one (Err r) (Err q) js ks e =
+    let w : refusal_number r.why ≡ refusal_number q.why = cc in
+    let l : r.row ≡ q.row = cc in
+    ap Err (refused_same r q w l)
 
-pub book_is_one : {s : List ℕ} (a b : Book) → BookIs s a → BookIs s b → a ≡ b
-book_is_one a b p q =
-    let e = book_says_one p.says q.says in
-    let c = book_told_one a.count b.count a.jobs b.jobs e in
-    let j = p.held ∙ ap (λ (t : BookTold). places (jobs_told t)) e ∙ sym q.held in
-    λ i. record { count = c i; jobs = j i }
+pub count_one : {s : List ℕ} {a b : Result ℕ Refused} → CountIs s a → CountIs s b → a ≡ b
+count_one {a = a} {b} p q = count_told_one a b p.jobs q.jobs (book_says_one p.says q.says)
+
+pub book_is_one : {s : List ℕ} (a b : Result Book Refused) → BookIs s a → BookIs s b → a ≡ b
+book_is_one a b p q = by a b p.held q.held (book_says_one p.says q.says)
+  where
+    by : (a b : Result Book Refused) → HeldIn a → HeldIn b → book_told a ≡ book_told b → a ≡ b
+    by (Ok x) (Ok y) h k e =
+        let c : x.count ≡ y.count = cc in
+        let t : take x.count x.jobs ≡ take y.count y.jobs = cc in
+        let j : x.jobs ≡ y.jobs = h ∙ ap places t ∙ sym k in
+        λ i. Ok (record { count = c i; jobs = j i })
+    by (Ok x) (Err r) h k e = impossible cc
+    by (Err r) (Ok x) h k e = impossible cc
+    by (Err r) (Err q) h k e =
+        let w : refusal_number r.why ≡ refusal_number q.why = cc in
+        let l : r.row ≡ q.row = cc in
+        ap Err (refused_same r q w l)

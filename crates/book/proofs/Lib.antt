@@ -5,7 +5,6 @@ pub mod Answers
 pub mod Growing
 pub mod Keeping
 pub mod Walking
-pub mod StopWalking
 pub mod Stopping
 pub mod Noting
 pub mod Same

@@ -18,14 +18,13 @@ use Rattle.book.specs.counted.Places.{places}
 use Rattle.book.specs.Values.{values}
 use Rattle.book.specs.Says as says
 use Rattle.book.specs.Says.{BookSays, refused, bad_row, unfinished, book}
-use Rattle.book.specs.Reading.{book_told, jobs_told, BookIs}
+use Rattle.book.specs.Reading.{BookIs}
 use Rattle.book.specs.steps.Kept.{last_value}
 use Rattle.book.specs.steps.Stop.{Reached, StopIs, through, formless, misplaced, surplus, reused}
-use Rattle.book.specs.declared.counted.Count.{Count}
-use Rattle.book.specs.declared.counted.Count.TheVariants.{Given, Refused}
+use Rattle.book.specs.declared.counted.Refused.{Refused}
 use Rattle.book.specs.declared.counted.Book.{Book}
-use Rattle.book.specs.declared.stops.Ending.TheVariants as ending
-use Rattle.book.specs.declared.stops.Stop.{Stop}
+use Rattle.std.specs.Prelude.{Ok, Err}
+use Rattle.book.specs.declared.walk.Stop.{Stop}
 use Rattle.book.proofs.Steps.{starts, extend, grows}
 use Rattle.book.proofs.Answers.{begins_book}
 use Rattle.book.proofs.Growing.{step_place}
@@ -48,19 +47,13 @@ pub base_placed : {rs : List BookRow} {js : Jobs} {r : BookRow} → Placed rs js
 base_placed p k l = extend p (starts l k)
 
 -- an answer, from what it is told
-pub refused_is : {s : List ℕ} (b : Book) (why : Refusal) (row : ℕ) → (b.count ≡ Refused why row) × (b.jobs ≡ places []) → BookSays s (refused (refusal_number why) row) → BookIs s b
-refused_is {s} b why row e p = record {
-  says = subst (λ (c : Count). BookSays s (book_told c b.jobs)) (sym e.0) p;
-  held = subst (λ (c : Count). b.jobs ≡ places (jobs_told (book_told c b.jobs))) (sym e.0) e.1;
-}
+pub refused_is : {s : List ℕ} (r : Refused) → BookSays s (refused (refusal_number r.why) r.row) → BookIs s (Err r)
+refused_is r p = record { says = p; held = tt }
 
-given_is : {s : List ℕ} {js : Jobs} (b : Book) (n : ℕ) → b.count ≡ Given n → n ≡ count js → b.jobs ≡ places (values js) → JobBook s js → BookIs s b
-given_is {s} {js} b n c m e k =
-    let t : take n b.jobs ≡ values js = ap (take n) e ∙ take_at (values js) _ n (values_many js ∙ sym m) in
-    record {
-      says = subst (λ (x : Count). BookSays s (book_told x b.jobs)) (sym c) (book k (cc));
-      held = subst (λ (x : Count). b.jobs ≡ places (jobs_told (book_told x b.jobs))) (sym c) (e ∙ ap places (sym t));
-    }
+given_is : {s : List ℕ} {js : Jobs} (b : Book) → b.count ≡ count js → b.jobs ≡ places (values js) → JobBook s js → BookIs s (Ok b)
+given_is {s} {js} b m e k =
+    let t : take b.count b.jobs ≡ values js = ap (take b.count) e ∙ take_at (values js) _ b.count (values_many js ∙ sym m) in
+    record { says = book k cc; held = e ∙ ap places (sym t) }
 
 module _ {s : List ℕ} (t : Stop) (size : length s ≤ 65536) where
   first_bad : {why : ℕ} (b : Reached s t) → says.Bad b.typed b.this why → BookSays s (refused why t.row)
@@ -68,13 +61,13 @@ module _ {s : List ℕ} (t : Stop) (size : length s ≤ 65536) where
       bad_row size b.text
       (record { row = b.this; at = record { before = b.passed; behind = b.behind; are = refl; number = b.number }; typed = b.typed; jobs = b.written; begins = b.begins; bad = x }) refl
 
-  told_as : {v why : Refusal} → t.ending ≡ ending.Refused v → t.ending ≡ ending.Refused why → BookSays s (refused (refusal_number v) t.row) → BookSays s (refused (refusal_number why) t.row)
+  told_as : {v why : Refusal} → t.ending ≡ Err v → t.ending ≡ Err why → BookSays s (refused (refusal_number v) t.row) → BookSays s (refused (refusal_number why) t.row)
   told_as {v} {why} p q x =
       let e : v ≡ why = cc in
       subst (λ (w : Refusal). BookSays s (refused (refusal_number w) t.row)) e x
 
   -- at a bad row
-  pub stop_refused : (why : Refusal) → t.ending ≡ ending.Refused why → StopIs s t → BookSays s (refused (refusal_number why) t.row)
+  pub stop_refused : (why : Refusal) → t.ending ≡ Err why → StopIs s t → BookSays s (refused (refusal_number why) t.row)
   stop_refused why q (through p f b m n l c v j) = impossible cc
   stop_refused why q (formless p b h) = told_as p q (first_bad b (says.formless h))
   stop_refused why q (misplaced {r} p b f j h) =
@@ -87,7 +80,7 @@ module _ {s : List ℕ} (t : Stop) (size : length s ≤ 65536) where
       told_as p q (first_bad b (says.reused f (base_placed b.begins.placed k l) (omega arith) (used_twice u)))
 
   -- behind the last row, where a load row is missing
-  pub stop_short : t.ending ≡ ending.Through → t.job.count ≡ 0 → StopIs s t → BookSays s (refused 4 (t.row + 1))
+  pub stop_short : t.ending ≡ Ok tt → t.job.count ≡ 0 → StopIs s t → BookSays s (refused 4 (t.row + 1))
   stop_short q z (through {js = js} p f b m n l c v j) =
       unfinished size f (record { typed = _; jobs = js; begins = b; missing = lacks js m (sym (ap (λ (x : Job). x.count) j) ∙ z) }) (ap (λ (k : ℕ). refused 4 (k + 1)) n)
   stop_short q z (formless p b h) = impossible cc
@@ -96,7 +89,7 @@ module _ {s : List ℕ} (t : Stop) (size : length s ≤ 65536) where
   stop_short q z (reused p b f k l m u e) = impossible cc
 
   -- one past it fits
-  pub stop_row : t.ending ≡ ending.Through → StopIs s t → t.row ≤ 65537
+  pub stop_row : t.ending ≡ Ok tt → StopIs s t → t.row ≤ 65537
   stop_row q (through p f b m n l c v j) = l
   stop_row q (formless p b h) = impossible cc
   stop_row q (misplaced p b f j h) = impossible cc
@@ -104,10 +97,10 @@ module _ {s : List ℕ} (t : Stop) (size : length s ≤ 65536) where
   stop_row q (reused p b f k l m u e) = impossible cc
 
   -- and where none is
-  pub stop_whole : (b : Book) → t.ending ≡ ending.Through → (t.job.count ≡ 0 → ⊥) → b.count ≡ Given t.count → b.jobs ≡ t.jobs → StopIs s t → BookIs s b
-  stop_whole k q z c v (through {js = js} p f b m n l o w j) =
-      given_is k t.count c o (v ∙ w) (begins_book size f b (has_load js m (λ e. z (ap (λ (x : Job). x.count) j ∙ e))))
-  stop_whole k q z c v (formless p b h) = impossible cc
-  stop_whole k q z c v (misplaced p b f j h) = impossible cc
-  stop_whole k q z c v (surplus p b f i l m) = impossible cc
-  stop_whole k q z c v (reused p b f i l m u e) = impossible cc
+  pub stop_whole : t.ending ≡ Ok tt → (t.job.count ≡ 0 → ⊥) → StopIs s t → BookIs s (Ok (record { count = t.count; jobs = t.jobs }))
+  stop_whole q z (through {js = js} p f b m n l o w j) =
+      given_is (record { count = t.count; jobs = t.jobs }) o w (begins_book size f b (has_load js m (λ e. z (ap (λ (x : Job). x.count) j ∙ e))))
+  stop_whole q z (formless p b h) = impossible cc
+  stop_whole q z (misplaced p b f j h) = impossible cc
+  stop_whole q z (surplus p b f i l m) = impossible cc
+  stop_whole q z (reused p b f i l m u e) = impossible cc

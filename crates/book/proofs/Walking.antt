@@ -2,12 +2,11 @@
 use Prim.Native.Nat.{ℕ, ◌+◌, ◌-◌, ◌≤◌, ◌<◌}
 use native.Mathlib.Omega.{arith}
 use mathlib.Core.Path.{◌≡◌, refl, sym, ap, subst, ◌∙◌}
-use mathlib.Core.Bool.{Bool, true, false}
 use mathlib.Core.List.{List, [], ◌∷◌, ◌++◌}
-use lib.ListN.{length, take, set}
-use lib.Seq.{take_at}
+use lib.ListN.{length, set, take, replicate, length-append}
+use lib.Seq.{length-take-le, get_or-take}
 use Rattle.arithmetic.proofs.Cases.{impossible}
-use Rattle.csv_text.specs.rfc4180.Rfc4180.{Cell, Readable}
+use Rattle.csv_text.specs.rfc4180.Rfc4180.{Cell, File, Readable}
 use Rattle.csv_text.proofs.notes.Reached.{RowReached, reached_start, reached_more, reached_last, reached_many}
 use Rattle.rows.specs.Form.{BookRow, Form}
 use Rattle.csv_text.specs.cells.Standing.{raw}
@@ -17,70 +16,67 @@ use Rattle.rows.specs.declared.RowRead.{RowRead}
 use Rattle.jobs.specs.Place.{InPlace, grown}
 use Rattle.jobs.specs.Taking as taking
 use Rattle.jobs.specs.declared.Job.{Job}
-use Rattle.book.specs.JobBook.{Jobs, none, ◌and◌, job, dry, count, Forms, no_form, form, JobBook, Different, no_key, new_key, Used}
+use Rattle.kinds.specs.declared.Role.TheVariants.{Base}
+use Rattle.book.specs.JobBook.{IsA, Jobs, none, ◌and◌, job, dry, count, Forms, no_form, form, Different, no_key, new_key}
 use Rattle.book.specs.Beginning.{no_job, Loaded, Begins}
 use Rattle.rows.specs.keys.Among.{Among}
 use Rattle.rows.specs.keys.Beginning as beginning
-use Rattle.rows.specs.declared.keys.Beginning.{Beginning}
-use Rattle.rows.specs.declared.keys.Beginning.TheVariants.{Allowed, Barred}
-use Rattle.book.specs.counted.Places.{places}
-use Rattle.book.specs.Values.{values}
-use Rattle.book.specs.steps.Kept.{last_value}
-use Rattle.book.specs.Says.{refused, formless, misplaced, surplus, reused, Bad, BookSays, bad_row, unfinished, book}
-use Rattle.book.specs.Reading.{book_told, jobs_told, BookIs}
-use Rattle.book.specs.steps.Ended.{EndedIs, missing, whole}
+use Rattle.std.specs.Prelude.{Some, None, Result, Ok, Err}
+use Rattle.rows.specs.keys.Among.{void_key}
+use Rattle.rows.specs.declared.keys.Keyed.{Keyed}
+use Rattle.book.specs.steps.Kept.{last_value, keys_of}
+use Rattle.rows.specs.keys.Keyed.{no_row}
 use Rattle.rows.specs.refusals.Numbers.{refusal_number}
 use Rattle.rows.specs.declared.refusals.Refusal.{Refusal}
 use Rattle.rows.specs.declared.refusals.Refusal.TheVariants.{TooLong, NotCsv, NoForm, Misplaced, TooManyJobs, UsedKey}
-use Rattle.book.specs.steps.Step.{RefusesRow}
-use Rattle.book.specs.declared.counted.Count.{Count}
-use Rattle.book.specs.declared.counted.Count.TheVariants.{Given, Refused}
-use Rattle.book.specs.declared.counted.Book.{Book}
-use Rattle.book.proofs.Steps.{GrowsBy, starts, scours, crosses, bears, extend, grows}
-use Rattle.book.proofs.Answers.{begins_book}
-use Rattle.book.proofs.Growing.{Grown, place_grows, step_place}
-use Rattle.book.proofs.Keeping.{values_many, among_used, used_among, Standing, base_jobs, standing_starts, joins, standing_joins}
+use Rattle.rows.proofs.refusals.Numbers.{number_one}
+use Rattle.book.specs.steps.Step.{RefusesRow, TakesRow}
+use Rattle.book.specs.steps.Stop.{Reached, StopIs, through, formless, misplaced, surplus, reused}
+use Rattle.book.specs.declared.walk.Stop.{Stop}
+use Rattle.book.proofs.Steps.{GrowsBy, starts, scours, crosses, bears, extend}
+use Rattle.book.proofs.Growing.{Grown, place_grows}
+use Rattle.book.proofs.Keeping.{keys_many, among_used, used_among, Standing, base_jobs, standing_starts, joins, standing_joins}
 
 forms_more : {css : List (List Cell)} {rs : List BookRow} {cs : List Cell} {r : BookRow} → Forms css rs → Form cs r → Forms (css ++ cs ∷ []) (rs ++ r ∷ [])
 forms_more no_form g = form g no_form
 forms_more (form f fs) g = form f (forms_more fs g)
 
--- behind a row the last job's value says whether a load row is missing
-lacks : {js ks : Jobs} {r : BookRow} → GrowsBy js r ks → (last_value ks).count ≡ 0 → Loaded ks → ⊥
-lacks (starts l h) e k = omega arith
-lacks (scours h f) e k = omega arith
-lacks (crosses h f) e k = omega arith
-lacks (bears h f n) e k = omega arith
+-- behind a row there is a job
+some_job : {js ks : Jobs} {r : BookRow} → GrowsBy js r ks → 1 ≤ count ks
+some_job (starts l h) = omega arith
+some_job (scours h f) = omega arith
+some_job (crosses h f) = omega arith
+some_job (bears h f n) = omega arith
 
-has_load : {js ks : Jobs} {r : BookRow} → GrowsBy js r ks → ((last_value ks).count ≡ 0 → ⊥) → Loaded ks
-has_load (starts l h) n = absurd (n refl)
-has_load (scours h f) n = absurd (n refl)
-has_load (crosses h f) n = absurd (n refl)
-has_load (bears h f m) n = omega arith
+-- and a B row finds a load row in the job before it
+base_loaded : {js ks : Jobs} {r : BookRow} → IsA Base r → GrowsBy js r ks → Loaded js
+base_loaded k (starts l h) = l
+base_loaded k (scours h e) = impossible cc
+base_loaded k (crosses h e) = impossible cc
+base_loaded k (bears h e n) = impossible cc
 
-used_twice : {js : Jobs} {r : BookRow} → Used r js → Different (js and job r dry []) → ⊥
-used_twice u (new_key d n) = n u
+-- a key is among the first n as it is in the part of the list that they are
+module _ (ks : List Key) (n : ℕ) (k : Key) (few : n ≤ length ks) where
+  long : length (take n ks) ≡ n
+  long = length-take-le n ks few
+
+  part_among : Among (take n ks) (length (take n ks)) k → Among ks n k
+  part_among a = let h = a.within in let l : a.at < n = omega (arith, long) in record { at = a.at; within = l; is = sym (get_or-take n ks a.at void_key l) ∙ a.is }
+
+  among_part : Among ks n k → Among (take n ks) (length (take n ks)) k
+  among_part a = let h = a.within in record { at = a.at; within = omega (arith, long); is = get_or-take n ks a.at void_key h ∙ a.is }
+
+  -- so a job begins behind those as it does behind the part
+  pub part_begins : (b : Result (Unit {0}) Refusal) → beginning.BeginningIs (take n ks) (length (take n ks)) k b → beginning.BeginningIs ks n k b
+  part_begins b (beginning.surplus m e) = beginning.surplus (omega (arith, long)) e
+  part_begins b (beginning.reused m a e) = beginning.reused (omega (arith, long)) (part_among a) e
+  part_begins b (beginning.unused m a e) = beginning.unused (omega (arith, long)) (λ w. a (among_part w)) e
 
 -- where a job begins, it is one of 64, and its key is new
-pub begun_new : {ks : List Key} {n : ℕ} {k : Key} {b : Beginning} → beginning.BeginningIs ks n k b → b ≡ Allowed → (n < 64) × (Among ks n k → ⊥)
+pub begun_new : {ks : List Key} {n : ℕ} {k : Key} {b : Result (Unit {0}) Refusal} {u : Unit {0}} → beginning.BeginningIs ks n k b → b ≡ Ok u → (n < 64) × (Among ks n k → ⊥)
 begun_new (beginning.surplus m e) f = let g = ap beginning.beginning_told f in impossible cc
 begun_new (beginning.reused m a e) f = let g = ap beginning.beginning_told f in impossible cc
 begun_new (beginning.unused m a e) f = (m, a)
-
--- an answer, from what it is told
-pub refused_is : {s : List ℕ} (b : Book) (why : Refusal) (row : ℕ) → (b.count ≡ Refused why row) × (b.jobs ≡ places []) → BookSays s (refused (refusal_number why) row) → BookIs s b
-refused_is {s} b why row e p = record {
-  says = subst (λ (c : Count). BookSays s (book_told c b.jobs)) (sym e.0) p;
-  held = subst (λ (c : Count). b.jobs ≡ places (jobs_told (book_told c b.jobs))) (sym e.0) e.1;
-}
-
-given_is : {s : List ℕ} {js : Jobs} (b : Book) (n : ℕ) → b.count ≡ Given n → n ≡ count js → b.jobs ≡ places (values js) → JobBook s js → BookIs s b
-given_is {s} {js} b n c m e k =
-    let t : take n b.jobs ≡ values js = ap (take n) e ∙ take_at (values js) _ n (values_many js ∙ sym m) in
-    record {
-      says = subst (λ (x : Count). BookSays s (book_told x b.jobs)) (sym c) (book k (cc));
-      held = subst (λ (x : Count). b.jobs ≡ places (jobs_told (book_told x b.jobs))) (sym c) (e ∙ ap places (sym t));
-    }
 
 pub record Walk (s : List ℕ) (last : Job) (jobs : List Job) (keys : List Key) (n row at : ℕ) : Type 0 where
   pub size : length s ≤ 65536
@@ -112,35 +108,50 @@ module _ {s : List ℕ} {last : Job} {jobs : List Job} {keys : List Key} {n row 
   pub walk_on : r.next < length s → at < r.next
   walk_on k = seen.on k
 
-  first_bad : {why : ℕ} → Bad i.typed cs why → BookSays s (refused why row)
-  first_bad x =
-      let w = i.reached in
-      bad_row i.size w.reading
-      (record { row = cs; at = record { before = i.passed; behind = w.behind; are = w.are; number = w.number }; typed = i.typed; jobs = i.written; begins = i.begins; bad = x }) refl
+  -- where the walk stops at this row
+  abbrev stopped : Refusal → Job → Stop
+  stopped why left = record { ending = Err why; row = row; at = at; job = left; count = n; jobs = jobs }
 
-  walk_formless : r.good ≡ false → BookSays s (refused 3 row)
-  walk_formless g = first_bad (formless (subst (λ (x : Bool). RowGiven x cs r.row) g seen.means).0)
+  abbrev stands_at : (why : Refusal) (left : Job) → Reached s (stopped why left)
+  stands_at why left =
+      let w = i.reached in
+      record {
+        passed = i.passed;
+        this = cs;
+        behind = w.behind;
+        text = subst (File s) w.are w.reading;
+        here = w.here;
+        within = w.within;
+        number = w.number;
+        typed = i.typed;
+        written = i.written;
+        begins = i.begins;
+        many = i.stands.many;
+        held = i.stands.jobs;
+      }
+
+  walk_formless : (left : Job) → r.row ≡ None → StopIs s (stopped NoForm left)
+  walk_formless left g = formless refl (stands_at NoForm left) (subst (RowGiven cs) g seen.means)
 
   -- the row has a form
-  module _ (g : r.good ≡ true) where
+  module _ {keyed : Keyed} (g : r.row ≡ Some keyed) where
     abbrev this : BookRow
-    this = record { keyed = r.row; note = raw cs 9 }
+    this = record { keyed = keyed; note = raw cs 9 }
 
     means : Form cs this
-    means = subst (λ (x : Bool). RowGiven x cs r.row) g seen.means
+    means = subst (RowGiven cs) g seen.means
 
-    placing : InPlace last r.row → InPlace (last_value i.written) r.row
-    placing w = subst (λ (j : Job). InPlace j r.row) i.stands.job w
+    placing : InPlace last keyed → InPlace (last_value i.written) keyed
+    placing w = subst (λ (j : Job). InPlace j keyed) i.stands.job w
 
-    walk_misplaced : (InPlace last r.row → ⊥) → BookSays s (refused 4 row)
-    walk_misplaced w =
-        first_bad (misplaced means (λ ks q. w (subst (λ (j : Job). InPlace j r.row) (sym i.stands.job) (step_place (grows i.begins.placed q)))))
+    walk_misplaced : (left : Job) → left ≡ last → (InPlace last keyed → ⊥) → StopIs s (stopped Misplaced left)
+    walk_misplaced left e w = misplaced refl (stands_at Misplaced left) means (e ∙ i.stands.job) (λ p. w (subst (λ (j : Job). InPlace j keyed) e p))
 
     -- the jobs with this row more
-    grows_by : {next : Job} → InPlace last r.row → next ≡ grown last r.row → Grown i.written this next
+    grows_by : {next : Job} → InPlace last keyed → next ≡ grown last keyed → Grown i.written this next
     grows_by {next} w e =
         let k = place_grows i.written this (placing w) in
-        record { jobs = k.jobs; step = k.step; is = k.is ∙ ap (λ (j : Job). grown j r.row) (sym i.stands.job) ∙ sym e }
+        record { jobs = k.jobs; step = k.step; is = k.is ∙ ap (λ (j : Job). grown j keyed) (sym i.stands.job) ∙ sym e }
 
     -- behind the row
     pub record After (next : Job) (vs : List Job) (ks : List Key) (m : ℕ) : Type 0 where
@@ -152,7 +163,7 @@ module _ {s : List ℕ} {last : Job} {jobs : List Job} {keys : List Key} {n row 
     begins_more : {js : Jobs} → GrowsBy i.written this js → count js ≤ 64 → (Different i.written → Different js) → Begins (i.passed ++ cs ∷ []) (i.typed ++ this ∷ []) js
     begins_more p few d = record { forms = forms_more i.begins.forms means; placed = extend i.begins.placed p; few = few; different = d i.begins.different }
 
-    pub walk_joined : (next : Job) → taking.TakeSays last r.row taking.joins next → After next (set jobs (n - 1) next) keys n
+    pub walk_joined : (next : Job) → taking.TakeSays last keyed taking.joins next → After next (set jobs (n - 1) next) keys n
     walk_joined next t =
         let k = grows_by t.1 t.2 in
         let j = joins t.0 k.step in
@@ -167,7 +178,7 @@ module _ {s : List ℕ} {last : Job} {jobs : List Job} {keys : List Key} {n row 
         }
 
     -- a row that joins the last job finds one
-    pub walk_some : (next : Job) → taking.TakeSays last r.row taking.joins next → (1 ≤ n) × (n ≤ 64)
+    pub walk_some : (next : Job) → taking.TakeSays last keyed taking.joins next → (1 ≤ n) × (n ≤ 64)
     walk_some next t =
         let j = joins t.0 (grows_by t.1 t.2).step in
         let m = j.some in
@@ -175,7 +186,7 @@ module _ {s : List ℕ} {last : Job} {jobs : List Job} {keys : List Key} {n row 
         let o = i.stands.many in
         (omega arith, omega arith)
 
-    module _ (next : Job) (t : taking.TakeSays last r.row taking.starts next) where
+    module _ (next : Job) (t : taking.TakeSays last keyed taking.starts next) where
       abbrev started : Jobs
       started = i.written and job this dry []
 
@@ -185,30 +196,30 @@ module _ {s : List ℕ} {last : Job} {jobs : List Job} {keys : List Key} {n row 
       holds : last_value started ≡ next
       holds = let k = grows_by t.1 t.2 in ap last_value (sym (base_jobs t.0 k.step)) ∙ k.is
 
-      key_is : next.key ≡ r.row.key
+      key_is : next.key ≡ keyed.key
       key_is = ap (λ (j : Job). j.key) (sym holds)
 
-      walk_surplus : 64 ≤ n → BookSays s (refused 5 row)
-      walk_surplus m =
-          let o = i.stands.many in
-          first_bad (surplus means (extend i.begins.placed start) (omega arith))
+      loaded : Loaded i.written
+      loaded = base_loaded t.0 start
 
-      walk_reused : n < 64 → Among keys n next.key → BookSays s (refused 6 row)
+      walk_surplus : 64 ≤ n → StopIs s (stopped TooManyJobs next)
+      walk_surplus m = surplus refl (stands_at TooManyJobs next) means t.0 loaded m
+
+      walk_reused : n < 64 → Among keys n next.key → StopIs s (stopped UsedKey next)
       walk_reused m a =
-          let o = i.stands.many in
-          let u = among_used i.written n keys o i.stands.keys this (subst (Among keys n) key_is a) in
-          first_bad (reused means (extend i.begins.placed start) (omega arith) (λ d. used_twice u d))
+          let u = among_used i.written n keys i.stands.many i.stands.keys this (subst (Among keys n) key_is a) in
+          reused refl (stands_at UsedKey next) means t.0 loaded m u key_is
 
       -- a job that may not begin
-      pub walk_barred : {b : Beginning} (why : Refusal) → beginning.BeginningIs keys n next.key b → b ≡ Barred why → BookSays s (refused (refusal_number why) row)
+      pub walk_barred : {b : Result (Unit {0}) Refusal} (why : Refusal) → beginning.BeginningIs keys n next.key b → b ≡ Err why → StopIs s (stopped why next)
       walk_barred why (beginning.surplus m e) f =
           let g = ap beginning.beginning_told f in
           let q : 5 ≡ refusal_number why = cc in
-          subst (λ (k : ℕ). BookSays s (refused k row)) q (walk_surplus m)
+          subst (λ (w : Refusal). StopIs s (stopped w next)) (number_one TooManyJobs why q) (walk_surplus m)
       walk_barred why (beginning.reused m a e) f =
           let g = ap beginning.beginning_told f in
           let q : 6 ≡ refusal_number why = cc in
-          subst (λ (k : ℕ). BookSays s (refused k row)) q (walk_reused m a)
+          subst (λ (w : Refusal). StopIs s (stopped w next)) (number_one UsedKey why q) (walk_reused m a)
       walk_barred why (beginning.unused m a e) f = let g = ap beginning.beginning_told f in impossible cc
 
       pub walk_started : n < 64 → (Among keys n next.key → ⊥) → After next (set jobs (n + 1 - 1) next) (set keys n next.key) (n + 1)
@@ -240,21 +251,45 @@ module _ {s : List ℕ} {last : Job} {jobs : List Job} {keys : List Key} {n row 
         all : Begins i.reached.rows (i.typed ++ this ∷ []) w.grew
         all = subst (λ (l : List (List Cell)). Begins l (i.typed ++ this ∷ []) w.grew) (sym (reached_last i.reached seen.rest k)) w.begins
 
-        pub walk_end : (b : Book) → EndedIs vs m next.count row b → BookIs s b
-        walk_end b (missing e c v) =
-            let z = reached_many i.reached seen.rest k in
-            refused_is b Misplaced (row + 1) (c, v)
-            (unfinished i.size i.reached.reading (record { typed = _; jobs = w.grew; begins = all; missing = lacks w.step (sym (ap (λ (j : Job). j.count) w.stands.job) ∙ e) }) (ap (λ (m : ℕ). refused 4 (m + 1)) (sym z)))
-        walk_end b (whole e c v) =
-            given_is b m c w.stands.many (v ∙ w.stands.jobs)
-            (begins_book i.size i.reached.reading all (has_load w.step (λ z. e (ap (λ (j : Job). j.count) w.stands.job ∙ z))))
+        pub walk_through : StopIs s (record { ending = Ok tt; row = row; at = at; job = next; count = m; jobs = vs })
+        walk_through =
+            let few = i.reached.few in
+            let within = i.reached.within in
+            let size = i.size in
+            through refl i.reached.reading all (some_job w.step) (sym (reached_many i.reached seen.rest k)) (omega arith) w.stands.many w.stands.jobs w.stands.job
 
--- a row that is refused where it stands is the first bad one
+-- the walk stops at a row that is refused where it stands
 module _ {s : List ℕ} {last : Job} {jobs : List Job} {keys : List Key} {n row at : ℕ} (i : Walk s last jobs keys n row at) {r : RowRead} (h : SeenAt s at r) where
-  pub walk_refused : (why : Refusal) → RefusesRow last r.good r.row why → BookSays s (refused (refusal_number why) row)
-  walk_refused TooLong w = absurd w
-  walk_refused NotCsv w = absurd w
-  walk_refused NoForm w = walk_formless i h w
-  walk_refused Misplaced w = walk_misplaced i h w.0 w.1
-  walk_refused TooManyJobs w = absurd w
-  walk_refused UsedKey w = absurd w
+  pub walk_refused : (why : Refusal) (left : Job) → left ≡ last → RefusesRow last r.row why → StopIs s (stopped i h why left)
+  walk_refused TooLong left e w = absurd w
+  walk_refused NotCsv left e w = absurd w
+  walk_refused NoForm left e w = walk_formless i h left w
+  walk_refused Misplaced left e w = walk_misplaced i h w.has_form left e w.misplaced
+  walk_refused TooManyJobs left e w = absurd w
+  walk_refused UsedKey left e w = absurd w
+
+-- the keys so far stand in the first of their places
+pub keys_few : {s : List ℕ} {last : Job} {jobs : List Job} {keys : List Key} {n row at : ℕ} → Walk s last jobs keys n row at → n ≤ length keys
+keys_few i =
+    let k = keys_of i.written in
+    omega (arith, ap length i.stands.keys, length-append k (replicate (64 - length k) no_row.key), keys_many i.written, i.stands.many)
+
+-- behind a row that has a form and was taken up
+module _ {s : List ℕ} {last : Job} {jobs : List Job} {keys : List Key} {n row at : ℕ} {r : RowRead} (i : Walk s last jobs keys n row at) (h : SeenAt s at r) where
+  pub record Behind (next : Job) (ks : List Key) (m : ℕ) : Type 0 where
+    pub keyed : Keyed
+    pub has_form : r.row ≡ Some keyed
+    pub after : After i h has_form next (set jobs (m - 1) next) ks m
+
+  pub behind_joined : {next : Job} → TakesRow last r.row taking.joins next → Behind next keys n
+  behind_joined {next} t = record { keyed = t.keyed; has_form = t.has_form; after = walk_joined i h t.has_form next t.taken }
+
+  pub behind_started : {next : Job} → TakesRow last r.row taking.starts next → n < 64 → (Among keys n next.key → ⊥) → Behind next (set keys n next.key) (n + 1)
+  behind_started {next} t few new = record { keyed = t.keyed; has_form = t.has_form; after = walk_started i h t.has_form next t.taken few new }
+
+  module _ {next : Job} {ks : List Key} {m : ℕ} (b : Behind next ks m) where
+    pub behind_more : r.next < length s → Walk s next (set jobs (m - 1) next) ks m (row + 1) r.next
+    behind_more k = walk_more i h b.has_form b.after k
+
+    pub behind_through : length s ≤ r.next → StopIs s (record { ending = Ok tt; row = row; at = at; job = next; count = m; jobs = set jobs (m - 1) next })
+    behind_through k = walk_through i h b.has_form b.after k

@@ -11,11 +11,11 @@ ghost use Rattle.book.specs.faults.FormAlone.{FormLies};
 ghost use Rattle.book.specs.steps.Stop.{StopIs};
 ghost use Rattle.book.specs.steps.Faulted.{RuleAt, rows_in_river, UsedAmong};
 
-use crate::stops;
-use crate::stops::{Ending, Stop};
+use crate::walk;
+use crate::walk::Stop;
 use csv_text::strays::TextFault;
 use jobs::Job;
-use jobs::misplaced::{Misplaced, Placing};
+use jobs::misplaced::Misplaced;
 use jobs::stages::Stage;
 use rows::faults::RowFault;
 use rows::keys::Key;
@@ -25,7 +25,6 @@ use rows::refusals::Refusal;
 // B row of a 65th job; a B row with a key used before, and the earlier B row.
 #[derive(Clone, Copy)]
 pub enum BookFault {
-    Sound,
     TooLong,
     Text(TextFault),
     Row(usize, RowFault),
@@ -34,14 +33,13 @@ pub enum BookFault {
     UsedKey(usize, usize),
 }
 
-// The rule by which the row that starts at a place is out of place.
-fn rule_at(s: &[u8], at: usize, job: Job) -> Placing
+// The rule by which the row that starts at a place is out of place; nothing, where it is in its place or has no form.
+fn rule_at(s: &[u8], at: usize, job: Job) -> Option<Misplaced>
     requires at_in_bounds { at ≤ length s.now }
     requires readable { Readable (drop at s.now) }
     ensures { RuleAt s.now at job result }
 {
-    let read = rows::read_row(s, at);
-    let row = read.row;
+    let row = rows::read_row(s, at).row?;
     jobs::misplaced::rule_of(job, row)
 }
 
@@ -78,66 +76,63 @@ fn earlier_row(jobs: [Job; 64], n: usize, row: usize, key: Key) -> usize
     at
 }
 
-// What lies where the walk stopped. It refuses a row with 3 to 6 alone.
-fn stop_fault(s: &[u8], stop: Stop) -> BookFault
+// What lies where the walk stopped; nothing, where the bytes are a job book. The walk refuses a row with 3 to 6 alone.
+fn stop_fault(s: &[u8], stop: Stop) -> Option<BookFault>
     requires s_len_bound { length s.now ≤ 65536 }
     requires stop_is { StopIs s.now stop }
     ensures { BookLies s.now result }
 {
-    let ending = stop.ending;
-    let row = stop.row;
-    let at = stop.at;
-    let job = stop.job;
-    let Ending::Refused(why) = ending else {
-        if job.count == 0 {
-            return BookFault::Misplaced(row + 1, Misplaced::NoLoad);
+    let Err(why) = stop.ending else {
+        if stop.job.count == 0 {
+            return Some(BookFault::Misplaced(stop.row + 1, Misplaced::NoLoad));
         }
-        return BookFault::Sound;
+        return None;
     };
     match why {
-        Refusal::TooLong | Refusal::NotCsv | Refusal::NoForm => {
-            BookFault::Row(row, rows::faults::fault_at(s, at))
+        Refusal::TooLong | Refusal::NotCsv => unreachable!(),
+        Refusal::NoForm => {
+            let fault = rows::faults::fault_at(s, stop.at)?;
+            Some(BookFault::Row(stop.row, fault))
         }
-        Refusal::Misplaced => match rule_at(s, at, job) {
-            Placing::Out(rule) => BookFault::Misplaced(row, rule),
-            Placing::InPlace => BookFault::Sound,
-        },
-        Refusal::TooManyJobs => BookFault::TooManyJobs(row),
+        Refusal::Misplaced => {
+            let rule = rule_at(s, stop.at, stop.job)?;
+            Some(BookFault::Misplaced(stop.row, rule))
+        }
+        Refusal::TooManyJobs => Some(BookFault::TooManyJobs(stop.row)),
         Refusal::UsedKey => {
-            let jobs = stop.jobs;
-            let key = job.key;
-            BookFault::UsedKey(row, earlier_row(jobs, stop.count, row, key))
+            let earlier = earlier_row(stop.jobs, stop.count, stop.row, stop.job.key);
+            Some(BookFault::UsedKey(stop.row, earlier))
         }
     }
 }
 
-// Where the refusal of a book lies.
-pub fn book_fault(book: &[u8]) -> BookFault
+// Where the refusal of a book lies; nothing, where it is a job book.
+pub fn book_fault(book: &[u8]) -> Option<BookFault>
     ensures { BookLies book.now result }
 {
-    if 65536 < book.len() {
-        return BookFault::TooLong;
+    if crate::LONGEST < book.len() {
+        return Some(BookFault::TooLong);
     }
-    if !csv_text::is_csv(book) {
-        return BookFault::Text(csv_text::strays::text_fault(book));
+    if let Some(fault) = csv_text::strays::text_fault(book) {
+        return Some(BookFault::Text(fault));
     }
-    stop_fault(book, stops::walk_rows(book))
+    stop_fault(book, walk::walk_rows(book))
 }
 
-// Why a row of a book has no form, whatever stands before it; nothing where there is no such row, or the text is not RFC 4180. The first row
-// is there in the empty text too, where it starts at the end.
-pub fn form_fault(book: &[u8], row: usize) -> RowFault
+// Why a row of a book has no form, whatever stands before it; nothing where it has one, or there is no such row, or the text is not RFC 4180.
+// The first row is there in the empty text too, where it starts at the end.
+pub fn form_fault(book: &[u8], row: usize) -> Option<RowFault>
     ensures { FormLies book.now row result }
 {
     if !csv_text::is_csv(book) {
-        return RowFault::Sound;
+        return None;
     }
     if row == 1 {
         return rows::faults::fault_at(book, 0);
     }
     let start = csv_text::places::start_of(book, row);
     if book.len() <= start {
-        return RowFault::Sound;
+        return None;
     }
     rows::faults::fault_at(book, start)
 }

@@ -8,35 +8,56 @@
 pub mod counted;
 pub mod faults;
 mod step;
-mod stops;
 mod walk;
 
 ghost use Rattle.book.specs.Reading.{BookIs, CountIs};
 ghost use Rattle.book.specs.Notes.{NoteIs};
 
-use counted::{Book, Count};
+use counted::{Book, Refused};
 use rows::refusals::Refusal;
 
+// The bytes that a book may have (refusal 1).
+pub(crate) const LONGEST: usize = 65536;
+
 // The jobs of a book, by value; or why it is refused.
-pub fn read_book(book: &[u8]) -> Book
+pub fn read_book(book: &[u8]) -> Result<Book, Refused>
     ensures { BookIs book.now result }
 {
-    if 65536 < book.len() {
-        return counted::refused(Refusal::TooLong, 0);
+    if LONGEST < book.len() {
+        return Err(Refused {
+            why: Refusal::TooLong,
+            row: 0,
+        });
     }
     if !csv_text::is_csv(book) {
-        return counted::refused(Refusal::NotCsv, 0);
+        return Err(Refused {
+            why: Refusal::NotCsv,
+            row: 0,
+        });
     }
-    walk::read_rows(book)
+    let stop = walk::walk_rows(book);
+    if let Err(why) = stop.ending {
+        return Err(Refused { why, row: stop.row });
+    }
+    // a load row is missing, one past the last row
+    if stop.job.count == 0 {
+        return Err(Refused {
+            why: Refusal::Misplaced,
+            row: stop.row + 1,
+        });
+    }
+    let jobs = stop.jobs;
+    Ok(Book {
+        count: stop.count,
+        jobs,
+    })
 }
 
 // The number of jobs of a book; or why it is refused.
-pub fn count_jobs(book: &[u8]) -> Count
+pub fn count_jobs(book: &[u8]) -> Result<usize, Refused>
     ensures { CountIs book.now result }
 {
-    let read = read_book(book);
-    let count = read.count;
-    count
+    Ok(read_book(book)?.count)
 }
 
 // The note of a row of a book, counted from 1, as the stretch of the lent book that it is; nothing where the book is
@@ -45,7 +66,7 @@ pub fn note_of(book: &[u8], row: usize) -> &[u8]
     ensures { NoteIs book.now row result.now }
 {
     match count_jobs(book) {
-        Count::Given(_) => csv_text::notes::note_at(book, row),
-        Count::Refused(_, _) => &book[0..0],
+        Ok(_) => csv_text::notes::note_at(book, row),
+        Err(_) => &book[0..0],
     }
 }

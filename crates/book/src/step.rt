@@ -12,7 +12,7 @@ use rows::refusals::Refusal;
 // What a row does, the job behind it, and where the next row starts.
 #[derive(Clone, Copy)]
 pub struct Step {
-    pub way: Took,
+    pub way: Result<Took, Refusal>,
     pub job: Job,
     pub next: usize,
 }
@@ -23,19 +23,18 @@ pub(crate) fn step_at(s: &[u8], at: usize, job: Job) -> Step
     requires readable { Readable (drop at s.now) }
     ensures { StepIs s.now at job result }
 {
-    let r = rows::read_row(s, at);
-    let next = r.next;
-    if r.good {
-        let keyed = r.row;
-        let taken = job.take(keyed);
-        let way = taken.answer;
-        let job = taken.job;
-        Step { way, job, next }
-    } else {
-        Step {
-            way: Took::Refused(Refusal::NoForm),
+    let read = rows::read_row(s, at);
+    let Some(keyed) = read.row else {
+        return Step {
+            way: Err(Refusal::NoForm),
             job,
-            next,
-        }
+            next: read.next,
+        };
+    };
+    let taken = job.take(keyed);
+    Step {
+        way: taken.answer,
+        job: taken.job,
+        next: read.next,
     }
 }

@@ -30,6 +30,7 @@ use Rattle.book.specs.faults.Faults.{Behind, RowsLie, row, misplaced, unfinished
 use Rattle.book.specs.faults.Told.{fault_number, fault_row}
 use Rattle.book.specs.declared.faults.BookFault.{BookFault}
 use Rattle.book.specs.declared.faults.BookFault.TheVariants as fault
+use Rattle.std.specs.Prelude.{Option, Some, None}
 use Rattle.book.proofs.Answers.{begins_one, book_says_one}
 use Rattle.book.proofs.Steps.{whole_shaped}
 use Rattle.book.proofs.Stopping.{base_placed, used_twice}
@@ -74,8 +75,8 @@ module _ {s : List ℕ} {css : List (List Cell)} (size : length s ≤ 65536) (fi
   first_bad b x = says.bad_row size file (record { row = b.row; at = b.at; typed = b.typed; jobs = b.jobs; begins = b.begins; bad = x }) refl
 
   -- the number and row
-  rows_said : {f : BookFault} → RowsLie css f → BookSays s (refused (fault_number f) (fault_row f))
-  rows_said (row b r n) = first_bad b (says.formless (fault_formless r n))
+  rows_said : {f : Option BookFault} → RowsLie css f → BookSays s (refused (fault_number f) (fault_row f))
+  rows_said (row b r) = first_bad b (says.formless (fault_formless r (λ e. impossible cc)))
   rows_said (misplaced b f p) = first_bad b (says.misplaced f (rule_misplaced b.begins.placed p.holds))
   rows_said (unfinished u e) = says.unfinished size file u (ap (refused 4) e)
   rows_said (too_many b m) =
@@ -86,18 +87,18 @@ module _ {s : List ℕ} {css : List (List Cell)} (size : length s ≤ 65536) (fi
       first_bad k
       (says.reused b.form (base_placed k.begins.placed b.is_base (unruled_loaded k.jobs b.is_base b.placed)) (omega arith) (used_twice (used_at u)))
 
-  rows_faulty : {f : BookFault} → RowsLie css f → f ≡ fault.Sound → ⊥
-  rows_faulty (row b r n) e = impossible cc
+  rows_faulty : {f : Option BookFault} → RowsLie css f → f ≡ None → ⊥
+  rows_faulty (row b r) e = impossible cc
   rows_faulty (misplaced b f p) e = impossible cc
   rows_faulty (unfinished u z) e = impossible cc
   rows_faulty (too_many b m) e = impossible cc
   rows_faulty (used_key b m u) e = impossible cc
 
 -- a fault is told with the refusal that the book is told
-pub lies_said : {s : List ℕ} {f : BookFault} → BookLies s f → (f ≡ fault.Sound → ⊥) → BookSays s (refused (fault_number f) (fault_row f))
+pub lies_said : {s : List ℕ} {f : Option BookFault} → BookLies s f → (f ≡ None → ⊥) → BookSays s (refused (fault_number f) (fault_row f))
 lies_said (sound b) n = absurd (n refl)
 lies_said (too_long h) n = says.too_long h refl
-lies_said (text h t m) n = says.not_csv h (fault_unreadable t m) refl
+lies_said (text h t) n = says.not_csv h (fault_unreadable t (λ e. impossible cc)) refl
 lies_said (rows h q l) n = rows_said h q l
 
 -- and none where the book is given
@@ -106,10 +107,10 @@ pub record Given (s : List ℕ) : Type 0 where
   pub book : JobBook s jobs
   pub told : BookSays s (given (count jobs) (values jobs))
 
-pub sound_said : {s : List ℕ} {f : BookFault} → BookLies s f → f ≡ fault.Sound → Given s
+pub sound_said : {s : List ℕ} {f : Option BookFault} → BookLies s f → f ≡ None → Given s
 sound_said (sound {js} b) e = record { jobs = js; book = b; told = says.book b refl }
 sound_said (too_long h) e = impossible cc
-sound_said (text h t m) e = impossible cc
+sound_said (text h t) e = impossible cc
 sound_said (rows h q l) e = absurd (rows_faulty h q l e)
 
 -- a row's number has one row, and behind the rows before it stand the same jobs
@@ -126,7 +127,7 @@ module _ {css : List (List Cell)} {n m : ℕ} (b : Behind css n) (c : Behind css
   same_form : {r q : BookRow} → Form b.row r → Form c.row q → r ≡ q
   same_form {q = q} f g = form_one f (subst (λ (l : List Cell). Form l q) (sym same_row.1) g)
 
-  same_fault : {f g : RowFault} → RowSays b.row f → RowSays c.row g → f ≡ g
+  same_fault : {f g : Option RowFault} → RowSays b.row f → RowSays c.row g → f ≡ g
   same_fault {g = g} p q = row_one p (subst (λ (l : List Cell). RowSays l g) (sym same_row.1) q)
 
   same_rule : {r q : BookRow} {v w : Misplaced} → Form b.row r → Form c.row q → FirstRule (Rule b.jobs r) v → FirstRule (Rule c.jobs q) w → v ≡ w
@@ -146,81 +147,81 @@ no_such b e =
     omega (arith, ap length b.at.are, length-append b.at.before (b.row ∷ b.at.behind))
 
 -- the rows of a text lie in one way under a number and a row
-rows_lie_one : {css : List (List Cell)} {f g : BookFault} → RowsLie css f → RowsLie css g → fault_number f ≡ fault_number g → fault_row f ≡ fault_row g → f ≡ g
-rows_lie_one (row b p n) (row c q m) x y = let e = same_fault b c y p q in cc
-rows_lie_one (row b p n) (misplaced c g q) x y = absurd (omega arith)
-rows_lie_one (row b p n) (unfinished u e) x y = absurd (omega arith)
-rows_lie_one (row b p n) (too_many c m) x y = absurd (omega arith)
-rows_lie_one (row b p n) (used_key c m u) x y = absurd (omega arith)
-rows_lie_one (misplaced b f p) (row c q m) x y = absurd (omega arith)
+rows_lie_one : {css : List (List Cell)} {f g : Option BookFault} → RowsLie css f → RowsLie css g → fault_number f ≡ fault_number g → fault_row f ≡ fault_row g → f ≡ g
+rows_lie_one (row b p) (row c q) x y = let e = same_fault b c y p q in cc
+rows_lie_one (row b p) (misplaced c g q) x y = absurd (omega arith)
+rows_lie_one (row b p) (unfinished u e) x y = absurd (omega arith)
+rows_lie_one (row b p) (too_many c m) x y = absurd (omega arith)
+rows_lie_one (row b p) (used_key c m u) x y = absurd (omega arith)
+rows_lie_one (misplaced b f p) (row c q) x y = absurd (omega arith)
 rows_lie_one (misplaced b f p) (misplaced c g q) x y = let e = same_rule b c y f g p q in cc
 rows_lie_one (misplaced b f p) (unfinished u e) x y = absurd (no_such b (y ∙ e))
 rows_lie_one (misplaced b f p) (too_many c m) x y = absurd (omega arith)
 rows_lie_one (misplaced b f p) (used_key c m u) x y = absurd (omega arith)
-rows_lie_one (unfinished u e) (row c q m) x y = absurd (omega arith)
+rows_lie_one (unfinished u e) (row c q) x y = absurd (omega arith)
 rows_lie_one (unfinished u e) (misplaced c g q) x y = absurd (no_such c (sym y ∙ e))
 rows_lie_one (unfinished u e) (unfinished v d) x y = cc
 rows_lie_one (unfinished u e) (too_many c m) x y = absurd (omega arith)
 rows_lie_one (unfinished u e) (used_key c m v) x y = absurd (omega arith)
-rows_lie_one (too_many b k) (row c q m) x y = absurd (omega arith)
+rows_lie_one (too_many b k) (row c q) x y = absurd (omega arith)
 rows_lie_one (too_many b k) (misplaced c g q) x y = absurd (omega arith)
 rows_lie_one (too_many b k) (unfinished v d) x y = absurd (omega arith)
 rows_lie_one (too_many b k) (too_many c m) x y = cc
 rows_lie_one (too_many b k) (used_key c m v) x y = absurd (omega arith)
-rows_lie_one (used_key b k u) (row c q m) x y = absurd (omega arith)
+rows_lie_one (used_key b k u) (row c q) x y = absurd (omega arith)
 rows_lie_one (used_key b k u) (misplaced c g q) x y = absurd (omega arith)
 rows_lie_one (used_key b k u) (unfinished v d) x y = absurd (omega arith)
 rows_lie_one (used_key b k u) (too_many c m) x y = absurd (omega arith)
 rows_lie_one (used_key b k u) (used_key c m v) x y = let e = same_use b.behind c.behind y b.form c.form u v in cc
 
 -- what lies in the rows of a text is refused neither with 1 nor with 2, and the text is one
-unlike_rows : {s : List ℕ} {css : List (List Cell)} {f g : BookFault} → length s ≤ 65536 → File s css → RowsLie css f → BookLies s g → fault_number f ≡ fault_number g → fault_row f ≡ fault_row g → f ≡ g
+unlike_rows : {s : List ℕ} {css : List (List Cell)} {f g : Option BookFault} → length s ≤ 65536 → File s css → RowsLie css f → BookLies s g → fault_number f ≡ fault_number g → fault_row f ≡ fault_row g → f ≡ g
 unlike_rows h q l (sound b) x y = absurd (few l x)
   where
-    few : {css : List (List Cell)} {f : BookFault} → RowsLie css f → fault_number f ≡ 0 → ⊥
-    few (row b r n) e = omega arith
+    few : {css : List (List Cell)} {f : Option BookFault} → RowsLie css f → fault_number f ≡ 0 → ⊥
+    few (row b r) e = omega arith
     few (misplaced b f p) e = omega arith
     few (unfinished u z) e = omega arith
     few (too_many b m) e = omega arith
     few (used_key b m u) e = omega arith
 unlike_rows h q l (too_long k) x y = absurd (omega arith)
-unlike_rows h q l (text k t m) x y = absurd (fault_unreadable t m (record { rows = _; reading = q }))
+unlike_rows h q l (text k t) x y = absurd (fault_unreadable t (λ e. impossible cc) (record { rows = _; reading = q }))
 unlike_rows {g = g} h q l (rows k p m) x y = rows_lie_one l (subst (λ (c : List (List Cell)). RowsLie c g) (file_unique p q refl) m) x y
 
-numbered : {s : List ℕ} {f g : BookFault} → BookLies s f → BookLies s g → fault_number f ≡ fault_number g → fault_row f ≡ fault_row g → f ≡ g
+numbered : {s : List ℕ} {f g : Option BookFault} → BookLies s f → BookLies s g → fault_number f ≡ fault_number g → fault_row f ≡ fault_row g → f ≡ g
 numbered (sound b) (sound c) x y = refl
 numbered (sound b) (too_long k) x y = absurd (omega arith)
-numbered (sound b) (text k t m) x y = absurd (omega arith)
+numbered (sound b) (text k t) x y = absurd (omega arith)
 numbered (sound b) (rows k q l) x y = sym (unlike_rows k q l (sound b) (sym x) (sym y))
 numbered (too_long h) (sound c) x y = absurd (omega arith)
 numbered (too_long h) (too_long k) x y = refl
-numbered (too_long h) (text k t m) x y = absurd (omega arith)
+numbered (too_long h) (text k t) x y = absurd (omega arith)
 numbered (too_long h) (rows k q l) x y = absurd (omega arith)
-numbered (text h t m) (sound c) x y = absurd (omega arith)
-numbered (text h t m) (too_long k) x y = absurd (omega arith)
-numbered (text h t m) (text k u n) x y = ap fault.Text (text_one t u)
-numbered (text h t m) (rows k q l) x y = absurd (fault_unreadable t m (record { rows = _; reading = q }))
+numbered (text h t) (sound c) x y = absurd (omega arith)
+numbered (text h t) (too_long k) x y = absurd (omega arith)
+numbered (text h t) (text k u) x y = let e = text_one t u in cc
+numbered (text h t) (rows k q l) x y = absurd (fault_unreadable t (λ e. impossible cc) (record { rows = _; reading = q }))
 numbered (rows h p l) c x y = unlike_rows h p l c x y
 
 -- what is told of a fault, that it is one or none
-told_one : {s : List ℕ} {f g : BookFault} → BookLies s f → BookLies s g → (fault_number f ≡ fault_number g) × (fault_row f ≡ fault_row g)
+told_one : {s : List ℕ} {f g : Option BookFault} → BookLies s f → BookLies s g → (fault_number f ≡ fault_number g) × (fault_row f ≡ fault_row g)
 told_one {s} {f} {g} p q = by (sound_or f) (sound_or g)
   where
-    sound_or : (f : BookFault) → Dec (f ≡ fault.Sound)
-    sound_or fault.Sound = yes refl
-    sound_or fault.TooLong = no (λ e. impossible cc)
-    sound_or (fault.Text t) = no (λ e. impossible cc)
-    sound_or (fault.Row n t) = no (λ e. impossible cc)
-    sound_or (fault.Misplaced n t) = no (λ e. impossible cc)
-    sound_or (fault.TooManyJobs n) = no (λ e. impossible cc)
-    sound_or (fault.UsedKey n m) = no (λ e. impossible cc)
+    sound_or : (f : Option BookFault) → Dec (f ≡ None)
+    sound_or None = yes refl
+    sound_or (Some fault.TooLong) = no (λ e. impossible cc)
+    sound_or (Some (fault.Text t)) = no (λ e. impossible cc)
+    sound_or (Some (fault.Row n t)) = no (λ e. impossible cc)
+    sound_or (Some (fault.Misplaced n t)) = no (λ e. impossible cc)
+    sound_or (Some (fault.TooManyJobs n)) = no (λ e. impossible cc)
+    sound_or (Some (fault.UsedKey n m)) = no (λ e. impossible cc)
 
-    by : Dec (f ≡ fault.Sound) → Dec (g ≡ fault.Sound) → (fault_number f ≡ fault_number g) × (fault_row f ≡ fault_row g)
+    by : Dec (f ≡ None) → Dec (g ≡ None) → (fault_number f ≡ fault_number g) × (fault_row f ≡ fault_row g)
     by (yes a) (yes b) = let e = a ∙ sym b in (ap fault_number e, ap fault_row e)
     by (yes a) (no n) = let e = book_says_one (sound_said p a).told (lies_said q n) in impossible cc
     by (no n) (yes b) = let e = book_says_one (lies_said p n) (sound_said q b).told in impossible cc
     by (no n) (no m) = let e = book_says_one (lies_said p n) (lies_said q m) in (cc, cc)
 
 -- where the refusal of a book lies is one thing
-pub lies_one : {s : List ℕ} {f g : BookFault} → BookLies s f → BookLies s g → f ≡ g
+pub lies_one : {s : List ℕ} {f g : Option BookFault} → BookLies s f → BookLies s g → f ≡ g
 lies_one p q = let e = told_one p q in numbered p q e.0 e.1

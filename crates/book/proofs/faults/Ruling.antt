@@ -10,8 +10,7 @@ use Rattle.jobs.specs.misplaced.Rules.{FirstRule}
 use Rattle.jobs.specs.misplaced.Placing.{Broken, PlacingIs}
 use Rattle.jobs.specs.declared.misplaced.Misplaced.{Misplaced}
 use Rattle.jobs.specs.declared.misplaced.Misplaced.TheVariants.{NoBase, NoLoad, OtherKey, SecondScour, LateScour, NoScour, SecondClearance, LateClearance, SurplusLoad}
-use Rattle.jobs.specs.declared.misplaced.Placing.{Placing}
-use Rattle.jobs.specs.declared.misplaced.Placing.TheVariants.{InPlace, Out}
+use Rattle.std.specs.Prelude.{Option, Some, None}
 use Rattle.jobs.proofs.misplaced.Asking.{asked_row}
 use Rattle.jobs.proofs.misplaced.Ruling.{first_map, fits_unbroken, unbroken_fits}
 use Rattle.book.specs.JobBook.{IsA, dry, scoured, crossed, job, Jobs, none, ◌and◌}
@@ -85,9 +84,9 @@ pub record RuleFound (js : Jobs) (r : BookRow) : Type 0 where
 pub misplaced_rule : {rs : List BookRow} {js : Jobs} {r : BookRow} → Placed rs js → ((ks : Jobs) → Placed (rs ++ r ∷ []) ks → ⊥) → RuleFound js r
 misplaced_rule {rs} {js} {r} p out = let a = asked_row (last_value js) r.keyed in by a.placing a.says
   where
-    by : (x : Placing) → PlacingIs (last_value js) r.keyed x → RuleFound js r
-    by InPlace n = absurd (unruled_placed p (λ o h. n o (rule_value h)) out)
-    by (Out why) f = record { why = why; first = first_rule f }
+    by : (x : Option Misplaced) → PlacingIs (last_value js) r.keyed x → RuleFound js r
+    by None n = absurd (unruled_placed p (λ o h. n o (rule_value h)) out)
+    by (Some why) f = record { why = why; first = first_rule f }
 
 -- of a B row, no rule holds where no load row is missing before it
 pub base_unruled : (js : Jobs) {r : BookRow} → IsA Base r → Loaded js → (o : Misplaced) → Rule js r o → ⊥

@@ -1,15 +1,13 @@
 -- Where a refusal lies, 1 to 6: where the refusal of a book lies, stated of the book alone.
-use Rattle.std.specs.Prelude.{ℕ, ◌+◌, ◌≤◌, ◌<◌, ◌≡◌, List, length}
+use Rattle.std.specs.Prelude.{ℕ, Option, Some, None, ◌+◌, ◌≤◌, ◌<◌, ◌≡◌, List, length}
 use Rattle.csv_text.specs.Nth.{Nth}
 use Rattle.csv_text.specs.rfc4180.Rfc4180.{Cell, File}
 use Rattle.csv_text.specs.strays.Strays.{TextSays}
 use Rattle.csv_text.specs.declared.strays.TextFault.{TextFault}
-use Rattle.csv_text.specs.declared.strays.TextFault.TheVariants as text_fault
 use Rattle.kinds.specs.declared.Role.TheVariants.{Base}
 use Rattle.rows.specs.Form.{BookRow, Form}
 use Rattle.rows.specs.faults.Faults.{RowSays}
 use Rattle.rows.specs.declared.faults.RowFault.{RowFault}
-use Rattle.rows.specs.declared.faults.RowFault.TheVariants as fault_of_row
 use Rattle.jobs.specs.misplaced.Rules.{FirstRule}
 use Rattle.jobs.specs.declared.misplaced.Misplaced.{Misplaced}
 use Rattle.jobs.specs.declared.misplaced.Misplaced.TheVariants.{NoLoad}
@@ -38,16 +36,16 @@ pub record BaseBehind (rows : List (List Cell)) (n : ℕ) : Type 0 where
 
 -- where the rows of a text are refused, 3 to 6. Each is stated of the row behind rows that a job book may begin with; the end while the job has no
 -- load row counts as one row past the last. 3: why it has no form. 4: the first rule that holds. 5: "that there are 64 jobs before". 6: the earlier row
-pub data RowsLie (rows : List (List Cell)) : BookFault → Type 0 where
-  row : {n : ℕ} {f : RowFault} (b : Behind rows n) → RowSays b.row f → (f ≡ fault_of_row.Sound → ⊥) → RowsLie rows (fault.Row n f)
-  misplaced : {n : ℕ} {why : Misplaced} {r : BookRow} (b : Behind rows n) → Form b.row r → FirstRule (Rule b.jobs r) why → RowsLie rows (fault.Misplaced n why)
-  unfinished : {n : ℕ} → Unfinished rows → n ≡ length rows + 1 → RowsLie rows (fault.Misplaced n NoLoad)
-  too_many : {n : ℕ} (b : BaseBehind rows n) → count b.behind.jobs ≡ 64 → RowsLie rows (fault.TooManyJobs n)
-  used_key : {n m : ℕ} (b : BaseBehind rows n) → count b.behind.jobs < 64 → UsedAt b.typed b.behind.jobs m → RowsLie rows (fault.UsedKey n m)
+pub data RowsLie (rows : List (List Cell)) : Option BookFault → Type 0 where
+  row : {n : ℕ} {f : RowFault} (b : Behind rows n) → RowSays b.row (Some f) → RowsLie rows (Some (fault.Row n f))
+  misplaced : {n : ℕ} {why : Misplaced} {r : BookRow} (b : Behind rows n) → Form b.row r → FirstRule (Rule b.jobs r) why → RowsLie rows (Some (fault.Misplaced n why))
+  unfinished : {n : ℕ} → Unfinished rows → n ≡ length rows + 1 → RowsLie rows (Some (fault.Misplaced n NoLoad))
+  too_many : {n : ℕ} (b : BaseBehind rows n) → count b.behind.jobs ≡ 64 → RowsLie rows (Some (fault.TooManyJobs n))
+  used_key : {n m : ℕ} (b : BaseBehind rows n) → count b.behind.jobs < 64 → UsedAt b.typed b.behind.jobs m → RowsLie rows (Some (fault.UsedKey n m))
 
 -- where the refusal of a book lies: nowhere, where the bytes are a job book; 1, too long; 2, where the text stops being RFC 4180; and in its rows
-pub data BookLies (s : List ℕ) : BookFault → Type 0 where
-  sound : {js : Jobs} → JobBook s js → BookLies s fault.Sound
-  too_long : 65536 < length s → BookLies s fault.TooLong
-  text : {f : TextFault} → length s ≤ 65536 → TextSays s f → (f ≡ text_fault.Sound → ⊥) → BookLies s (fault.Text f)
-  rows : {css : List (List Cell)} {f : BookFault} → length s ≤ 65536 → File s css → RowsLie css f → BookLies s f
+pub data BookLies (s : List ℕ) : Option BookFault → Type 0 where
+  sound : {js : Jobs} → JobBook s js → BookLies s None
+  too_long : 65536 < length s → BookLies s (Some fault.TooLong)
+  text : {f : TextFault} → length s ≤ 65536 → TextSays s (Some f) → BookLies s (Some (fault.Text f))
+  rows : {css : List (List Cell)} {f : Option BookFault} → length s ≤ 65536 → File s css → RowsLie css f → BookLies s f

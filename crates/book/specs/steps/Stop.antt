@@ -1,23 +1,16 @@
--- What `refused_at` and `walk_rows` answer: where the walk stopped, and why (document 01, Refusals of a book).
-use Rattle.std.specs.Prelude.{ℕ, ◌+◌, ◌≤◌, ◌<◌, ◌≡◌, List, ◌∷◌, ◌++◌, length, drop}
+-- What `walk_rows` answers: where the walk stopped, and why (document 01, Refusals of a book).
+use Rattle.std.specs.Prelude.{ℕ, ◌+◌, ◌≤◌, ◌<◌, ◌≡◌, Ok, Err, List, ◌∷◌, ◌++◌, length, drop}
 use Rattle.csv_text.specs.rfc4180.Rfc4180.{Cell, File}
 use Rattle.kinds.specs.declared.Role.TheVariants.{Base}
 use Rattle.rows.specs.Form.{BookRow, Form}
-use Rattle.rows.specs.declared.refusals.Refusal.{Refusal}
 use Rattle.rows.specs.declared.refusals.Refusal.TheVariants.{NoForm, Misplaced, TooManyJobs, UsedKey}
 use Rattle.jobs.specs.Place.{InPlace}
-use Rattle.jobs.specs.declared.Job.{Job}
 use Rattle.book.specs.JobBook.{IsA, Jobs, count, Used}
 use Rattle.book.specs.Beginning.{Loaded, Begins}
 use Rattle.book.specs.counted.Places.{places}
 use Rattle.book.specs.Values.{values}
 use Rattle.book.specs.steps.Kept.{last_value}
-use Rattle.book.specs.declared.stops.Ending.TheVariants.{Through, Refused}
-use Rattle.book.specs.declared.stops.Stop.{Stop}
-
--- at a row that is refused
-abbrev pub refused_stop : Refusal → ℕ → ℕ → Job → ℕ → List Job → Stop
-refused_stop why row at last n held = record { ending = Refused why; row = row; at = at; job = last; count = n; jobs = held }
+use Rattle.book.specs.declared.walk.Stop.{Stop}
 
 -- the row at which it stopped, behind rows that a job book may begin with
 pub record Reached (s : List ℕ) (t : Stop) : Type 0 where
@@ -37,7 +30,7 @@ pub record Reached (s : List ℕ) (t : Stop) : Type 0 where
 -- behind the last row; or at the first bad one, by how it is bad
 pub data StopIs (s : List ℕ) (t : Stop) : Type 0 where
   through : {rows : List (List Cell)} {typed : List BookRow} {js : Jobs}
-      → t.ending ≡ Through
+      → t.ending ≡ Ok tt
       → File s rows
       → Begins rows typed js
       → 1 ≤ count js
@@ -47,17 +40,17 @@ pub data StopIs (s : List ℕ) (t : Stop) : Type 0 where
       → t.jobs ≡ places (values js)
       → t.job ≡ last_value js
       → StopIs s t
-  formless : t.ending ≡ Refused NoForm → (b : Reached s t) → ((r : BookRow) → Form b.this r → ⊥) → StopIs s t
+  formless : t.ending ≡ Err NoForm → (b : Reached s t) → ((r : BookRow) → Form b.this r → ⊥) → StopIs s t
   misplaced : {r : BookRow}
-      → t.ending ≡ Refused Misplaced
+      → t.ending ≡ Err Misplaced
       → (b : Reached s t)
       → Form b.this r
       → t.job ≡ last_value b.written
       → (InPlace t.job r.keyed → ⊥)
       → StopIs s t
-  surplus : {r : BookRow} → t.ending ≡ Refused TooManyJobs → (b : Reached s t) → Form b.this r → IsA Base r → Loaded b.written → 64 ≤ t.count → StopIs s t
+  surplus : {r : BookRow} → t.ending ≡ Err TooManyJobs → (b : Reached s t) → Form b.this r → IsA Base r → Loaded b.written → 64 ≤ t.count → StopIs s t
   reused : {r : BookRow}
-      → t.ending ≡ Refused UsedKey
+      → t.ending ≡ Err UsedKey
       → (b : Reached s t)
       → Form b.this r
       → IsA Base r
