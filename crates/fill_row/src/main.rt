@@ -4,7 +4,6 @@
 // be read to its end, are told.
 #![tactic(auto)]
 
-use fields::Entered;
 use fills::faults::fill_fault;
 use fills::fill_rows::Whose;
 use fills::lookup::Place;
@@ -40,7 +39,7 @@ fn number_of(rt: &impl Env, i: usize) -> Option<u32> {
     let mut text = [0u8; 4096];
     let len = files::argument(rt, i, &mut text);
     match fields::number_at(&text[..len]) {
-        Entered::Is(entry) if !entry.minus && (1..=5).contains(&entry.size) => Some(entry.size),
+        Some(entry) if !entry.minus && (1..=5).contains(&entry.size) => Some(entry.size),
         _ => None,
     }
 }

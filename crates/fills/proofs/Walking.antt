@@ -167,8 +167,8 @@ walk_room i =
     omega arith
 
 -- a text that is no RFC 4180 text
-pub text_refused : {whose : Whose} {s : List ℕ} {fault : TextFault} → length s ≤ 65536 → (Readable s → ⊥) → TextSays s fault → FillLies whose s (Some (Text fault))
-text_refused {s = s} h n t = text h t (λ e. n (sound_readable (subst (TextSays s) e t)))
+pub text_refused : {whose : Whose} {s : List ℕ} {fault : TextFault} → length s ≤ 65536 → TextSays s (Some fault) → FillLies whose s (Some (Text fault))
+text_refused h t = text h t
 
 -- a fill book of no bytes has no rows
 pub empty_book : {whose : Whose} (s : List ℕ) {ws : List FillWords} → length s ≡ 0 → ws ≡ [] → Digested whose s ws

@@ -6,7 +6,6 @@ ghost use Rattle.fills.specs.fill_rows.steps.Reading.{NumberTo, MemberAt, MeantB
 
 use crate::faults::FillFault;
 use csv_text::cells::Cells;
-use fields::Entered;
 use fields::names::Name;
 
 // Whose rows a fill book has: the members' own, or the common ones, with the member empty.
@@ -29,7 +28,7 @@ pub struct Fill {
 pub(crate) fn number_to(raw: &[u8], bound: u32) -> Option<u32>
     ensures { NumberTo bound raw.now result }
 {
-    let Entered::Is(entry) = fields::number_at(raw) else {
+    let Some(entry) = fields::number_at(raw) else {
         return None;
     };
     if entry.minus || entry.size == 0 || bound < entry.size {
@@ -43,13 +42,10 @@ pub(crate) fn member_at(raw: &[u8], whose: Whose) -> Option<Name>
     ensures { MemberAt whose raw.now result }
 {
     match whose {
-        Whose::Own => {
-            let read = fields::names::name_at(raw);
-            if read.good { Some(read.name) } else { None }
-        }
+        Whose::Own => fields::names::name_at(raw),
         Whose::Common => match fields::empty_at(raw) {
-            Entered::Is(_) => Some(fields::names::blank_name()),
-            Entered::Wrong => None,
+            Some(_) => Some(fields::names::blank_name()),
+            None => None,
         },
     }
 }
@@ -61,16 +57,16 @@ pub(crate) fn fill_of(s: &[u8], cells: Cells, whose: Whose, n: usize) -> Result<
     if cells.count != 5 {
         return Err(FillFault::Count(n, cells.count));
     }
-    let Some(member) = member_at(csv_text::cells::cell(s, cells, 0), whose) else {
+    let Some(member) = member_at(cells.cell(s, 0), whose) else {
         return Err(FillFault::Column(n, 1));
     };
-    let Some(soil) = number_to(csv_text::cells::cell(s, cells, 1), 5) else {
+    let Some(soil) = number_to(cells.cell(s, 1), 5) else {
         return Err(FillFault::Column(n, 2));
     };
-    let Some(slope) = number_to(csv_text::cells::cell(s, cells, 2), 5) else {
+    let Some(slope) = number_to(cells.cell(s, 2), 5) else {
         return Err(FillFault::Column(n, 3));
     };
-    let Some(value) = number_to(csv_text::cells::cell(s, cells, 3), 40000) else {
+    let Some(value) = number_to(cells.cell(s, 3), 40000) else {
         return Err(FillFault::Column(n, 4));
     };
     // any note will do

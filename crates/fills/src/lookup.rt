@@ -36,7 +36,7 @@ fn row_part(s: &[u8], n: usize) -> Lies
         at = csv_text::cells::cells_at(s, at).next;
     }
     let cells = csv_text::cells::cells_at(s, at);
-    let to = cells.to[4];
+    let to = cells.places[4].to;
     Lies { from: at, to }
 }
 
@@ -71,8 +71,8 @@ pub fn place_of(own: &[u8], common: &[u8], member: &[u8], soil: u32, slope: u32)
     let Ok(shared) = find_row(common, Whose::Common, nobody, soil, slope) else {
         return None;
     };
-    let named = fields::names::name_of(member);
-    let Ok(mine) = find_row(own, Whose::Own, named.name, soil, slope) else {
+    let named = fields::names::name_of(member).unwrap_or(nobody);
+    let Ok(mine) = find_row(own, Whose::Own, named, soil, slope) else {
         return None;
     };
     match (mine, shared) {

@@ -52,8 +52,8 @@ pub(crate) fn read_rows(s: &[u8], whose: Whose, fills: &mut Digest) -> Result<()
     if s.is_empty() {
         return Ok(());
     }
-    if !csv_text::is_csv(s) {
-        return Err(FillFault::Text(csv_text::strays::text_fault(s)));
+    if let Some(fault) = csv_text::strays::text_fault(s) {
+        return Err(FillFault::Text(fault));
     }
     walk(s, whose, fills)
 }

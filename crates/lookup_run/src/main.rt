@@ -4,13 +4,12 @@
 #![tactic(auto)]
 
 use csv_text::cells::Cells;
-use fields::Entered;
 use fills::lookup::Place;
 
 // The number that a field is.
 fn number_of(raw: &[u8]) -> Option<u32> {
     match fields::number_at(raw) {
-        Entered::Is(entry) if !entry.minus => Some(entry.size),
+        Some(entry) if !entry.minus => Some(entry.size),
         _ => None,
     }
 }
@@ -38,12 +37,12 @@ fn look_up(rt: &impl Print, own: &[u8], common: &[u8], member: &[u8], soil: u32,
 fn look_up_row(rt: &impl Print, s: &[u8], cells: Cells) {
     let mut own = [0u8; 65537];
     let mut common = [0u8; 65537];
-    let owns = hex_text::decode(csv_text::cells::cell(s, cells, 0), &mut own);
-    let commons = hex_text::decode(csv_text::cells::cell(s, cells, 1), &mut common);
-    let member = csv_text::cells::cell(s, cells, 2);
+    let owns = hex_text::decode(cells.cell(s, 0), &mut own);
+    let commons = hex_text::decode(cells.cell(s, 1), &mut common);
+    let member = cells.cell(s, 2);
     // what is no number is no soil and no slope, and neither is 0
-    let soil = number_of(csv_text::cells::cell(s, cells, 3)).unwrap_or(0);
-    let slope = number_of(csv_text::cells::cell(s, cells, 4)).unwrap_or(0);
+    let soil = number_of(cells.cell(s, 3)).unwrap_or(0);
+    let slope = number_of(cells.cell(s, 4)).unwrap_or(0);
     look_up(rt, &own[..owns], &common[..commons], member, soil, slope);
 }
 

@@ -19,7 +19,6 @@ ghost use Rattle.reactions.specs.steps.Calling.{AskedIs, EntryIs, NumbersIs};
 use buffer::TooShort;
 use doubles::Whole;
 use fields::Entry;
-use kinds::letters::KindRead;
 use kinds::{Kind, Numbers};
 use xdr::FrameLoad;
 
@@ -62,22 +61,17 @@ fn is_taken(kind: Kind) -> bool
     )
 }
 
-// The kind that is asked for, where a load row can have this key, kind and phase.
-fn asked_kind(member: &[u8], job: &[u8], kind: &[u8], phase: u32) -> KindRead
+// The kind that is asked for; nothing, where no load row can have this key, kind and phase.
+fn asked_kind(member: &[u8], job: &[u8], kind: &[u8], phase: u32) -> Option<Kind>
     ensures { AskedIs member.now job.now kind.now phase result }
 {
     if 2 < phase {
-        return KindRead::Unknown;
+        return None;
     }
-    let KindRead::Known(of) = kinds::letters::kind_of(kind) else {
-        return KindRead::Unknown;
-    };
-    let member_read = fields::names::name_of(member);
-    let job_read = fields::names::name_of(job);
-    if is_taken(of) & member_read.good & job_read.good {
-        return KindRead::Known(of);
-    }
-    KindRead::Unknown
+    let of = kinds::letters::kind_of(kind)?;
+    let _member = fields::names::name_of(member)?;
+    let _job = fields::names::name_of(job)?;
+    if is_taken(of) { Some(of) } else { None }
 }
 
 // What a load is in kN, each product rounded once, from left to right.
@@ -152,7 +146,7 @@ pub fn reaction_row(
 ) -> Result<usize, RowRefusal>
     ensures { Reacts member.now job.now kind.now phase sent.now out.old out.new (row_told result) }
 {
-    let KindRead::Known(of) = asked_kind(member, job, kind, phase) else {
+    let Some(of) = asked_kind(member, job, kind, phase) else {
         return Err(RowRefusal::NoRow);
     };
     let numbers = numbers_of(sent, of, phase)?;

@@ -5,7 +5,6 @@
 #![tactic(auto)]
 
 use csv_text::cells::Cells;
-use fields::Entered;
 use reactions::RowRefusal;
 
 // What each byte of the buffer is before a call.
@@ -16,7 +15,7 @@ const NO_NUMBER: u32 = 255;
 
 // The number that a field is; or one that is no phase, and more than a buffer's length.
 fn number_of(raw: &[u8]) -> u32 {
-    let Entered::Is(entry) = fields::number_at(raw) else {
+    let Some(entry) = fields::number_at(raw) else {
         return NO_NUMBER;
     };
     if entry.minus {
@@ -77,13 +76,13 @@ fn run(
 
 // The call of a row of the list. A record of more than 512 bytes is cut there, and is none either way; a buffer has at most 200.
 fn run_row(rt: &impl Print, s: &[u8], cells: Cells) {
-    let member = csv_text::cells::cell(s, cells, 0);
-    let job = csv_text::cells::cell(s, cells, 1);
-    let kind = csv_text::cells::cell(s, cells, 2);
-    let phase = number_of(csv_text::cells::cell(s, cells, 3));
-    let length = number_of(csv_text::cells::cell(s, cells, 4));
+    let member = cells.cell(s, 0);
+    let job = cells.cell(s, 1);
+    let kind = cells.cell(s, 2);
+    let phase = number_of(cells.cell(s, 3));
+    let length = number_of(cells.cell(s, 4));
     let mut sent = [0u8; 512];
-    let len = hex_text::decode(csv_text::cells::cell(s, cells, 5), &mut sent);
+    let len = hex_text::decode(cells.cell(s, 5), &mut sent);
     let mut out = [UNTOUCHED; 200];
     let room = (length as usize).min(200);
     run(rt, member, job, kind, phase, &sent[..len], &mut out[..room]);

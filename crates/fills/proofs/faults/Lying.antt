@@ -120,7 +120,7 @@ module _ {whose : Whose} {s : List ℕ} {fs : List Fill} (b : FillBook whose s f
   pub book_sound : {fault : Option FillFault} → FillLies whose s fault → fault ≡ None
   book_sound (sound d) = refl
   book_sound (too_long l) = let size = b.size in absurd (omega arith)
-  book_sound (text l t n) = absurd (strays.fault_unreadable t n (text_readable b.text))
+  book_sound (text l t) = absurd (strays.fault_unreadable t (λ e. impossible cc) (text_readable b.text))
   book_sound (row {cs = cs} l t a x v) =
       absurd (bad_row a.before cs a.behind x.forms v (subst (λ (r : List (List Cell)). Forms whose r fs) (text_one b.text t ∙ a.are) b.forms) b.once)
 
@@ -129,22 +129,22 @@ pub fill_lies_one : {whose : Whose} {s : List ℕ} {a b : Option FillFault} → 
 fill_lies_one (sound b) q = sym (book_sound b q)
 fill_lies_one (too_long l) (sound b) = book_sound b (too_long l)
 fill_lies_one (too_long l) (too_long k) = refl
-fill_lies_one (too_long l) (text k t n) = absurd (omega arith)
+fill_lies_one (too_long l) (text k t) = absurd (omega arith)
 fill_lies_one (too_long l) (row k t a x v) = absurd (omega arith)
-fill_lies_one (text l t n) (sound b) = book_sound b (text l t n)
-fill_lies_one (text l t n) (too_long k) = absurd (omega arith)
-fill_lies_one (text l t n) (text k u m) = ap (λ (f : TextFault). Some (Text f)) (strays.text_one t u)
-fill_lies_one (text l t n) (row k u a x v) = absurd (strays.fault_unreadable t n (text_readable u))
+fill_lies_one (text l t) (sound b) = book_sound b (text l t)
+fill_lies_one (text l t) (too_long k) = absurd (omega arith)
+fill_lies_one (text l t) (text k u) = let e = strays.text_one t u in cc
+fill_lies_one (text l t) (row k u a x v) = absurd (strays.fault_unreadable t (λ e. impossible cc) (text_readable u))
 fill_lies_one (row l t a x v) (sound b) = book_sound b (row l t a x v)
 fill_lies_one (row l t a x v) (too_long k) = absurd (omega arith)
-fill_lies_one (row l t a x v) (text k u n) = absurd (strays.fault_unreadable u n (text_readable t))
+fill_lies_one (row l t a x v) (text k u) = absurd (strays.fault_unreadable u (λ e. impossible cc) (text_readable t))
 fill_lies_one (row l t a x v) (row k u b y w) = ap Some (first_one a (record { before = b.before; behind = b.behind; are = text_one t u ∙ b.are; number = b.number }) x y v w)
 
 -- and where none is told there is one, so that a fault is refusal 8
 pub sound_book : {whose : Whose} {s : List ℕ} {fault : Option FillFault} → fault ≡ None → FillLies whose s fault → (fs : List Fill) × FillBook whose s fs
 sound_book e (sound {fs} b) = (fs, b)
 sound_book e (too_long l) = impossible cc
-sound_book e (text l t n) = impossible cc
+sound_book e (text l t) = impossible cc
 sound_book e (row l t a x v) = impossible cc
 
 pub refused_book : {whose : Whose} {s : List ℕ} {fault : FillFault} → FillLies whose s (Some fault) → (fs : List Fill) → FillBook whose s fs → ⊥

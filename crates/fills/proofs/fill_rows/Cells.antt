@@ -17,16 +17,15 @@ use Rattle.csv_text.proofs.cells.Standing.{cell_field}
 use Rattle.fields.specs.Numbers.{positive, IsNumber, is_positive, is_negative, IsEmpty}
 use Rattle.fields.specs.digits.Numerals.{Digited}
 use Rattle.fields.specs.Entries.{EntryIn, EntryAt}
-use Rattle.fields.specs.names.NameAt.{NameGiven}
+use Rattle.fields.specs.names.NameAt.{NameAt}
 use Rattle.fields.specs.declared.Entry.{Entry}
-use Rattle.fields.specs.declared.Entered.TheVariants.{Wrong}
 use Rattle.fields.specs.declared.names.Name.{Name}
 use Rattle.fields.proofs.Numerals.{number_unique}
 use Rattle.fills.specs.declared.fill_rows.Fill.{Fill}
 use Rattle.fills.specs.declared.fill_rows.Whose.{Whose}
 use Rattle.fills.specs.declared.fill_rows.Whose.TheVariants.{Own, Common}
 use Rattle.fills.specs.fill_rows.Form.{Five, cells_of, MemberIs, UpTo, Form}
-use Rattle.std.specs.Prelude.{Some, None}
+use Rattle.std.specs.Prelude.{Option, Some, None}
 use Rattle.fills.specs.fill_rows.steps.Reading.{Holds, NumberTo, MemberAt}
 
 -- what a field's stretch holds, its content does
@@ -35,7 +34,7 @@ held F {x = x} h f = subst (λ (l : List ℕ). F l x) (content_unique h.field f)
 
 -- a number from 1 to a bound
 module _ (bound : ℕ) {raw : List ℕ} where
-  pub wrong_number : EntryAt IsNumber raw Wrong → NumberTo bound raw None
+  pub wrong_number : EntryAt IsNumber raw None → NumberTo bound raw None
   wrong_number w = λ n h. w (positive n) (record { content = h.content; field = h.field; is = h.is.number })
 
   module _ {e : Entry} (q : EntryIn IsNumber raw e) where
@@ -55,10 +54,11 @@ module _ (bound : ℕ) {raw : List ℕ} where
         plus (is_negative f d l p) = impossible cc
 
 -- a member, by whose book it is
-pub own_unnamed : {whose : Whose} {raw : List ℕ} {n : Name} → whose ≡ Own → NameGiven false raw n → MemberAt whose raw None
-own_unnamed {raw = raw} e h = subst (λ (of : Whose). MemberAt of raw None) (sym e) (λ m w. h.0 m (record { content = w.content; field = w.field; named = w.is }))
+pub own_member : {whose : Whose} (raw : List ℕ) → whose ≡ Own → (a : Option Name) → NameAt raw a → MemberAt whose raw a
+own_member raw e (Some n) h = subst (λ (of : Whose). MemberAt of raw (Some n)) (sym e) (record { content = h.content; field = h.field; is = h.named })
+own_member raw e None h = subst (λ (of : Whose). MemberAt of raw None) (sym e) (λ m w. h m (record { content = w.content; field = w.field; named = w.is }))
 
-pub some_member : {whose : Whose} {raw : List ℕ} → whose ≡ Common → EntryAt IsEmpty raw Wrong → MemberAt whose raw None
+pub some_member : {whose : Whose} {raw : List ℕ} → whose ≡ Common → EntryAt IsEmpty raw None → MemberAt whose raw None
 some_member {raw = raw} e h = subst (λ (of : Whose). MemberAt of raw None) (sym e) (λ m w. h _ (record { content = w.content; field = w.field; is = (w.is.0, refl) }))
 
 -- five cells are the five fields in their order

@@ -15,8 +15,8 @@ use Rattle.csv_text.proofs.cells.Standing.{row_lies, row_within}
 use Rattle.csv_text.proofs.places.Here.{HereAt, row_here}
 use Rattle.fields.specs.names.Names.{NameOf, no_name}
 use Rattle.fields.specs.names.NameAt.{ContentNamed}
+use Rattle.std.specs.Option.{unwrap_or}
 use Rattle.fields.specs.declared.names.Name.{Name}
-use Rattle.fields.specs.declared.names.NameRead.{NameRead}
 use Rattle.fills.specs.declared.fill_rows.Fill.{Fill}
 use Rattle.fills.specs.declared.fill_rows.Whose.{Whose}
 use Rattle.fills.specs.declared.fill_rows.Whose.TheVariants as whose
@@ -41,15 +41,15 @@ no_name_own r =
     let e = ap (λ (n : Name). n.len) r.means.member.held in
     omega arith
 
--- the name that was read, where a row has it
-row_named : {member : List ℕ} (g : Bool) {n : Name} → ContentNamed g member n → {s : List ℕ} {soil slope from to : ℕ} → RowFor whose.Own s n soil slope from to → NameOf member n
-row_named true h r = h
-row_named false h {s} {soil} {slope} {from} {to} r = absurd (no_name_own (subst (λ (n : Name). RowFor whose.Own s n soil slope from to) h.1 r))
+-- the name that was read, where a row has it; no row has no name
+row_named : (a : Option Name) {member : List ℕ} {n : Name} → ContentNamed member a → n ≡ unwrap_or a no_name → {s : List ℕ} {soil slope from to : ℕ} → RowFor whose.Own s n soil slope from to → NameOf member n
+row_named (Some m) {member} h e r = subst (NameOf member) (sym e) h
+row_named None h e {s} {soil} {slope} {from} {to} r = absurd (no_name_own (subst (λ (n : Name). RowFor whose.Own s n soil slope from to) e r))
 
 -- and where no row has it, none has the member
-none_named : {member : List ℕ} (g : Bool) {n : Name} → ContentNamed g member n → {fs : List Fill} {soil slope : ℕ} → Lacks fs n soil slope → LacksOwn fs member soil slope
-none_named true {n} h {fs} {soil} {slope} lacks m w = subst (λ (x : Name). Lacks fs x soil slope) (h.held ∙ sym w.held) lacks
-none_named false h lacks m w = absurd (h.0 w.is)
+none_named : (a : Option Name) {member : List ℕ} {n : Name} → ContentNamed member a → n ≡ unwrap_or a no_name → {fs : List Fill} {soil slope : ℕ} → Lacks fs n soil slope → LacksOwn fs member soil slope
+none_named (Some o) {n = n} h e {fs} {soil} {slope} lacks m w = subst (λ (x : Name). Lacks fs x soil slope) (e ∙ h.held ∙ sym w.held) lacks
+none_named None h e lacks m w = absurd (h w.is)
 
 -- a book's fills, whether the row is there or not
 pub record HasBook (of : Whose) (s : List ℕ) : Type 0 where
@@ -67,15 +67,15 @@ module _ {own common member : List ℕ} {soil slope : ℕ} where
   pub no_own : {fault : FillFault} → FillLies whose.Own own (Some fault) → PlaceIs own common member soil slope None
   no_own h = refused (λ b. refused_book h b.owns b.is_own) refl
 
-module _ {own common member : List ℕ} {soil slope : ℕ} (read : NameRead) (named : ContentNamed read.good member read.name) where
-  pub own_row : {from to : ℕ} → RowFor whose.Own own read.name soil slope from to → HasBook whose.Common common → PlaceIs own common member soil slope (Some (Own (record { from = from; to = to })))
-  own_row r c = in_own (record { owns = r.fills; commons = c.fills; is_own = r.book; is_common = c.book }) (row_named read.good named r) r refl
+module _ {own common member : List ℕ} {soil slope : ℕ} (a : Option Name) (n : Name) (named : ContentNamed member a) (is : n ≡ unwrap_or a no_name) where
+  pub own_row : {from to : ℕ} → RowFor whose.Own own n soil slope from to → HasBook whose.Common common → PlaceIs own common member soil slope (Some (Own (record { from = from; to = to })))
+  own_row r c = in_own (record { owns = r.fills; commons = c.fills; is_own = r.book; is_common = c.book }) (row_named a named is r) r refl
 
-  pub common_row : {from to : ℕ} → WithoutRow whose.Own own read.name soil slope → RowFor whose.Common common no_name soil slope from to → PlaceIs own common member soil slope (Some (Common (record { from = from; to = to })))
-  common_row w r = in_common (record { owns = w.fills; commons = r.fills; is_own = w.book; is_common = r.book }) (none_named read.good named w.lacks) r refl
+  pub common_row : {from to : ℕ} → WithoutRow whose.Own own n soil slope → RowFor whose.Common common no_name soil slope from to → PlaceIs own common member soil slope (Some (Common (record { from = from; to = to })))
+  common_row w r = in_common (record { owns = w.fills; commons = r.fills; is_own = w.book; is_common = r.book }) (none_named a named is w.lacks) r refl
 
-  pub no_row : WithoutRow whose.Own own read.name soil slope → WithoutRow whose.Common common no_name soil slope → PlaceIs own common member soil slope None
-  no_row w c = nowhere (record { owns = w.fills; commons = c.fills; is_own = w.book; is_common = c.book }) (none_named read.good named w.lacks) c.lacks refl
+  pub no_row : WithoutRow whose.Own own n soil slope → WithoutRow whose.Common common no_name soil slope → PlaceIs own common member soil slope None
+  no_row w c = nowhere (record { owns = w.fills; commons = c.fills; is_own = w.book; is_common = c.book }) (none_named a named is w.lacks) c.lacks refl
 
 -- a row lies within its book, and it is the row itself that lies there
 module _ {of : Whose} {s : List ℕ} {m : Name} {soil slope from to : ℕ} (r : RowFor of s m soil slope from to) where

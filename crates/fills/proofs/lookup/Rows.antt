@@ -8,6 +8,7 @@ use lib.ListN.{length, get_or, length-append}
 use Rattle.arithmetic.proofs.Cases.{by_cases}
 use Rattle.csv_text.specs.rfc4180.Rfc4180.{Cell, File}
 use Rattle.csv_text.specs.cells.Cells.{offset, Rest, nothing, more, RowIs, RowAt}
+use Rattle.csv_text.specs.cells.Cells as cells
 use Rattle.csv_text.specs.cells.Content.{no_cell}
 use Rattle.csv_text.specs.cells.Standing.{row_text, row_start}
 use Rattle.csv_text.specs.declared.cells.Cells.{Cells}
@@ -96,7 +97,7 @@ module _ {s : List ℕ} {n k at : ℕ} {c : Cells} (i : Going s n k at) (h : Row
   fifth (p ∷ q ∷ r ∷ t ∷ u ∷ []) z = omega arith
   fifth (p ∷ q ∷ r ∷ t ∷ u ∷ v ∷ row) z = absurd (omega arith)
 
-  pub going_found : k ≡ n → PartIs s n (record { from = at; to = get_or c.to 4 0 })
+  pub going_found : k ≡ n → PartIs s n (record { from = at; to = (cells.place c 4).to })
   going_found e of fs b row nth =
       let number = i.reached.number in
       let place = nth.number in
@@ -108,5 +109,5 @@ module _ {s : List ℕ} {n k at : ℕ} {c : Cells} (i : Going s n k at) (h : Row
       let o = file_offset i.reached.here in
       let z : offset cs (length cs) ≡ offset cs 5 = ap (offset cs) five in
       let y = fifth cs five in
-      let to : get_or c.to 4 0 ≡ at + length (row_text cs) = omega arith in
+      let to : (cells.place c 4).to ≡ at + length (row_text cs) = omega arith in
       (i.starts ∙ ap row_start both.0, to ∙ ap (λ (r : List Cell). at + length (row_text r)) both.1)

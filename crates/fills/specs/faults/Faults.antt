@@ -7,7 +7,6 @@ use Rattle.csv_text.specs.Nth.{Nth}
 use Rattle.csv_text.specs.cells.Content.{content}
 use Rattle.csv_text.specs.strays.Strays.{TextSays}
 use Rattle.csv_text.specs.declared.strays.TextFault.{TextFault}
-use Rattle.csv_text.specs.declared.strays.TextFault.TheVariants as strays
 use Rattle.fields.specs.declared.names.Name.{Name}
 use Rattle.fills.specs.declared.fill_rows.Fill.{Fill}
 use Rattle.fills.specs.declared.fill_rows.Whose.{Whose}
@@ -38,6 +37,6 @@ pub data RowLies (whose : Whose) (fs : List Fill) (cs : List Cell) (n : ℕ) : F
 pub data FillLies (whose : Whose) (s : List ℕ) : Option FillFault → Type 0 where
   sound : {fs : List Fill} → FillBook whose s fs → FillLies whose s None
   too_long : 65536 < length s → FillLies whose s (Some TooLong)
-  text : {fault : TextFault} → length s ≤ 65536 → TextSays s fault → (fault ≡ strays.Sound → ⊥) → FillLies whose s (Some (Text fault))
+  text : {fault : TextFault} → length s ≤ 65536 → TextSays s (Some fault) → FillLies whose s (Some (Text fault))
   row : {rows : List (List Cell)} {n : ℕ} {cs : List Cell} {fs : List Fill} {fault : FillFault} → length s ≤ 65536 → TextRows s rows
       → (at : Nth rows n cs) → Begins whose at.before fs → RowLies whose fs cs n fault → FillLies whose s (Some fault)

@@ -72,11 +72,11 @@ module _ {member job kind sent : List ℕ} {phase : ℕ} {key : Key} {of : Kind}
       no_room (Err x) v i = let w = delivered (buffer.refused 7 0) v in too_short gives w.0 w.3 (ap (λ (y : RowRefusal). row_told (Err y)) i)
 
 pub returns-in_err-numbers : goal.returns-in_err-numbers
-returns-in_err-numbers c = told c.in-Known.ensures.1 _ _ _ c.from_residual.ensures.1 c.in_err-numbers.ensures
+returns-in_err-numbers c = told c.in-Some.ensures.1 _ _ _ c.from_residual.ensures.1 c.in_err-numbers.ensures
 
 pub returns-in_err-write_block : goal.returns-in_err-write_block
 returns-in_err-write_block c =
-    no_room c.in-Known.ensures.1 c.in_ok-numbers.ensures _ _ c.row_block.ensures _ c.in_err-write_block.ensures c.from_residual-in_err-write_block.ensures.1
+    no_room c.in-Some.ensures.1 c.in_ok-numbers.ensures _ _ c.row_block.ensures _ c.in_err-write_block.ensures c.from_residual-in_err-write_block.ensures.1
 
 pub returns : goal.returns
-returns c = written_whole c.in-Known.ensures.1 c.in_ok-numbers.ensures _ _ c.row_block.ensures c.in_ok-write_block.ensures
+returns c = written_whole c.in-Some.ensures.1 c.in_ok-numbers.ensures _ _ c.row_block.ensures c.in_ok-write_block.ensures

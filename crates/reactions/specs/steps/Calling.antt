@@ -5,8 +5,7 @@ use Rattle.fields.specs.Numbers.{absent}
 use Rattle.fields.specs.declared.Entry.{Entry}
 use Rattle.kinds.specs.ranges.Range.{Ranged}
 use Rattle.kinds.specs.declared.Kind.{Kind}
-use Rattle.kinds.specs.declared.letters.KindRead.{KindRead}
-use Rattle.kinds.specs.declared.letters.KindRead.TheVariants.{Known, Unknown}
+use Rattle.std.specs.Prelude.{Option, Some, None}
 use Rattle.rows.specs.declared.keys.Key.{Key}
 use Rattle.reactions.specs.declared.xdr.Reaction.{Reaction}
 use Rattle.kinds.specs.declared.Numbers.{Numbers}
@@ -19,9 +18,9 @@ use Rattle.reactions.specs.Asked.{Asked}
 use Rattle.reactions.specs.Reacts.{Rounds}
 
 -- the kind that is asked for, with some key; or that nothing is that a load row can have
-abbrev pub AskedIs : List ℕ → List ℕ → List ℕ → ℕ → KindRead → Type 0
-AskedIs member job kind phase (Known of) = (key : Key) × Asked member job kind phase key of
-AskedIs member job kind phase Unknown = (key : Key) (of : Kind) → Asked member job kind phase key of → ⊥
+abbrev pub AskedIs : List ℕ → List ℕ → List ℕ → ℕ → Option Kind → Type 0
+AskedIs member job kind phase (Some of) = (key : Key) × Asked member job kind phase key of
+AskedIs member job kind phase None = (key : Key) (of : Kind) → Asked member job kind phase key of → ⊥
 
 -- the nearest whole number as a field holds it; or nothing, and every nearest whole number is beyond every range
 abbrev pub EntryIs : Float → Entry → Type 0

@@ -1,13 +1,9 @@
 -- In the members' own book the field is a name, in the common one it is empty.
-use Rattle.std.proofs.Common.{Bool, subst}
-use Rattle.fields.specs.names.NameAt.{NameGiven}
-use Rattle.fills.proofs.fill_rows.Cells.{own_unnamed, some_member}
+use Rattle.fills.proofs.fill_rows.Cells.{own_member, some_member}
 use Rattle.fills.proofs.fill_rows.member_at.Goals as goal
 
-pub returns-else-read : goal.returns-else-read
-returns-else-read c =
-    let read = c.name_at-read.result in
-    own_unnamed c.in-Own.is (subst (λ (g : Bool). NameGiven g c.args.raw.now read.name) c.if-read.false c.name_at-read.ensures)
+pub returns-in-Own : goal.returns-in-Own
+returns-in-Own c = own_member c.args.raw.now c.in-Own.is c.name_at.result c.name_at.ensures
 
-pub returns-in-Wrong : goal.returns-in-Wrong
-returns-in-Wrong c = some_member c.in-Common.is c.in-Wrong.ensures
+pub returns-in-None : goal.returns-in-None
+returns-in-None c = some_member c.in-Common.is c.in-None.ensures

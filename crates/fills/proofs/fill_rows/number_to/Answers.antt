@@ -10,10 +10,10 @@ returns-in_default c = wrong_number _ c.in_default.ensures
 pub returns-then-entry : goal.returns-then-entry
 returns-then-entry c =
     elim c.then-entry.branch [
-      | then-entry-via-then-entry w ↦ no_number _ c.in-Is.ensures (λ plus from to. cc)
-      | then-entry-via-else-entry+then-entry-eq0 w ↦ no_number _ c.in-Is.ensures (λ plus from to. absurd (omega arith))
-      | then-entry-via-else-entry+else-entry-eq0+then-bound-entry w ↦ no_number _ c.in-Is.ensures (λ plus from to. absurd (omega arith))
+      | then-entry-via-then-entry w ↦ no_number _ c.in-Some.ensures (λ plus from to. cc)
+      | then-entry-via-else-entry+then-entry-eq0 w ↦ no_number _ c.in-Some.ensures (λ plus from to. absurd (omega arith))
+      | then-entry-via-else-entry+else-entry-eq0+then-bound-entry w ↦ no_number _ c.in-Some.ensures (λ plus from to. absurd (omega arith))
     ]
 
 pub returns : goal.returns
-returns c = a_number _ c.in-Is.ensures c.if-entry.false (omega (arith, c.if-entry-eq0.false)) c.if-bound-entry.false
+returns c = a_number _ c.in-Some.ensures c.if-entry.false (omega (arith, c.if-entry-eq0.false)) c.if-bound-entry.false
