@@ -3,16 +3,17 @@
 // has no line.
 #![tactic(auto)]
 
-use book::counted::Count;
 use std::io;
 use std::rt::{Env, Files};
 
 fn show(rt: &impl Print, text: &[u8]) -> io::Result<()> {
     match book::count_jobs(text) {
-        Count::Given(n) => println!(rt; " jobs {n} note {}", book::note_of(text, 1).len()),
-        Count::Refused(why, row) => {
-            println!(rt; " refused {} row {row}", rows::refusals::number_of(why))
-        }
+        Ok(n) => println!(rt; " jobs {n} note {}", book::note_of(text, 1).len()),
+        Err(refused) => println!(rt;
+            " refused {} row {}",
+            rows::refusals::number_of(refused.why),
+            refused.row
+        ),
     }
 }
 

@@ -16,10 +16,9 @@ use Rattle.book.specs.Reading as reading
 use Rattle.csv_text.specs.Nth.{Nth}
 use Rattle.csv_text.proofs.notes.Answers.{nth_one}
 use Rattle.rows.specs.refusals.Numbers.{refusal_number}
-use Rattle.rows.specs.declared.refusals.Refusal.{Refusal}
 use Rattle.book.specs.declared.counted.Book.{Book}
-use Rattle.book.specs.declared.counted.Count.{Count}
-use Rattle.book.specs.declared.counted.Count.TheVariants.{Given, Refused}
+use Rattle.book.specs.declared.counted.Refused.{Refused}
+use Rattle.std.specs.Prelude.{Ok, Err}
 use Rattle.book.proofs.Answers.{read_exactly, book_one}
 use Rattle.book.proofs.Keeping.{values_many}
 
@@ -42,20 +41,17 @@ pub record Held (s : List ℕ) (n : ℕ) (jobs : List Job) : Type 0 where
   pub few : n ≤ 64
   pub are : jobs ≡ places (values written)
 
-module _ {s : List ℕ} {b : Book} (w : reading.BookIs s b) where
-  pub held : {n : ℕ} → b.count ≡ Given n → Held s n b.jobs
-  held {n} e =
-      let p = subst (λ (c : Count). book.BookSays s (reading.book_told c b.jobs)) e w.says in
-      let a = read_exactly.0 p in
-      let m : n ≡ length (values a.jobs) = a.many ∙ sym (values_many a.jobs) in
-      let f = a.book.few in
-      let k = a.many in
-      let h = subst (λ (c : Count). b.jobs ≡ places (reading.jobs_told (reading.book_told c b.jobs))) e w.held in
-      record { written = a.jobs; book = a.book; many = m; few = omega arith; are = h ∙ ap places a.are }
+pub held : {s : List ℕ} {b : Book} → reading.BookIs s (Ok b) → Held s b.count b.jobs
+held {b = b} w =
+    let a = read_exactly.0 w.says in
+    let m : b.count ≡ length (values a.jobs) = a.many ∙ sym (values_many a.jobs) in
+    let f = a.book.few in
+    let k = a.many in
+    record { written = a.jobs; book = a.book; many = m; few = omega arith; are = w.held ∙ ap places a.are }
 
-  -- and one that is refused says so
-  pub refusal : {why : Refusal} {row : ℕ} → b.count ≡ Refused why row → book.BookSays s (book.refused (refusal_number why) row)
-  refusal e = subst (λ (c : Count). book.BookSays s (reading.book_told c b.jobs)) e w.says
+-- and one that is refused says so
+pub refusal : {s : List ℕ} {r : Refused} → reading.BookIs s (Err r) → book.BookSays s (book.refused (refusal_number r.why) r.row)
+refusal w = w.says
 
 module _ {s : List ℕ} {n : ℕ} {jobs : List Job} (h : Held s n jobs) where
   pub within : {i : ℕ} → i < n → i < length jobs

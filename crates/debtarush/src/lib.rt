@@ -18,7 +18,7 @@ ghost use Rattle.debtarush.specs.Called.{Called};
 ghost use Rattle.debtarush.specs.BookText.{BookPrinted};
 
 use block::Block;
-use book::counted::Count;
+use book::counted::Refused;
 use buffer::TooShort;
 use jobs::Job;
 use rows::refusals::Refusal;
@@ -89,11 +89,11 @@ pub fn job_lines(
 ) -> Result<usize, CallRefusal>
     ensures { Called own.now common.now book.now place out.old out.new (call_told result) }
 {
-    let read = book::read_book(book);
-    let n = match read.count {
-        Count::Refused(why, row) => return Err(CallRefusal::BookRefused { why, row }),
-        Count::Given(n) => n,
+    let read = match book::read_book(book) {
+        Ok(read) => read,
+        Err(Refused { why, row }) => return Err(CallRefusal::BookRefused { why, row }),
     };
+    let n = read.count;
     let mut values = [[[0u32; 5]; 5]; 64];
     if !gather(own, common, read.jobs, n, &mut values) {
         return Err(CallRefusal::FillsRefused);
@@ -111,14 +111,14 @@ pub fn book_lines(book: &[u8], own: &[u8], common: &[u8], out: &mut [u8; 131072]
     ensures book_printed { BookPrinted own.now common.now book.now out.old out.new result }
     ensures within { result ≤ length out.new }
 {
-    let read = book::read_book(book);
-    let n = match read.count {
-        Count::Refused(why, row) => {
+    let read = match book::read_book(book) {
+        Ok(read) => read,
+        Err(Refused { why, row }) => {
             let line = printing::refused_book::book_line(rows::refusals::number_of(why), row);
             return append(out, 0, line);
         }
-        Count::Given(n) => n,
     };
+    let n = read.count;
     let mut values = [[[0u32; 5]; 5]; 64];
     if !gather(own, common, read.jobs, n, &mut values) {
         return append(out, 0, printing::refused_book::book_line(8, 0));

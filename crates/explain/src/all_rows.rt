@@ -7,8 +7,6 @@ use crate::words::RowOf;
 use book::faults::BookFault;
 use csv_text::places;
 use kinds::Kind;
-use kinds::letters::KindRead;
-use rows::faults::RowFault;
 use std::io;
 
 // What is left of a book, and which row of the book each of its rows is.
@@ -34,7 +32,7 @@ impl<'a> Left<'a> {
 
     // Whether the row n is a B row, by its kind.
     fn is_base(&self, n: usize) -> bool {
-        matches!(self.row(n).kind(), KindRead::Known(Kind::B))
+        matches!(self.row(n).kind(), Some(Kind::B))
     }
 
     // The number in the book of the row n.
@@ -54,7 +52,7 @@ impl<'a> Left<'a> {
             BookFault::UsedKey(n, earlier) => {
                 BookFault::UsedKey(self.number(n), self.number(earlier))
             }
-            BookFault::Sound | BookFault::TooLong | BookFault::Text(_) => fault,
+            BookFault::TooLong | BookFault::Text(_) => fault,
         }
     }
 
@@ -83,7 +81,7 @@ pub(crate) fn row_of(fault: BookFault) -> Option<usize> {
         BookFault::Misplaced(n, _) => Some(n),
         BookFault::TooManyJobs(n) => Some(n),
         BookFault::UsedKey(n, _) => Some(n),
-        BookFault::Sound | BookFault::TooLong | BookFault::Text(_) => None,
+        BookFault::TooLong | BookFault::Text(_) => None,
     }
 }
 
@@ -98,8 +96,7 @@ fn take_lost<'a>(
         if !left.has(n) || left.is_base(n) {
             break;
         }
-        let why = book::faults::form_fault(left.text, n);
-        if !matches!(why, RowFault::Sound) {
+        if let Some(why) = book::faults::form_fault(left.text, n) {
             let fault = BookFault::Row(left.number(n), why);
             print!(rt; "{}", WrongBook { book, fault })?;
         }
@@ -111,7 +108,9 @@ fn take_lost<'a>(
 // Every bad row of a book: each is told and taken out of what is left, with the rows behind it where it is a B row.
 fn tell_left(rt: &impl Print, book: &[u8], mut left: Left) -> io::Result<()> {
     for _ in 0..=book.len() {
-        let fault = book::faults::book_fault(left.text);
+        let Some(fault) = book::faults::book_fault(left.text) else {
+            break;
+        };
         let Some(n) = row_of(fault) else {
             break;
         };

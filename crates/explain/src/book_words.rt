@@ -4,7 +4,6 @@ use crate::text_words::WrongText;
 use crate::words::{FieldCount, Grouped, Keyed, RowOf};
 use book::faults::BookFault;
 use jobs::misplaced::Misplaced;
-use kinds::letters::KindRead;
 use kinds::{Column, Kind};
 use rows::faults::RowFault;
 use std::fmt;
@@ -56,13 +55,13 @@ impl<'a> fmt::Display for WrongColumn<'a> {
                 "kind: {field}\n  is no kind. The kinds are B, S, C, E, W, G, DL, EP, LL, LF, CF, WC, BU, TM, EX, WL and SF."
             ),
             _ => match self.row.kind() {
-                KindRead::Known(kind) => write!(
+                Some(kind) => write!(
                     f,
                     "{}: {field}\n  {}",
                     ColumnOf { kind, column },
                     expected(kind, column, field.0),
                 ),
-                KindRead::Unknown => Ok(()),
+                None => Ok(()),
             },
         }
     }
@@ -91,7 +90,6 @@ impl<'a> fmt::Display for WrongRow<'a> {
                 Ok(())
             }
             RowFault::Column(column) => write!(f, "{row}{}", WrongColumn { row, column }),
-            RowFault::Sound => write!(f, "{row}"),
         }
     }
 }
@@ -147,7 +145,6 @@ impl<'a> fmt::Display for WrongBook<'a> {
     fn fmt<W: fmt::Write>(&self, f: &mut fmt::Formatter<W>) -> fmt::Result {
         let text = self.book;
         match self.fault {
-            BookFault::Sound => Ok(()),
             BookFault::TooLong => writeln!(
                 f,
                 "the text has more than 65,536 bytes\n  and a book has at most 65,536: share the jobs out over several books.   [refusal 1]"

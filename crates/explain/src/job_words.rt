@@ -5,7 +5,6 @@ use crate::columns::ColumnOf;
 use crate::words::{Grouped, RowOf};
 use job_faults::{JobFault, Out};
 use jobs::Job;
-use kinds::letters::KindRead;
 use kinds::{Column, Kind};
 use std::{fmt, io};
 
@@ -190,7 +189,7 @@ fn tell_heights(rt: &impl Print, row: JobRow, upper: u64, lower: u64) -> io::Res
 
 // 18: an LF or CF row that names no LL row.
 fn tell_train(rt: &impl Print, row: JobRow, named: Named) -> io::Result<()> {
-    if let KindRead::Known(kind) = row.0.kind() {
+    if let Some(kind) = row.0.kind() {
         println!(rt; "{}", row.number(kind, 9))?;
     }
     println!(rt;

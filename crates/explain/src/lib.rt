@@ -14,8 +14,6 @@ mod text_words;
 mod warning_words;
 mod words;
 
-use book::counted::Count;
-use book::faults::BookFault;
 use book_words::WrongBook;
 use fill_words::WrongFills;
 use fills::fill_rows::Whose;
@@ -88,10 +86,10 @@ fn tell_sound(rt: &impl Print, text: &[u8], own: &[u8], common: &[u8]) -> io::Re
     if tell_fills(rt, own, Whose::Own)? || tell_fills(rt, common, Whose::Common)? {
         return Ok(());
     }
-    let read = book::read_book(text);
-    let Count::Given(n) = read.count else {
+    let Ok(read) = book::read_book(text) else {
         return Ok(());
     };
+    let n = read.count;
     let members = read.jobs.map(|job| job.key.member);
     let mut values = [[[0; 5]; 5]; 64];
     fills::values_for(own, common, members, n, &mut values);
@@ -100,8 +98,8 @@ fn tell_sound(rt: &impl Print, text: &[u8], own: &[u8], common: &[u8]) -> io::Re
 
 fn tell(rt: &impl Print, text: &[u8], own: &[u8], common: &[u8], all: bool) -> io::Result<()> {
     match book::faults::book_fault(text) {
-        BookFault::Sound => tell_sound(rt, text, own, common),
-        fault => {
+        None => tell_sound(rt, text, own, common),
+        Some(fault) => {
             if all && all_rows::row_of(fault).is_some() {
                 return all_rows::tell(rt, text);
             }

@@ -113,7 +113,6 @@ impl<'a> fmt::Display for WrongText<'a> {
                 ByteOf { text, at }
             ),
             TextFault::Return(at) => write!(f, "{}", LoneReturn(ByteOf { text, at })),
-            TextFault::Sound => Ok(()),
         }
     }
 }

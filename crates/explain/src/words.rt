@@ -2,7 +2,7 @@
 //
 // A field is shown as it lies in the book, and safely: a byte that is not printable by its number, and a long field by its first bytes.
 use csv_text::places;
-use kinds::letters::KindRead;
+use kinds::Kind;
 use std::fmt;
 
 // How many bytes of a field are shown.
@@ -100,7 +100,7 @@ impl<'a> RowOf<'a> {
     }
 
     // The kind that its third field is.
-    pub(crate) fn kind(self) -> KindRead {
+    pub(crate) fn kind(self) -> Option<Kind> {
         kinds::letters::kind_at(places::cell_of(self.text, self.row, 3))
     }
 

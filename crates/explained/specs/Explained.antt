@@ -9,7 +9,6 @@ use Rattle.book.specs.Values.{job_value, values}
 use Rattle.book.specs.faults.Faults.{BookLies}
 use Rattle.book.specs.faults.Told.{fault_number, fault_row}
 use Rattle.book.specs.declared.faults.BookFault.{BookFault}
-use Rattle.book.specs.declared.faults.BookFault.TheVariants as book_fault
 use Rattle.fills.specs.Says.{FillFor}
 use Rattle.fills.specs.faults.Faults.{FillLies}
 use Rattle.fills.specs.declared.fill_rows.Whose.TheVariants.{Own, Common}
@@ -29,7 +28,7 @@ use Rattle.explained.specs.Written.{JobAt, RowInBook}
 -- what a call for the lines of a job is told, by where the refusal lies
 pub record CallExplained (own common b : List ℕ) (place : ℕ) (before after : List ℕ) (t : CallTold) : Type 0 where
   -- 1 to 6: the number and the row of the book's fault
-  pub book : (f : BookFault) → BookLies b f → (f ≡ book_fault.Sound → ⊥) → t ≡ refused (fault_number f) (fault_row f)
+  pub book : (f : Option BookFault) → BookLies b f → (f ≡ None → ⊥) → t ≡ refused (fault_number f) (fault_row f)
   -- 8: one of the fill books has a fault
   pub fills : (js : Jobs) (f g : Option FillFault) → JobBook b js → FillLies Own own f → FillLies Common common g → (f ≡ None → g ≡ None → ⊥) → t ≡ refused 8 0
   -- 11 to 20: the one line of the job has the number of its fault
@@ -42,7 +41,7 @@ pub record Explained : Type 0 where
   -- the row of a job with i rows of it before it is, in a book in which the job's B row is row n, row n + i
   pub row : {s : List ℕ} {js : Jobs} (b : JobBook s js) {j : WrittenJob} {n : ℕ} → JobAt j n js → (i : ℕ) (row : Row) → StandsAt (rows_in (job_value j)) i row → RowInBook b.typed (n + i) row
   -- one place, of a book, of a fill book and of a job
-  pub one_book : {s : List ℕ} {f g : BookFault} → BookLies s f → BookLies s g → f ≡ g
+  pub one_book : {s : List ℕ} {f g : Option BookFault} → BookLies s f → BookLies s g → f ≡ g
   pub one_own : {s : List ℕ} {f g : Option FillFault} → FillLies Own s f → FillLies Own s g → f ≡ g
   pub one_common : {s : List ℕ} {f g : Option FillFault} → FillLies Common s f → FillLies Common s g → f ≡ g
   pub one_job : (fill : ℕ → ℕ → Coefficient) (job : Job) (f g : JobFault) → JobLies fill job f → JobLies fill job g → f ≡ g

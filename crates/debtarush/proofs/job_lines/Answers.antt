@@ -25,16 +25,16 @@ use Rattle.debtarush.proofs.Locating.{Held, held, refusal as book_refusal, job_a
 use Rattle.debtarush.proofs.job_lines.Goals as goal
 use Rattle.debtarush.proofs.job_lines.Goals.{then-place-eq0-via-then-place-eq0, then-place-eq0-via-else-place-eq0+then-n-place}
 
-pub returns-in-Refused : goal.returns-in-Refused
-returns-in-Refused c = no_book (book_refusal c.read_book-read.ensures c.in-Refused.is) refl refl
+pub returns-in-Err : goal.returns-in-Err
+returns-in-Err c = no_book (book_refusal c.in-Err.ensures) refl refl
 
 pub returns-then-not-gather : goal.returns-then-not-gather
-returns-then-not-gather c = no_fills (held c.read_book-read.ensures c.in-Given.is).book c.if-not-gather.ensures refl refl
+returns-then-not-gather c = no_fills (held c.in-Ok.ensures).book c.if-not-gather.ensures refl refl
 
 pub returns-then-place-eq0 : goal.returns-then-place-eq0
 returns-then-place-eq0 c =
-    let h = held c.read_book-read.ensures c.in-Given.is in
-    let none : (c.args.place ≡ 0) ⊎ (c.in-Given.n < c.args.place) = elim c.then-place-eq0.branch [ then-place-eq0-via-then-place-eq0 w ↦ inl w.if-place-eq0.true | then-place-eq0-via-else-place-eq0+then-n-place w ↦ inr w.if-n-place.true ] in
+    let h = held c.in-Ok.ensures in
+    let none : (c.args.place ≡ 0) ⊎ (c.in-Ok.read.count < c.args.place) = elim c.then-place-eq0.branch [ then-place-eq0-via-then-place-eq0 w ↦ inl w.if-place-eq0.true | then-place-eq0-via-else-place-eq0+then-n-place w ↦ inr w.if-n-place.true ] in
     no_place h.book c.if-not-gather.ensures.accepted (no_job_at h c.args.place none) refl refl
 
 -- what is told of the job that is there, by what writing its lines is
@@ -52,11 +52,11 @@ told_short (Err why) e i = ap (λ (x : CallRefusal). call_told (Err x)) i ∙ sy
 
 pub returns-in_err-write_block : goal.returns-in_err-write_block
 returns-in_err-write_block c =
-    delivered _ _ _ (held c.read_book-read.ensures c.in-Given.is) c.if-not-gather.ensures (omega arith) (omega arith) c.lines_of.ensures
+    delivered _ _ _ (held c.in-Ok.ensures) c.if-not-gather.ensures (omega arith) (omega arith) c.lines_of.ensures
     (told_short _ c.in_err-write_block.was c.from_residual.ensures.1) c.write_block.ensures
 
 pub returns : goal.returns
 unfolding buffer.copy_told
 returns c =
-    delivered _ _ _ (held c.read_book-read.ensures c.in-Given.is) c.if-not-gather.ensures (omega arith) (omega arith) c.lines_of.ensures
+    delivered _ _ _ (held c.in-Ok.ensures) c.if-not-gather.ensures (omega arith) (omega arith) c.lines_of.ensures
     (sym (ap (λ (w : Result ℕ TooShort). as_told (buffer.copy_told w)) c.in_ok-write_block.was)) c.write_block.ensures
