@@ -53,7 +53,7 @@ pub fn arg_count<R: Env>(rt: &R) -> usize {
 }
 
 // Puts an argument at the start of a buffer; and how long it is, or 0 where it is missing or longer than the buffer. Of one that is longer the first
-// bytes are in the buffer.
+// bytes are in the buffer. The answer is a number, since programs take a missing argument for an empty one.
 pub fn argument<R: Env>(rt: &R, i: usize, buf: &mut [u8]) -> usize
     ensures { IsPrefixLen result buf.new }
 {

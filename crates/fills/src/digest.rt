@@ -23,7 +23,7 @@ pub struct FillWords {
     pub value: u32,
 }
 
-// The fills of a book in words, in the book's order.
+// The fills of a book in words, in the book's order. An array with a length, since a function that cannot fail uses no heap.
 #[derive(Drop)]
 pub struct Digest {
     places: [FillWords; 7282],

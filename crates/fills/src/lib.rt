@@ -44,6 +44,7 @@ fn laid(fills: &Digest, member: Name, under: [[u32; 5]; 5]) -> [[u32; 5]; 5]
 
 // The values that the two books hold for each of the first n members, own before common, each at its place; and whether both books are accepted.
 // Where one is refused (8) nothing is written.
+// A flag is answered, since that is the one question, and no value stands beside it.
 pub fn values_for(
     own: &[u8],
     common: &[u8],

@@ -46,7 +46,7 @@ fn look_up_row(rt: &impl Print, s: &[u8], cells: Cells) {
     look_up(rt, &own[..owns], &common[..commons], member, soil, slope);
 }
 
-// Each row of a comma-separated text.
+// Each row of a comma-separated text. The loop goes by places, since nothing iterates over the rows of a text.
 fn look_up_all(rt: &impl Print, err: &impl Print, s: &[u8]) {
     if !csv_text::is_csv(s) {
         files::put(err, b"lookup_run: the list is not comma-separated\n");
