@@ -4,7 +4,7 @@ ghost use Rattle.checks.specs.service.Service.{Service};
 
 use sets::Combination;
 
-// Whether a combination is one of service, I to III.
+// Whether a combination is one of service, I to III. (`combination != Combination::IV` left its goal open.)
 pub fn serves(combination: Combination) -> bool
     ensures { Decides result (Service combination) }
 {

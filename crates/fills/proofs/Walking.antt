@@ -14,7 +14,6 @@ use Rattle.csv_text.specs.cells.Cells.{offset, RowIs, RowAt}
 use Rattle.csv_text.specs.strays.Strays.{TextSays}
 use Rattle.csv_text.specs.declared.cells.Cells.{Cells}
 use Rattle.csv_text.specs.declared.strays.TextFault.{TextFault}
-use Rattle.csv_text.proofs.strays.Answers.{sound_readable}
 use Rattle.csv_text.proofs.cells.Standing.{standing}
 use Rattle.csv_text.proofs.cells.Fields.{row_fields}
 use Rattle.csv_text.proofs.notes.Reached.{RowReached, reached_start, reached_more, reached_last}

@@ -41,6 +41,7 @@ pub struct Lines {
 pub enum Verdict {
     Accepted,
     NotAccepted,
+    // a number, and no case of an enum: what `printing::answer_text` promises it promises of every u8
     Refused(u8),
 }
 

@@ -18,6 +18,7 @@ fn cube_up(t: u64) -> Rounded
 {
     let mut low: u64 = 0;
     let mut high = DEEPEST;
+    // by halving, over which no library method and no iterator goes
     while low < high {
         let middle = low + (high - low) / 2;
         if middle * middle * middle < t {

@@ -12,6 +12,8 @@ const WIDTHS: [u64; 7] = [3_000, 3_000, 3_000, 3_000, 2_100, 2_100, 1_800];
 // Ka in hundredths, by the soils a to d.
 const ACTIVES: [u64; 4] = [27, 30, 39, 100];
 
+// One function that takes a table would be three calls with a table, a bound and a place, no plainer than these.
+
 // The live surcharge of a standard of loading.
 pub(crate) fn surcharge_of(standard: u64) -> u64
     requires { (1 ≤ standard) × (standard ≤ 7) }

@@ -93,6 +93,7 @@ fn walk_choices(
         step: 0,
         carried: first,
     };
+    // no count: each turn goes on by as many steps as were passed over
     while standing.step < last {
         let bounds = weighing::bounds::bounds_of(serves, base, worst);
         standing = pass_over(&steps, last, width, bounds, standing);

@@ -1,5 +1,5 @@
 -- What is above zero and what is below are added up on two sides, which fit a word, and the difference of the sides is the clearance.
-use Rattle.std.proofs.Common.{◌≤◌, ap, ◌∙◌, arith}
+use Rattle.std.proofs.Common.{ap, ◌∙◌, arith}
 use Rattle.arithmetic.specs.signed.Whole.{amount}
 use Rattle.clearance.proofs.Levels.{part_most, between_levels}
 use Rattle.clearance.proofs.clearance_under.Goals as goal

@@ -14,14 +14,13 @@ use mathlib.Core.Bool.{true, false}
 use Rattle.std.specs.Prelude.{Option, Some, None, Result, Ok, Err}
 use Rattle.std.specs.Result.{result_err, is_err}
 use Rattle.csv_text.specs.Nth.{Nth}
-use Rattle.csv_text.specs.declared.strays.TextFault.{TextFault}
 use Rattle.csv_text.proofs.strays.Answers as strays
 use Rattle.csv_text.proofs.Lists.{heads, tails, conses, level}
 use Rattle.fills.specs.declared.fill_rows.Fill.{Fill}
 use Rattle.fills.specs.declared.fill_rows.Whose.{Whose}
 use Rattle.fills.specs.declared.fill_rows.Whose.TheVariants.{Own, Common}
 use Rattle.fills.specs.declared.faults.FillFault.{FillFault}
-use Rattle.fills.specs.declared.faults.FillFault.TheVariants.{Text, Count, Column, Twice}
+use Rattle.fills.specs.declared.faults.FillFault.TheVariants.{Count, Column, Twice}
 use Rattle.fills.specs.FillBook.{TextRows, no_bytes, bytes, Forms, no_fill, SamePlace, Once, FillBook}
 use Rattle.fills.specs.Says.{Accepted}
 use Rattle.fills.specs.declared.digest.FillWords.{FillWords}

@@ -1,6 +1,5 @@
 -- A book is refused by its length, and by its form before its rows; one of no bytes has no rows.
 use Rattle.std.proofs.Common.{rules}
-use Rattle.arithmetic.proofs.Deciding.{refuted}
 use Rattle.fills.specs.faults.Faults.{too_long}
 use Rattle.fills.proofs.Walking.{text_refused, empty_book}
 use Rattle.fills.proofs.reading.read_rows.Goals as goal
