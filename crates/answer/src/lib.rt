@@ -9,7 +9,7 @@ pub mod river;
 ghost use Rattle.std.specs.Prelude.{◌≡◌};
 ghost use Rattle.sets.specs.Bounded.{Bounded};
 ghost use Rattle.sets.specs.Led.{Led};
-ghost use Rattle.earth.specs.coefficients.Coefficients.{fill_of};
+ghost use Rattle.earth.specs.coefficients.Lent.{fill_of};
 ghost use Rattle.checks.specs.Sized.{Sized};
 ghost use Rattle.kinds.specs.refusals.Refusals.{refusal_number};
 ghost use Rattle.answer.specs.Columns.{base_of};

@@ -9,7 +9,8 @@ use lib.ListN.{length, get_or}
 use lib.Seq.{get_or_at}
 use Rattle.jobs.specs.declared.Job.{Job}
 use Rattle.jobs.specs.Blank.{no_job}
-use Rattle.earth.specs.coefficients.Coefficients.{Coefficient, fill_of}
+use Rattle.earth.specs.coefficients.Coefficients.{Coefficient}
+use Rattle.earth.specs.coefficients.Lent.{fill_of}
 use Rattle.fills.specs.Says.{Accepted, FillFor}
 use Rattle.block.specs.declared.Block.{Block}
 use Rattle.block.specs.Block.{block_of, text_held}

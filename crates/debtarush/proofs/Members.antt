@@ -11,7 +11,7 @@ use Rattle.arithmetic.proofs.Cases.{by_cases}
 use Rattle.fields.specs.declared.names.Name.{Name}
 use Rattle.jobs.specs.declared.Job.{Job}
 use Rattle.jobs.specs.Blank.{no_job}
-use Rattle.earth.specs.coefficients.Coefficients.{fill_of}
+use Rattle.earth.specs.coefficients.Lent.{fill_of}
 use Rattle.fills.specs.Says.{FillFor}
 use Rattle.fills.specs.Values.{void_name, Gathered, ValuesGiven, given, refused}
 use Rattle.fills.proofs.Holding.{fill_held, gathered_long, gathered_at}

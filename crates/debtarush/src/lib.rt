@@ -9,7 +9,7 @@
 
 ghost use Rattle.std.specs.Prelude.{◌≡◌, ◌+◌, ◌≤◌, length};
 ghost use Rattle.block.specs.Block.{text_held};
-ghost use Rattle.earth.specs.coefficients.Coefficients.{fill_of};
+ghost use Rattle.earth.specs.coefficients.Lent.{fill_of};
 ghost use Rattle.debtarush.specs.steps.LinesIn.{LinesIn};
 ghost use Rattle.debtarush.specs.steps.Behind.{Behind};
 ghost use Rattle.debtarush.specs.steps.Tabled.{FillsGiven};

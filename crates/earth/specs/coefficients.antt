@@ -1,1 +1,2 @@
 pub mod Coefficients
+pub mod Lent

@@ -3,7 +3,7 @@
 // They come as an array of arrays, soil by slope, with a mark for the places at which nothing is held. A number that no fill book may
 // give is no coefficient, so that the rules' products fit a word whatever array comes.
 ghost use Rattle.std.specs.Prelude.{◌≡◌, ◌≤◌};
-ghost use Rattle.earth.specs.coefficients.Coefficients.{fill_of};
+ghost use Rattle.earth.specs.coefficients.Lent.{fill_of};
 
 // A place at which nothing is held.
 const BLANK: u32 = 0;

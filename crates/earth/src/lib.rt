@@ -9,7 +9,7 @@ mod thrust;
 
 ghost use Rattle.std.specs.Prelude.{◌≡◌, Err};
 ghost use Rattle.kinds.specs.refusals.Refusals.{refusal_number};
-ghost use Rattle.earth.specs.coefficients.Coefficients.{fill_of};
+ghost use Rattle.earth.specs.coefficients.Lent.{fill_of};
 ghost use Rattle.earth.specs.Earth.{backfill_in, refused};
 ghost use Rattle.earth.specs.EarthRow.{Pressed, earth_told};
 

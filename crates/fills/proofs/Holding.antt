@@ -10,7 +10,8 @@ use lib.Seq.{ext_get_or, get_or-set_same, get_or-set_other}
 use Rattle.arithmetic.proofs.Cases.{impossible, by_cases}
 use Rattle.csv_text.specs.rfc4180.Rfc4180.{Cell}
 use Rattle.fields.specs.declared.names.Name.{Name}
-use Rattle.earth.specs.coefficients.Coefficients.{Coefficient, coefficient, fill_of}
+use Rattle.earth.specs.coefficients.Coefficients.{Coefficient}
+use Rattle.earth.specs.coefficients.Lent.{coefficient, fill_of}
 use Rattle.std.proofs.Common.{None, Some}
 use Rattle.earth.proofs.coefficients.Held.{coefficient_value, coefficient_blank}
 use Rattle.fills.specs.declared.fill_rows.Fill.{Fill}

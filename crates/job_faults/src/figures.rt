@@ -1,7 +1,7 @@
 // The figures that were compared where a job is refused (where a refusal lies), each read from the row that shows it, or worked out from it as its rule does.
 ghost use Rattle.std.specs.Prelude.{◌≡◌, ◌≤◌, ◌<◌, take};
 ghost use Rattle.kinds.specs.ranges.Range.{InColumns, Ranged};
-ghost use Rattle.earth.specs.coefficients.Coefficients.{fill_of};
+ghost use Rattle.earth.specs.coefficients.Lent.{fill_of};
 ghost use Rattle.scour.specs.Scour.{waterway_in};
 ghost use Rattle.loads.specs.LoadRows.{optionals};
 ghost use Rattle.answer.specs.Rules.{AllInRange};

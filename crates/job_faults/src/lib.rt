@@ -9,7 +9,7 @@ mod figures;
 mod rules;
 
 ghost use Rattle.std.specs.Prelude.{◌≡◌, ◌<◌, length};
-ghost use Rattle.earth.specs.coefficients.Coefficients.{fill_of};
+ghost use Rattle.earth.specs.coefficients.Lent.{fill_of};
 ghost use Rattle.answer.specs.Rules.{AllInRange};
 ghost use Rattle.job_faults.specs.First.{StandsAt};
 ghost use Rattle.job_faults.specs.JobRows.{rows_in};

@@ -8,7 +8,7 @@ ghost use Rattle.kinds.specs.ranges.Range.{Ranged};
 ghost use Rattle.kinds.specs.classes.Classes.{class_of, optional};
 ghost use Rattle.current.specs.Current.{shaft_in};
 ghost use Rattle.surcharge.specs.Surcharge.{abutment_in, NotAbove, TypeE};
-ghost use Rattle.earth.specs.coefficients.Coefficients.{fill_of};
+ghost use Rattle.earth.specs.coefficients.Lent.{fill_of};
 ghost use Rattle.earth.specs.Earth.{refused, backfill_in, Pushed};
 ghost use Rattle.jobs.specs.stages.Rows.{HasScour};
 ghost use Rattle.loads.specs.LoadRows.{NamesLive};

@@ -2,7 +2,7 @@
 // its own numbers, from its fill, from the water current or from its surcharge; or why its job is refused, with 11, 15, 17, 19 or 20.
 ghost use Rattle.std.specs.Prelude.{◌≡◌, false, ◌≤◌};
 ghost use Rattle.surcharge.specs.force.steps.Moderate.{Moderate};
-ghost use Rattle.earth.specs.coefficients.Coefficients.{fill_of};
+ghost use Rattle.earth.specs.coefficients.Lent.{fill_of};
 ghost use Rattle.arithmetic.specs.signed.Whole.{signed, amount};
 ghost use Rattle.kinds.specs.classes.Classes.{class_of};
 ghost use Rattle.loads.specs.forces.Exerts.{OwnForces, PushLoad, PartsLoad};

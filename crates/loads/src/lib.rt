@@ -8,7 +8,7 @@ mod forces;
 
 ghost use Rattle.std.specs.Prelude.{◌≡◌, ◌≤◌, take, length};
 ghost use Rattle.arithmetic.specs.decides.Decides.{Decides};
-ghost use Rattle.earth.specs.coefficients.Coefficients.{fill_of};
+ghost use Rattle.earth.specs.coefficients.Lent.{fill_of};
 ghost use Rattle.loads.specs.LoadRows.{AllNamed};
 ghost use Rattle.loads.specs.Answer.{LoadsAnswered};
 ghost use Rattle.loads.specs.steps.Asking.{row_count, lowest, AskedIs};

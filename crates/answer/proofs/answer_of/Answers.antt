@@ -2,7 +2,7 @@
 -- their trains are what `whole` asks.
 use Rattle.std.proofs.Common.{sym, subst}
 use Rattle.arithmetic.proofs.Deciding.{decided, refuted}
-use Rattle.earth.specs.coefficients.Coefficients.{fill_of}
+use Rattle.earth.specs.coefficients.Lent.{fill_of}
 use Rattle.earth.proofs.coefficients.Held.{fill_low}
 use Rattle.loads.specs.Answer.{LoadsAnswered}
 use Rattle.loads.proofs.Answering.{given_bounded, given_led}

@@ -8,7 +8,7 @@ use lib.ListN.{get_or}
 use Rattle.std.specs.Prelude.{Result, Ok, Err}
 use Rattle.std.specs.Result.{IsErrAnd}
 use Rattle.jobs.specs.declared.Job.{Job}
-use Rattle.earth.specs.coefficients.Coefficients.{fill_of}
+use Rattle.earth.specs.coefficients.Lent.{fill_of}
 use Rattle.block.specs.declared.Block.{Block}
 use Rattle.block.specs.Block.{text_held}
 use Rattle.buffer.specs.declared.TooShort.{TooShort}

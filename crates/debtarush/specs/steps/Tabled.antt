@@ -2,7 +2,7 @@
 use Rattle.std.specs.Prelude.{ℕ, ◌<◌, ◌≡◌, Bool, true, false, List, [], length, get_or}
 use Rattle.jobs.specs.declared.Job.{Job}
 use Rattle.jobs.specs.Blank.{no_job}
-use Rattle.earth.specs.coefficients.Coefficients.{fill_of}
+use Rattle.earth.specs.coefficients.Lent.{fill_of}
 use Rattle.fills.specs.Says.{Accepted, FillFor}
 
 -- a table of what is held for each of the first so many jobs

@@ -8,7 +8,8 @@ use lib.Dec.{leb}
 use lib.ListN.{get_or}
 use Rattle.arithmetic.specs.decides.Decides.{Decides}
 use Rattle.arithmetic.proofs.Tests.{decides_within}
-use Rattle.earth.specs.coefficients.Coefficients.{Coefficient, coefficient, fill_of}
+use Rattle.earth.specs.coefficients.Coefficients.{Coefficient}
+use Rattle.earth.specs.coefficients.Lent.{coefficient, fill_of}
 use Rattle.earth.specs.steps.LowCoefficient.{LowCoefficient}
 use Rattle.std.proofs.Common.{None, Some}
 

@@ -4,7 +4,8 @@ use Rattle.arithmetic.proofs.Deciding.{decided, refuted}
 use Rattle.kinds.specs.ranges.Range.{Ranged}
 use Rattle.kinds.specs.declared.Kind.TheVariants.{E}
 use Rattle.kinds.specs.declared.Numbers.{Numbers}
-use Rattle.earth.specs.coefficients.Coefficients.{Coefficient, fill_of}
+use Rattle.earth.specs.coefficients.Coefficients.{Coefficient}
+use Rattle.earth.specs.coefficients.Lent.{fill_of}
 use Rattle.earth.specs.steps.LowCoefficient.{LowCoefficient}
 use Rattle.earth.specs.Earth.{EarthTold, Pushed, blank, has_coefficient, backfill_in}
 use Rattle.earth.specs.EarthRow.{Pressed, out_of_range, in_range}

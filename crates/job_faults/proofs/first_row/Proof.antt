@@ -8,7 +8,8 @@ use Prim.Native.Nat.{ℕ, ◌-◌, ◌≤◌, ◌<◌}
 use lib.ListN.{length, take}
 use Rattle.arithmetic.proofs.Cases.{by_cases}
 use Rattle.arithmetic.proofs.Deciding.{decided, refuted}
-use Rattle.earth.specs.coefficients.Coefficients.{Coefficient, fill_of}
+use Rattle.earth.specs.coefficients.Coefficients.{Coefficient}
+use Rattle.earth.specs.coefficients.Lent.{fill_of}
 use Rattle.kinds.specs.classes.Classes.{class_of, optional}
 use Rattle.kinds.specs.declared.Row.{Row}
 use Rattle.jobs.specs.declared.Job.{Job}

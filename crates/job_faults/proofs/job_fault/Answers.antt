@@ -1,6 +1,6 @@
 -- Where a row shows the refusal that is asked, the refusal lies there, and behind the last there is none.
 use Rattle.std.proofs.Common.{arith}
-use Rattle.earth.specs.coefficients.Coefficients.{fill_of}
+use Rattle.earth.specs.coefficients.Lent.{fill_of}
 use Rattle.job_faults.proofs.Ordering.{before_it, number_low, past_range, lies, unrefused}
 use Rattle.job_faults.proofs.job_fault.Goals as goal
 

@@ -1,6 +1,6 @@
 -- No row shows a refusal before the one that is asked: these are so many, and the first has the number 11.
 use Rattle.std.proofs.Common.{◌+◌, ◌<◌}
-use Rattle.earth.specs.coefficients.Coefficients.{fill_of}
+use Rattle.earth.specs.coefficients.Lent.{fill_of}
 use Rattle.job_faults.specs.declared.rules.Rule.{Rule}
 use Rattle.job_faults.specs.rules.Shows.{rule_number}
 use Rattle.job_faults.specs.steps.Found.{Unshown}

@@ -1,6 +1,6 @@
 -- Each row is told one thing, and what was asked of the rows passed goes on with it.
 use Rattle.std.proofs.Common.{◌≡◌, ◌<◌, ℕ, length, ◌∙◌, ap, subst, arith, Result}
-use Rattle.earth.specs.coefficients.Coefficients.{fill_of}
+use Rattle.earth.specs.coefficients.Lent.{fill_of}
 use Rattle.kinds.specs.classes.Classes.{class_of, optional}
 use Rattle.kinds.specs.declared.refusals.JobRefusal.{JobRefusal}
 use Rattle.sets.specs.declared.Load.{Load}

@@ -1,6 +1,6 @@
 -- A row adds 0 or 1 to the optional ones, so they fit.
 use Rattle.std.proofs.Common.{◌≤◌}
-use Rattle.earth.specs.coefficients.Coefficients.{fill_of}
+use Rattle.earth.specs.coefficients.Lent.{fill_of}
 use Rattle.loads.proofs.Asking.{RowsAsked}
 use Rattle.loads.proofs.asked_of.Given as goal
 

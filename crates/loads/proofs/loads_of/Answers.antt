@@ -3,7 +3,8 @@ use Rattle.std.proofs.Common.{◌≡◌, ◌<◌, ◌∙◌, ap, subst, ℕ, Boo
 use Rattle.std.specs.Bool.{then_some}
 use Rattle.arithmetic.specs.decides.Decides.{Decides}
 use Rattle.arithmetic.proofs.Deciding.{decides_not, decides_below}
-use Rattle.earth.specs.coefficients.Coefficients.{Coefficient, fill_of}
+use Rattle.earth.specs.coefficients.Coefficients.{Coefficient}
+use Rattle.earth.specs.coefficients.Lent.{fill_of}
 use Rattle.kinds.specs.declared.Row.{Row}
 use Rattle.kinds.specs.declared.refusals.JobRefusal.{JobRefusal}
 use Rattle.kinds.specs.declared.refusals.JobRefusal.TheVariants.{TooManyOptional, NoTrain}

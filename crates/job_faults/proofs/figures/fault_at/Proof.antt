@@ -6,7 +6,8 @@ use Prim.Native.Nat.{ℕ}
 use Rattle.arithmetic.proofs.Cases.{impossible}
 use Rattle.kinds.specs.declared.Row.{Row}
 use Rattle.jobs.specs.declared.Job.{Job}
-use Rattle.earth.specs.coefficients.Coefficients.{Coefficient, fill_of}
+use Rattle.earth.specs.coefficients.Coefficients.{Coefficient}
+use Rattle.earth.specs.coefficients.Lent.{fill_of}
 use Rattle.job_faults.specs.declared.JobFault.{JobFault}
 use Rattle.job_faults.specs.declared.rules.Rule.{Rule}
 use Rattle.job_faults.specs.declared.rules.Rule.TheVariants as rules

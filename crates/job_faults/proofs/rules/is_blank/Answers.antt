@@ -9,7 +9,8 @@ use Rattle.kinds.specs.declared.Kind.TheVariants.{E}
 use Rattle.kinds.specs.ranges.Range.{Ranged}
 use Rattle.earth.specs.declared.EarthRefusal.{EarthRefusal}
 use Rattle.earth.specs.declared.EarthRefusal.TheVariants.{OutOfRange, NoCoefficient}
-use Rattle.earth.specs.coefficients.Coefficients.{Coefficient, fill_of}
+use Rattle.earth.specs.coefficients.Coefficients.{Coefficient}
+use Rattle.earth.specs.coefficients.Lent.{fill_of}
 use Rattle.earth.specs.Earth.{refused, backfill_in, Pushed}
 use Rattle.earth.specs.EarthRow.{Pressed, earth_told, out_of_range, in_range}
 use Rattle.job_faults.proofs.rules.Telling.{blank_told, blank_else}

@@ -1,7 +1,7 @@
 -- A row of the kind that a rule speaks of shows it as its test says, and a row of another kind does not.
 use Rattle.std.proofs.Common.{◌≡◌, true, rules}
 use Rattle.kinds.specs.declared.Kind.TheVariants.{C, E, W, G}
-use Rattle.earth.specs.coefficients.Coefficients.{fill_of}
+use Rattle.earth.specs.coefficients.Lent.{fill_of}
 use Rattle.job_faults.proofs.rules.Telling.{clearance_shows, blank_shows, blank_not, below_shows, below_not, above_shows, above_not, type_shows, type_not}
 use Rattle.job_faults.proofs.rules.shows.Goals as goal
 

@@ -5,7 +5,7 @@ use denote.Enum.Bare.{same_true, same_false}
 use Rattle.arithmetic.proofs.Deciding.{decided, refuted}
 use Rattle.kinds.specs.contracts.classes.Source.{the_type}
 use Rattle.kinds.specs.declared.classes.Source.TheVariants.{Own}
-use Rattle.earth.specs.coefficients.Coefficients.{fill_of}
+use Rattle.earth.specs.coefficients.Lent.{fill_of}
 use Rattle.earth.specs.EarthRow.{Pressed}
 use Rattle.earth.proofs.Bounds.{pressed_modest}
 use Rattle.earth.proofs.coefficients.Held.{fill_low}
