@@ -1,8 +1,8 @@
 // Where the refusal of a book lies (document 01, "Refusals of a book", 1 to 6; "where a refusal lies"): where the text stops being RFC 4180;
 // why a row has no form; which rule a row out of place breaks; the 65th job; the earlier B row with a key that is used again.
 //
-// What is told is stated of the book alone, and the number and row of it are those of the book's reading. The walk over the rows goes as
-// the reader's does, so that both stop at one row; what lies there is asked only then.
+// What is told is stated of the book alone, and the number and row of it are those of the book's reading: the walk over the rows is the
+// reader's own. What lies where it stopped is asked only then.
 ghost use Rattle.std.specs.Prelude.{◌≡◌, ◌≤◌, length, drop};
 ghost use Rattle.csv_text.specs.rfc4180.Rfc4180.{Readable};
 ghost use Rattle.book.specs.faults.Rules.{UsedAt};
