@@ -5,7 +5,7 @@
 use jobs::Job;
 use rows::refusals::Refusal;
 
-// The number of jobs and the jobs themselves.
+// The number of jobs and the jobs themselves, in an array: a call that could not fail still cannot, and what allocates can.
 #[derive(Clone, Copy)]
 pub struct Book {
     pub count: usize,

@@ -37,6 +37,7 @@ pub(crate) fn walk_rows(s: &[u8]) -> Stop
     let mut count: usize = 0;
     let mut row: usize = 1;
     let mut at: usize = 0;
+    // by no fixed step: each row begins where the one before it ends
     loop {
         let step = step::step_at(s, at, job);
         job = step.job;

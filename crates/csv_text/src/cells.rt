@@ -16,7 +16,8 @@ pub struct Place {
     pub to: usize,
 }
 
-// A row: how many fields it has, where the first ten stand, and where the next row starts.
+// A row: how many fields it has, where the first ten stand, and where the next row starts. The count may be above ten, so it is not that of the
+// places.
 #[derive(Clone, Copy)]
 pub struct Cells {
     pub count: usize,
@@ -71,6 +72,7 @@ pub fn cells_at(s: &[u8], start: usize) -> Cells
     let mut places = [Place { from: 0, to: 0 }; 10];
     let mut n: usize = 0;
     let mut at = start;
+    // by no fixed step: each field begins where the one before it ends
     loop {
         match crate::field::field_end(s, at) {
             Some(Ended::Comma(to)) => {

@@ -23,6 +23,7 @@ pub fn is_csv(s: &[u8]) -> bool
     ensures { Decides result (Readable s.now) }
 {
     let mut at: usize = 0;
+    // by no fixed step: each field begins where the one before it ends
     loop {
         match field::field_end(s, at) {
             Some(Ended::Comma(e)) => at = e + 1,

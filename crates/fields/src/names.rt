@@ -7,7 +7,7 @@ ghost use Rattle.arithmetic.specs.decides.Decides.{Decides};
 ghost use Rattle.fields.specs.names.Names.{no_name, Letter};
 ghost use Rattle.fields.specs.names.NameAt.{ContentNamed, NameAt};
 
-// A member or a job: its bytes, with zeros behind them.
+// A member or a job: its bytes, with zeros behind them, since a name is a value that can be copied.
 #[derive(Clone, Copy, PartialEq, Eq)]
 pub struct Name {
     pub len: usize,

@@ -80,6 +80,7 @@ fn fill<R: Read>(file: &mut R, buf: &mut [u8]) -> Result<usize, Unfinished>
     ensures end { IfOk result (λ n. n < length buf.new → IsAtEnd (R.remaining file.new)) }
 {
     let mut len = 0;
+    // by as many bytes as each read gives
     while len < buf.len() {
         match read_at(file, buf, len) {
             Ok(0) => return Ok(len),

@@ -20,6 +20,7 @@ fn walk(s: &[u8], whose: Whose, fills: &mut Digest) -> Result<(), FillFault>
 {
     let mut n: usize = 0;
     let mut at: usize = 0;
+    // by no fixed step: each row begins where the one before it ends
     'rows: loop {
         n += 1;
         let cells = csv_text::cells::cells_at(s, at);

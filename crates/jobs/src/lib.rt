@@ -20,7 +20,8 @@ use rows::keys::{Key, Keyed};
 use rows::refusals::Refusal;
 use stages::Stage;
 
-// A job as it stands: its key, and the numbers of its rows, blank where it has none.
+// A job as it stands: its key, and the numbers of its rows, blank where it has none. The load rows stand in an array, since what no caller
+// sees fail cannot allocate.
 #[derive(Clone, Copy)]
 pub struct Job {
     pub stage: Stage,
@@ -39,7 +40,7 @@ pub enum Took {
     Started,
 }
 
-// What became of a row, or why it is refused; and the job behind it.
+// What became of a row, or why it is refused; and the job behind it: 01 names this form, the next job beside an answer.
 #[derive(Clone, Copy)]
 pub struct Taken {
     pub answer: Result<Took, Refusal>,

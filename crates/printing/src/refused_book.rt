@@ -8,7 +8,7 @@ ghost use Rattle.printing.specs.refused_book.Text.{book_text};
 
 use block::Block;
 
-// The bytes of a refused book's one line.
+// The bytes of a refused book's one line. The text is promised of every number, and so a refusal is given by its number.
 pub fn book_line(number: u8, row: usize) -> Block
     ensures value { result ≡ block_of (book_text number row) }
     ensures whole { length (book_text number row) ≤ 2048 }

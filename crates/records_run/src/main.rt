@@ -95,6 +95,7 @@ fn run_all(rt: &impl Print, err: &impl Print, s: &[u8]) {
         return;
     }
     let mut at: usize = 0;
+    // nothing iterates over the rows of a text
     while at < s.len() {
         let cells = csv_text::cells::cells_at(s, at);
         run_row(rt, s, cells);

@@ -51,7 +51,7 @@ pub fn blank_row() -> Keyed
     Keyed { key, row }
 }
 
-// Whether two keys are one.
+// Whether two keys are one: by name, since what is promised of a job that takes a row speaks of this.
 pub fn same_key(a: Key, b: Key) -> bool
     ensures { Decides result (a ≡ b) }
 {
