@@ -27,7 +27,7 @@ fn print_lines(rt: &impl Print, err: &impl Print, book: &[u8]) {
 fn print_named(rt: &(impl Env + Files + Print), err: &impl Print, i: usize) {
     let mut name = [0u8; 4096];
     let mut text = [0u8; 65537];
-    let Some(got) = files::read_argument(rt, err, b"corpus", i, &mut text) else {
+    let Ok(got) = files::read_argument(rt, err, b"corpus", i, &mut text) else {
         return;
     };
     let len = files::argument(rt, i, &mut name);

@@ -26,7 +26,7 @@ fn print_named(
     common: &[u8],
 ) {
     let mut text = [0u8; 65537];
-    let Some(got) = files::read_argument(rt, err, b"corpus_fills", i, &mut text) else {
+    let Ok(got) = files::read_argument(rt, err, b"corpus_fills", i, &mut text) else {
         return;
     };
     let mut name = [0u8; 4096];
@@ -42,10 +42,10 @@ fn print_with(rt: &(impl Env + Files + Print), err: &impl Print, i: usize)
 {
     let mut own = [0u8; 65537];
     let mut common = [0u8; 65537];
-    let Some(owns) = files::read_argument(rt, err, b"corpus_fills", i, &mut own) else {
+    let Ok(owns) = files::read_argument(rt, err, b"corpus_fills", i, &mut own) else {
         return;
     };
-    let Some(commons) = files::read_argument(rt, err, b"corpus_fills", i + 1, &mut common) else {
+    let Ok(commons) = files::read_argument(rt, err, b"corpus_fills", i + 1, &mut common) else {
         return;
     };
     print_named(rt, err, i + 2, &own[..owns], &common[..commons]);

@@ -21,7 +21,7 @@ fn show(rt: &impl Print, text: &[u8]) -> io::Result<()> {
 fn show_book(rt: &(impl Env + Files + Print), err: &impl Print, i: usize) {
     let mut name = [0u8; 4096];
     let mut text = [0u8; 65537];
-    let Some(got) = files::read_argument(rt, err, b"count_books", i, &mut text) else {
+    let Ok(got) = files::read_argument(rt, err, b"count_books", i, &mut text) else {
         return;
     };
     let len = files::argument(rt, i, &mut name);

@@ -38,13 +38,12 @@ fn main(rt: HostRuntime) {
         return;
     }
     let mut own = [0u8; 65537];
-    let Some(owns) = files::read_argument_or(&rt, &err, b"explain_book", first, b"", &mut own)
-    else {
+    let Ok(owns) = files::read_argument_or(&rt, &err, b"explain_book", first, b"", &mut own) else {
         return;
     };
     let table2 = fills::table2_book::bytes();
     let mut common = [0u8; 65537];
-    let Some(commons) = files::read_argument_or(
+    let Ok(commons) = files::read_argument_or(
         &rt,
         &err,
         b"explain_book",

@@ -36,7 +36,7 @@ fn fills_named<'a>(
     if begins_with(rt, i, b'-') {
         return Some(other);
     }
-    let len = files::read_argument(rt, err, b"explain_run", i, text)?;
+    let len = files::read_argument(rt, err, b"explain_run", i, text).ok()?;
     Some(&text[..len])
 }
 
@@ -49,7 +49,7 @@ fn explain_named(rt: &(impl Env + Files + Print), err: &impl Print, i: usize)
     print_word(rt, i + 2, b" ");
     print_word(rt, i + 3, b"\n");
     let mut book = [0u8; 65537];
-    let Some(len) = files::read_argument(rt, err, b"explain_run", i + 1, &mut book) else {
+    let Ok(len) = files::read_argument(rt, err, b"explain_run", i + 1, &mut book) else {
         return;
     };
     let mut own = [0u8; 65537];

@@ -7,7 +7,7 @@
 // A file's name may be any bytes, but std opens a file by UTF-8 alone: a name that is not is told as one that cannot be opened.
 #![tactic(auto)]
 
-ghost use Rattle.std.specs.Prelude.{◌≡◌, ◌+◌, ◌<◌, ◌≤◌, length, take, drop, IfOk, OnErr, IfSome};
+ghost use Rattle.std.specs.Prelude.{◌≡◌, ◌+◌, ◌<◌, ◌≤◌, length, take, drop, IfOk, OnErr};
 ghost use Rattle.std.specs.Io.KnownBytes.{Consumes, Keeps, IsAtEnd};
 ghost use Rattle.files.specs.Counts.{IsPrefixLen, read_len};
 
@@ -149,12 +149,14 @@ fn open_named<R: Files>(rt: &R, name: &[u8]) -> io::Result<R::File> {
     }
 }
 
-// The bytes of the file so named.
-fn read_named<R: Files>(rt: &R, name: &[u8], text: &mut [u8; 65537]) -> io::Result<usize>
-    ensures { IfOk result (λ n. IsPrefixLen n text.new) }
+// The bytes of the file so named; of one that cannot be opened there are none.
+fn read_named<R: Files>(rt: &R, name: &[u8], text: &mut [u8; 65537]) -> Result<usize, Unfinished>
+    ensures { IsPrefixLen (read_len result) text.new }
 {
-    let mut file = open_named(rt, name)?;
-    fill(&mut file, text).map_err(|unfinished| unfinished.why)
+    match open_named(rt, name) {
+        Ok(mut file) => fill(&mut file, text),
+        Err(why) => Err(Unfinished { len: 0, why }),
+    }
 }
 
 // Why an argument did not come.
@@ -172,24 +174,23 @@ pub fn read_argument<R: Env + Files, P: Print>(
     program: &[u8],
     i: usize,
     text: &mut [u8; 65537],
-) -> Option<usize>
-    ensures { IfSome result (λ n. IsPrefixLen n text.new) }
+) -> Result<usize, Unfinished>
+    ensures { IsPrefixLen (read_len result) text.new }
 {
     let mut name = [0u8; 4096];
     let len = match rt.arg(i, &mut name) {
         Ok(len) => len,
         Err(why) => {
-            tell(err, program, &name, &missed(why));
-            return None;
+            let why = missed(why);
+            tell(err, program, &name, &why);
+            return Err(Unfinished { len: 0, why });
         }
     };
-    match read_named(rt, &name[..len], text) {
-        Ok(n) => Some(n),
-        Err(why) => {
-            tell(err, program, &name[..len], &why);
-            None
-        }
+    let read = read_named(rt, &name[..len], text);
+    if let Err(unfinished) = &read {
+        tell(err, program, &name[..len], &unfinished.why);
     }
+    read
 }
 
 // The bytes of the file that an argument names, or these, where there is no such argument.
@@ -200,14 +201,14 @@ pub fn read_argument_or<R: Env + Files, P: Print>(
     i: usize,
     other: &[u8],
     text: &mut [u8; 65537],
-) -> Option<usize>
+) -> Result<usize, Unfinished>
     requires { length other.now ≤ 65537 }
-    ensures { IfSome result (λ n. IsPrefixLen n text.new) }
+    ensures { IsPrefixLen (read_len result) text.new }
 {
     if i < arg_count(rt) {
         return read_argument(rt, err, program, i, text);
     }
     let len = other.len();
     text[..len].copy_from_slice(other);
-    Some(len)
+    Ok(len)
 }
