@@ -11,6 +11,7 @@ mod columns;
 mod fill_words;
 mod job_words;
 mod text_words;
+mod untiring;
 mod warning_words;
 mod words;
 
@@ -21,6 +22,7 @@ use job_faults::JobFault;
 use job_words::JobOf;
 use jobs::Job;
 use std::io;
+use untiring::Untiring;
 use words::{Grouped, RowOf};
 
 // What is held of fills for a job: the values of soils by slopes.
@@ -109,7 +111,7 @@ fn tell(rt: &impl Print, text: &[u8], own: &[u8], common: &[u8], all: bool) -> i
 }
 
 // A book, with the members' own fill book and the common one: where its refusal lies, or those of its jobs; with `all` every bad row of a book that
-// is RFC 4180. Where something cannot be written, nothing more is.
+// is RFC 4180. What cannot be written is left out, and what comes behind it is tried all the same.
 pub fn explain(rt: &impl Print, book: &[u8], own: &[u8], common: &[u8], all: bool) {
-    let _ = tell(rt, book, own, common, all);
+    let _ = tell(&Untiring(rt), book, own, common, all);
 }
