@@ -5,5 +5,5 @@ use Rattle.book.proofs.faults.book_fault.Goals as goal
 pub returns-then-book-gt-LONGEST : goal.returns-then-book-gt-LONGEST
 returns-then-book-gt-LONGEST c = too_long c.if-book-gt-LONGEST.true
 
-pub returns-in-Some : goal.returns-in-Some
-returns-in-Some c = text c.if-book-gt-LONGEST.false c.in-Some.ensures
+pub returns-then-not-is_csv : goal.returns-then-not-is_csv
+returns-then-not-is_csv c = text c.if-book-gt-LONGEST.false c.in-Some.ensures

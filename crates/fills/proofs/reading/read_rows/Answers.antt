@@ -10,5 +10,5 @@ returns-then-s-gt65536 c = too_long c.if-s-gt65536.true
 pub returns-then-is_empty : goal.returns-then-is_empty
 returns-then-is_empty c = empty_book _ (search rules) c.clear.ensures
 
-pub returns-in-Some : goal.returns-in-Some
-returns-in-Some c = text_refused c.if-s-gt65536.false c.in-Some.ensures
+pub returns-then-not-is_csv : goal.returns-then-not-is_csv
+returns-then-not-is_csv c = text_refused c.if-s-gt65536.false c.in-Some.ensures
