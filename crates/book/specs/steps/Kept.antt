@@ -1,4 +1,4 @@
--- What `read_rows` keeps of the jobs so far, beside their values: the last of them, and their keys.
+-- What `walk_rows` keeps of the jobs so far, beside their values: the last of them, and their keys.
 use Rattle.std.specs.Prelude.{List, [], ◌∷◌, ◌++◌}
 use Rattle.rows.specs.keys.Keyed.{no_row}
 use Rattle.rows.specs.declared.keys.Key.{Key}
